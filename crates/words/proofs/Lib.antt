@@ -1,0 +1,5 @@
+-- The laws of specs/, for this crate's proofs and for those of the crates above it.
+pub mod Choice
+pub mod Memory
+pub mod Slices
+pub mod Words
