@@ -2,9 +2,11 @@
 use mathlib.Core.Path.{_≡_, refl, sym, ap, _∙_}
 use mathlib.Core.Logic.{_⊎_}
 use mathlib.Core.List.{List}
-use Prim.Native.Nat.{ℕ, zero, suc, _+_, _-_, _*_, _/_, _%_, _^_, _≤_, _<_}
-use native.Mathlib.Nat.{mod-eq-of-lt, pow-succ', mul-comm, add-comm, mod-one, one-le-pow}
+use Prim.Native.Nat.{ℕ, zero, suc, _+_, _-_, _*_, _/_, _%_, _^_, _≤_, _<_, min}
+use native.Mathlib.Numerals.{add-one}
+use native.Mathlib.Nat.{div-div-eq-div-mul, pow-suc, mod-eq-of-lt, pow-succ', mul-comm, add-comm, mod-one, one-le-pow}
 use native.Mathlib.Omega.{arith}
+use native.Mathlib.Decide.{decLt}
 use lib.Arith.{mod-mul, digits-lt}
 use lib.Dec.{lit<}
 use lib.ListN.{length, take, drop, List·getD-eq-default}
@@ -67,3 +69,19 @@ pub leAt-part :
 leAt-part n k off xs at fits =
     leAt-same n (mem (take k (drop off xs))) (mem xs) at (off + at)
     (λ j h. mem-part k off xs (at + j) (omega arith) ∙ ap (mem xs) (omega arith))
+
+-- a place past the end may as well be the end
+pub leAt-end : (n : ℕ) (xs : List ℕ) (at : ℕ) {p : ℕ} → p ≡ min at (length xs) → leAt n (mem xs) p ≡ leAt n (mem xs) at
+leAt-end n xs at {p} e = go (decLt at (length xs))
+  where
+    go : Dec (at < length xs) → leAt n (mem xs) p ≡ leAt n (mem xs) at
+    go (yes h) = ap (leAt n (mem xs)) (omega arith)
+    go (no h) = leAt-past n xs p (omega arith) ∙ sym (leAt-past n xs at (omega arith))
+
+-- the bytes of v, one after the other, by division
+pub byte-is : (v k w : ℕ) → w ≡ v / 256 ^ k → w % 256 ≡ byteOf v k
+unfolding byteOf
+byte-is v k w e = rw e
+
+pub byte-next : (v k w : ℕ) → w ≡ v / 256 ^ k → w / 256 ≡ v / 256 ^ (k + 1)
+byte-next v k w e = rw (e, div-div-eq-div-mul v (256 ^ k) 256, add-one k, pow-suc 256 k)

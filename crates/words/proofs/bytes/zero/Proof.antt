@@ -1,0 +1,38 @@
+use Rattle.words.proofs.Slices.{patch-past, patch-room}
+use denote.Ref.{now}
+use native.Mathlib.Omega.{arith}
+use mathlib.Core.Path.{_∙_, sym}
+use borrow.Author.Needs.{needs}
+use Rattle.words.proofs.bytes.zero.Statement.{statement}
+use Rattle.words.proofs.bytes.zero.Tie as tie
+use Rattle.words.proofs.bytes.zero.Reads as reads
+use Rattle.words.proofs.bytes.zero.Lts as lts
+use Rattle.words.proofs.bytes.smaller.Reads as smaller-reads
+use Rattle.words.proofs.bytes.zero_part.Reads as zero-part-reads
+
+returns : tie.Need-returns
+returns c =
+    let a = c .before .before .args in
+    sym (patch-past (now (a .s)) (a .at) (a .n) (λ _. 0) (omega arith))
+
+sub-smaller : tie.Need-sub-smaller
+sub-smaller c = search needs
+
+smaller-requires : tie.Need-smaller-requires
+smaller-requires c κs = search needs
+
+zero-part-requires : tie.Need-zero-part-requires
+zero-part-requires c κs = search needs
+
+same-length : tie.Need-same-length
+same-length c = search needs
+
+returns-2 : tie.Need-returns-2
+returns-2 c =
+    let a = c .before .before .before .before .before .before .before .args in
+    c .before .before .zero-part .ensures ∙ patch-room (now (a .s)) (a .at) (a .n) _ (λ _. 0) (omega arith) (c .before .before .before .before .smaller .ensures)
+
+pub zero-spec : {M : Type 1} → statement M
+zero-spec =
+    tie.close
+    (tie.spec returns sub-smaller smaller-requires zero-part-requires same-length returns-2)
