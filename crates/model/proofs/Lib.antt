@@ -1,0 +1,12 @@
+-- The laws of specs/, for the crates above.
+pub mod Example
+pub mod Extra
+pub mod Scope
+pub mod Frame
+pub mod Agree
+pub mod Orders
+pub mod Longer
+pub mod OrderFree
+pub mod Laid
+pub mod Files
+pub mod ExampleBound

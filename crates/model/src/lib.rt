@@ -1,0 +1,1 @@
+// What binding a set means, as definitions (specs/) and laws (proofs/). It has no code.
