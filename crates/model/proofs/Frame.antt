@@ -9,8 +9,7 @@ use Rattle.model.specs.Objects.{Entry, fixed, symbol, copy, pass, Obj, O
 use Rattle.model.specs.Scope.{resolveCopy}
 use Rattle.model.specs.Relocation.{addWord, addWords, copied, effect, effects, relocate}
 use Rattle.model.specs.Sound.{InsideCopy, Inside, Sound}
-use Rattle.words.proofs.Memory.{Out, write-out}
-use Rattle.model.proofs.Extra.{out-part, out-empty}
+use Rattle.words.proofs.Memory.{Out, out-part, out-empty, write-out}
 
 -- the arena offset lies outside the object's span
 abbrev pub OutSpan : Obj → ℕ → Type 0

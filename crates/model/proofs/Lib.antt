@@ -1,6 +1,5 @@
 -- The laws of specs/, for the crates above.
 pub mod Example
-pub mod Extra
 pub mod Scope
 pub mod Frame
 pub mod Agree

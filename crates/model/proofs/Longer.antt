@@ -24,7 +24,7 @@ use Rattle.model.specs.Longer.{
   copy-of,
   Longer,
 }
-use Rattle.words.proofs.Memory.{write-out, write-both, write-off, in-or-out}
+use Rattle.words.proofs.Memory.{out-empty, write-out, write-both, write-off, in-or-out}
 use Rattle.model.proofs.Scope.{
   bound-where,
   obj-longer,
@@ -35,7 +35,6 @@ use Rattle.model.proofs.Scope.{
   resolveCopy-range,
   ProgramOrLibrary,
 }
-use Rattle.model.proofs.Extra.{out-empty}
 use Rattle.model.proofs.Frame.{words-frame}
 use Rattle.model.proofs.Agree.{Agree, Step, words-same, step-fixed, step-symbol, step-excepted, step-pass}
 use Rattle.model.proofs.Orders.{

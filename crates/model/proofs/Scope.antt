@@ -4,12 +4,16 @@ use mathlib.Core.Logic.{_⊎_, inl, inr, ⊎-elim, _≢_}
 use mathlib.Core.List.{List, [], _∷_, _++_}
 use Prim.Native.Nat.{ℕ, zero, suc, _+_, _≤_, _<_}
 use native.Mathlib.Omega.{arith}
-use lib.ListN.{length, length-append, List·getD-append}
+use lib.ListN.{length, getD, length-append, List·getD-append}
 use Rattle.model.specs.Symbols.{Name, Sym, Found, none, hit, Answer, absent, answer}
 use Rattle.model.specs.Objects.{Obj, Objs, all, count, obj}
 use Rattle.model.specs.Scope.{answerOf, orElse, scan, hostAnswer, ownAnswer, resolve, resolveCopy}
 use Rattle.model.specs.Longer.{longer, HostOrNowhere, nowhere, to-host}
-use Rattle.model.proofs.Extra.{getD-last}
+
+-- the last element of a list
+getD-last : {A : Type 0} (l : List A) (x d : A) → getD (l ++ (x ∷ [])) (length l) d ≡ x
+getD-last [] x d = refl
+getD-last (y ∷ l) x d = getD-last l x d
 
 -- an answer of the program or a library
 abbrev pub ProgramOrLibrary : Answer → Type 0

@@ -21,6 +21,15 @@ in-or-out at n i = go (decLe at i) (decLt i (at + n))
     go (yes a) (no b) = inr (inr (omega arith))
     go (no a) b = inr (inl (omega arith))
 
+-- outside a range, outside each part of it
+pub out-part : (at n p k : ℕ) → p + k ≤ n → (i : ℕ) → Out at n i → Out (at + p) k i
+out-part at n p k l i (inl h) = inl (omega arith)
+out-part at n p k l i (inr h) = inr (omega arith)
+
+-- every offset is outside an empty range
+pub out-empty : (at n i : ℕ) → ¬ (0 < n) → Out at n i
+out-empty at n i z = ⊎-elim (λ w. inl (absurd (omega arith))) (λ w. w) (in-or-out at n i)
+
 module _ (m : Mem) (at n : ℕ) (f : ℕ → ℕ) (i : ℕ) where
   pub write-in : In at n i → write m at n f i ≡ f (i - at)
   unfolding write
@@ -72,7 +81,7 @@ write-cong m m′ at n f f′ same e = fun-ext (λ i. go i (in-or-out at n i))
 
 -- a write of no byte
 pub write-none : (m : Mem) (at : ℕ) (f : ℕ → ℕ) → write m at 0 f ≡ m
-write-none m at f = fun-ext (λ i. write-out m at 0 f i (⊎-elim (λ w. inl (absurd (omega arith))) (λ w. w) (in-or-out at 0 i)))
+write-none m at f = fun-ext (λ i. write-out m at 0 f i (out-empty at 0 i (λ h. omega arith)))
 
 -- writes to ranges that do not meet, in either order
 pub write-comm :

@@ -1,0 +1,2 @@
+// Reading one object: port of elf/* and objects/object_data/*. It knows nothing of sets.
+pub mod program_header;
