@@ -9,7 +9,8 @@ use Rattle.words.specs.Memory.{mem, tab}
 use Rattle.model.specs.Objects.{Objs, obj}
 use Rattle.model.specs.Scope.{answerOf, scan, resolveCopy}
 use Rattle.model.specs.Relocation.{bound}
-use Rattle.model.specs.Sound.{times, Order, Inside, Sound}
+use Rattle.model.specs.Order.{times}
+use Rattle.model.specs.Sound.{Order, Inside, Sound}
 use Rattle.model.specs.Longer.{NotCopy, OnlyProgramCopies, Kept}
 use Rattle.model.specs.Layout.{Fits, layout, objsOf}
 use Rattle.model.proofs.Laid.{objs-apart}

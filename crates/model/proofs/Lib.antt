@@ -9,3 +9,7 @@ pub mod OrderFree
 pub mod Laid
 pub mod Files
 pub mod ExampleBound
+pub mod OrderLaws
+pub mod OrderSame
+pub mod OrderStack
+pub mod OrderUses

@@ -10,7 +10,8 @@ use Rattle.model.specs.Symbols.{Name, Answer, absent, answer}
 use Rattle.model.specs.Objects.{Entry, fixed, symbol, copy, pass, Obj, Objs, all, count, obj, InSpan}
 use Rattle.model.specs.Scope.{resolve, resolveCopy}
 use Rattle.model.specs.Relocation.{addWords, copied, effect, relocate, run, place, placed, bound}
-use Rattle.model.specs.Sound.{times, InsideCopy, Sound}
+use Rattle.model.specs.Order.{times}
+use Rattle.model.specs.Sound.{InsideCopy, Sound}
 use Rattle.model.specs.Longer.{
   longer,
   NotCopy,

@@ -11,7 +11,8 @@ use borrow.Author.Tests.{eqb-true, eqb-false, eq-eqb}
 use Rattle.words.specs.Memory.{Mem}
 use Rattle.model.specs.Objects.{Entry, fixed, symbol, copy, pass, Obj, Objs, count, obj, InSpan}
 use Rattle.model.specs.Relocation.{addWords, relocate, run, place}
-use Rattle.model.specs.Sound.{times, Sound}
+use Rattle.model.specs.Order.{times}
+use Rattle.model.specs.Sound.{Sound}
 use Rattle.model.specs.Longer.{NotCopy}
 use Rattle.words.specs.Choice.{pick}
 use Rattle.model.proofs.Frame.{OutSpan, relocate-frame}

@@ -2,6 +2,8 @@ pub mod Symbols
 pub mod Objects
 pub mod Scope
 pub mod Relocation
+pub mod Order
+pub mod EventStack
 pub mod Sound
 pub mod Longer
 pub mod Layout

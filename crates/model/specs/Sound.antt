@@ -1,27 +1,15 @@
 -- What holds of a bound set: document 01, "Order" (each library once, the program last) and "Refused, in checking order" (what 17 and
 -- 18 leave). Only what the laws use is said here; a set that is bound has more. Assumes nothing.
-use mathlib.Core.Path.{_≡_}
-use mathlib.Core.List.{List, [], _∷_, _++_, List·Memᴰ}
-use Prim.Native.Nat.{ℕ, suc, _+_, _≤_, _<_, min}
-use lib.Dec.{eqb}
-use Rattle.words.specs.Choice.{pick}
+use mathlib.Core.List.{List, List·Memᴰ}
+use Prim.Native.Nat.{ℕ, _+_, _≤_, _<_, min}
 use Rattle.model.specs.Symbols.{Answer, absent, answer}
 use Rattle.model.specs.Objects.{Entry, fixed, symbol, copy, pass, Objs, count, obj}
 use Rattle.model.specs.Scope.{resolveCopy}
+use Rattle.model.specs.Order.{OnceEach}
 
--- how often a list has the number `k`
-abbrev pub times : ℕ → List ℕ → ℕ
-times k [] = 0
-times k (j ∷ js) = pick (eqb j k) (suc (times k js)) (times k js)
-
--- what any binding order is: each library once, then the program, and nothing else
-pub record Order (S : Objs) (order : List ℕ) : Type 0 where
-  -- the libraries
-  pub front : List ℕ
-  pub split : order ≡ front ++ (1 ∷ [])
-  -- nothing else, and each once
-  pub only : (j : ℕ) → 0 < times j front → (2 ≤ j) × (j < count S)
-  pub once : (j : ℕ) → 2 ≤ j → j < count S → times j front ≡ 1
+-- what any binding order of the set is: each library once, then the program, and nothing else
+abbrev pub Order : Objs → List ℕ → Type 0
+Order S order = OnceEach (count S) order
 
 -- refusals 17 and 18 of a COPY: the bytes written lie in the entry's object `k`, those read in the object that answered, if there are any
 abbrev pub InsideCopy : Objs → ℕ → ℕ → ℕ → Answer → Type 0

@@ -1,0 +1,4 @@
+-- What the proofs of this crate rest on, for them and for the crates above.
+pub mod VisitSteps
+pub mod ArrangeSteps
+pub mod ArrangeUses

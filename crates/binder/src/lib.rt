@@ -1,0 +1,2 @@
+// Ordering the objects of a set, and binding them.
+pub mod order;
