@@ -1,2 +1,5 @@
 pub mod Refusal
 pub mod TableBytes
+pub mod DynamicArray
+pub mod DynamicFields
+pub mod FieldSteps
