@@ -3,3 +3,4 @@ pub mod TableBytes
 pub mod DynamicArray
 pub mod DynamicFields
 pub mod FieldSteps
+pub mod Entries

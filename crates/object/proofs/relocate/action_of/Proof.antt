@@ -1,0 +1,31 @@
+-- `object::relocate::action_of` meets its contract: each arm is the definition at its type.
+-- Assumes nothing.
+use borrow.Author.Tests.{ne-eqb}
+use Rattle.object.specs.Entries.{actionOf}
+use Rattle.object.proofs.relocate.action_of.Statement.{statement}
+use Rattle.object.proofs.relocate.action_of.Tie as tie
+
+returns-7 : tie.Need-returns-7
+unfolding actionOf
+returns-7 c =
+    simp (
+      ne-eqb _ _ (c .match .rest .1),
+      ne-eqb _ _ (c .match .rest .0 .1),
+      ne-eqb _ _ (c .match .rest .0 .0 .1),
+      ne-eqb _ _ (c .match .rest .0 .0 .0 .1),
+      ne-eqb _ _ (c .match .rest .0 .0 .0 .0 .1),
+      ne-eqb _ _ (c .match .rest .0 .0 .0 .0 .0 .1),
+    )
+
+pub action-of-spec : {M : Type 1} → statement M
+unfolding actionOf
+action-of-spec =
+    tie.close
+    (tie.spec
+    (λ c. simp (c .match .keys1))
+    (λ c. simp (c .match .keys2))
+    (λ c. simp (c .match .keys3))
+    (λ c. simp (c .match .keys4))
+    (λ c. simp (c .match .keys5))
+    (λ c. simp (c .match .keys6))
+    returns-7)

@@ -1,0 +1,96 @@
+-- Relocation entries. System V gABI, "Relocation" (Elf64_Rela: r_offset, r_info, r_addend; ELF64_R_SYM, ELF64_R_TYPE; Elf64_Relr);
+-- x86-64 psABI, "Relocation Types". Document 01, "Relocated bytes and report". Assumes nothing.
+use mathlib.Core.Bool.{Bool}
+use mathlib.Core.List.{List, [], _∷_, _++_}
+use Prim.Native.Nat.{ℕ, zero, suc, _+_, _*_, _/_, _%_, _^_}
+use lib.Dec.{eqb}
+use Rattle.words.specs.Choice.{pick}
+use Rattle.words.specs.Memory.{mem}
+use Rattle.words.specs.Words.{leAt}
+use Rattle.object.specs.declared.relocate.Rela.{Rela}
+use Rattle.object.specs.declared.relocate.Relr.{Relr}
+use Rattle.object.specs.declared.relocate.Relr.the-variants.{Address, Bitmap}
+use Rattle.object.specs.declared.relocate.Action.{Action}
+use Rattle.object.specs.declared.relocate.Action.the-variants.{Ignored, Passed, Relative, Symbolic, Copy, Irelative}
+
+-- ---- RELA and PLT
+
+-- entry `i` of the table at `table`: r_offset, the low and the high 32 bits of r_info (type and symbol), r_addend
+unfoldable pub relaAt : List ℕ → ℕ → ℕ → Rela
+relaAt image table i =
+    record {
+      place = leAt 8 (mem image) (table + 24 * i);
+      kind = leAt 4 (mem image) (table + (24 * i + 8));
+      symbol = leAt 4 (mem image) (table + (24 * i + 12));
+      addend = leAt 8 (mem image) (table + (24 * i + 16));
+    }
+
+-- `n` entries from entry `i` on
+unfoldable pub relasFrom : List ℕ → ℕ → ℕ → ℕ → List Rela
+relasFrom image table i zero = []
+relasFrom image table i (suc n) = relaAt image table i ∷ relasFrom image table (i + 1) n
+
+-- "Types: 8 writes base + addend; 6 and 7 write the address or 0, addend unused; 5 copies ..; the rest are passed over"; type 0 gets no
+-- report word, and type 37 is refused
+unfoldable pub actionOf : ℕ → Action
+actionOf kind =
+    pick (eqb kind 0) Ignored
+    (pick (eqb kind 5) Copy
+    (pick (eqb kind 6) Symbolic
+    (pick (eqb kind 7) Symbolic
+    (pick (eqb kind 8) Relative
+    (pick (eqb kind 37) Irelative Passed)))))
+
+-- ---- RELR
+
+-- entry `i` of the table at `table`
+abbrev pub relrAt : List ℕ → ℕ → ℕ → ℕ
+relrAt image table i = leAt 8 (mem image) (table + 8 * i)
+
+unfoldable pub relrsFrom : List ℕ → ℕ → ℕ → ℕ → List ℕ
+relrsFrom image table i zero = []
+relrsFrom image table i (suc n) = relrAt image table i ∷ relrsFrom image table (i + 1) n
+
+-- "an even entry names a word", an odd one has a bit for each of 63 words
+unfoldable pub relrOf : ℕ → Relr
+relrOf entry = pick (eqb (entry % 2) 0) (Address entry) (Bitmap (entry / 2))
+
+-- where the next bitmap starts; none before any address
+pub data Location : Type 0 where
+  none : Location
+  word : ℕ → Location
+
+-- a word that gains base: its place, or none, "a RELR bit set before any address"
+pub data Word : Type 0 where
+  place : ℕ → Word
+  nowhere : Word
+
+-- the word `k` words after the location
+abbrev pub wordAfter : Location → ℕ → Word
+wordAfter none k = nowhere
+wordAfter (word p) k = place (p + 8 * k)
+
+-- an odd entry "covers the 63 words from location, which then moves past them"
+abbrev pub moved : Location → Location
+moved none = none
+moved (word p) = word (p + 8 * 63)
+
+-- the words of the bits that are set, of `n` bits from bit `k` on
+unfoldable pub bitWords : Location → ℕ → ℕ → ℕ → List Word
+bitWords location bitmap k zero = []
+bitWords location bitmap k (suc n) =
+    pick (eqb (bitmap / 2 ^ k % 2) 1) (wordAfter location k ∷ bitWords location bitmap (k + 1) n) (bitWords location bitmap (k + 1) n)
+
+-- the words that an entry names, and the location after it: "location becomes the word after it"
+abbrev pub entryWords : Location → Relr → List Word
+entryWords location (Address p) = place p ∷ []
+entryWords location (Bitmap bits) = bitWords location bits 0 63
+
+abbrev pub nextLocation : Location → Relr → Location
+nextLocation location (Address p) = word (p + 8)
+nextLocation location (Bitmap bits) = moved location
+
+-- the words that the entries name, in order
+unfoldable pub relrWords : Location → List ℕ → List Word
+relrWords location [] = []
+relrWords location (e ∷ es) = entryWords location (relrOf e) ++ relrWords (nextLocation location (relrOf e)) es
