@@ -71,7 +71,6 @@ pub left-none : (whole : List ℕ) (n : Needs) → length (n .list) ≡ 64 → n
 left-none whole n l z =
     record { room = l; most = omega arith; count = omega arith; list = λ h. rw z }
 
-
 -- a need takes the next place, or past 64 is only counted
 left-one :
     (whole : List ℕ) (n : Needs) (v : ℕ) (left : List ℕ) → Left whole n (v ∷ left) → Left whole (needStep n 1 v) left

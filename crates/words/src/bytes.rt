@@ -31,10 +31,17 @@ fn word32(a: u8, b: u8, c: u8, d: u8) -> u32
     (a as u32) + 256 * (b as u32) + 65536 * (c as u32) + 16777216 * (d as u32)
 }
 
-fn word64(a: u32, b: u32) -> u64
-    ensures { λ r. ⌜ r ≡ a + 4294967296 * b ⌝ }
+fn word64(a: u8, b: u8, c: u8, d: u8, e: u8, f: u8, g: u8, h: u8) -> u64
+    ensures { λ r. ⌜ r ≡ a + 256 * b + 65536 * c + 16777216 * d + 4294967296 * e + 1099511627776 * f + 281474976710656 * g + 72057594037927936 * h ⌝ }
 {
-    (a as u64) + 4294967296 * (b as u64)
+    (a as u64)
+        + 256 * (b as u64)
+        + 65536 * (c as u64)
+        + 16777216 * (d as u64)
+        + 4294967296 * (e as u64)
+        + 1099511627776 * (f as u64)
+        + 281474976710656 * (g as u64)
+        + 72057594037927936 * (h as u64)
 }
 
 // The number of two bytes at `at`.
@@ -76,24 +83,26 @@ pub fn u64_at(s: &[u8], at: usize) -> u64
     if 8 <= n {
         if at <= n - 8 {
             return word64(
-                word32(s[at + 0], s[at + 1], s[at + 2], s[at + 3]),
-                word32(s[at + 4], s[at + 5], s[at + 6], s[at + 7]),
+                s[at + 0],
+                s[at + 1],
+                s[at + 2],
+                s[at + 3],
+                s[at + 4],
+                s[at + 5],
+                s[at + 6],
+                s[at + 7],
             );
         }
     }
     word64(
-        word32(
-            byte_at(s, at, 0),
-            byte_at(s, at, 1),
-            byte_at(s, at, 2),
-            byte_at(s, at, 3),
-        ),
-        word32(
-            byte_at(s, at, 4),
-            byte_at(s, at, 5),
-            byte_at(s, at, 6),
-            byte_at(s, at, 7),
-        ),
+        byte_at(s, at, 0),
+        byte_at(s, at, 1),
+        byte_at(s, at, 2),
+        byte_at(s, at, 3),
+        byte_at(s, at, 4),
+        byte_at(s, at, 5),
+        byte_at(s, at, 6),
+        byte_at(s, at, 7),
     )
 }
 

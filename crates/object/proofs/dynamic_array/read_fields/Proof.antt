@@ -73,13 +73,12 @@ loop-again : tie.Need-loop-again Inv-loop μ-loop
 loop-again c =
     let a = c .before .before .before .before .before .before .before .before .before .args in
     let l = c .before .before .before .before .before .loop in
-    let m = now (a .image) in
-    (
+    let m = now (a .image) in (
       omega arith,
       rw (c .step .ensures) (ended-step (l .n) _ _ ∙ l .inv .1),
       l .inv .2
-      ∙ rest-more m (l .i) (l .left) (omega arith) (λ z. c .before .before .if1 .left (c .before .before .before .u64-at .ensures ∙ z)) (l .n)
-      ∙ ap (rest m (l .i + 16) (l .left - 1)) (rw (← c .before .before .before .u64-at .ensures, ← c .before .u64-at2 .ensures) (sym (c .step .ensures))),
+          ∙ rest-more m (l .i) (l .left) (omega arith) (λ z. c .before .before .if1 .left (c .before .before .before .u64-at .ensures ∙ z)) (l .n)
+          ∙ ap (rest m (l .i + 16) (l .left - 1)) (rw (← c .before .before .before .u64-at .ensures, ← c .before .u64-at2 .ensures) (sym (c .step .ensures))),
     )
 
 returns-2 : tie.Need-returns-2 Inv-loop μ-loop

@@ -63,12 +63,11 @@ loop-again : tie.Need-loop-again Inv-loop μ-loop
 loop-again c =
     let a = c .before .before .before .before .before .before .before .before .args in
     let l = c .before .before .before .before .before .loop in
-    let m = now (a .image) in
-    (
+    let m = now (a .image) in (
       omega arith,
       left-step (needsOf m (a .at)) (l .n) _ (itemAt m (l .i)) (itemsIn (l .left - 1) m (l .i + 16))
-      (rw (items-more m (l .i) (l .left) (omega arith) (λ z. c .before .before .if1 .left (c .before .before .before .u64-at .ensures ∙ z))) at (l .inv .1))
-      (rw (← c .before .before .before .u64-at .ensures, ← c .before .u64-at2 .ensures) (c .with-need .ensures)),
+          (rw (items-more m (l .i) (l .left) (omega arith) (λ z. c .before .before .if1 .left (c .before .before .before .u64-at .ensures ∙ z))) at (l .inv .1))
+          (rw (← c .before .before .before .u64-at .ensures, ← c .before .u64-at2 .ensures) (c .with-need .ensures)),
     )
 
 returns-2 : tie.Need-returns-2 Inv-loop μ-loop

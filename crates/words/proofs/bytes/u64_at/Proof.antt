@@ -12,14 +12,10 @@ u64-at-spec =
     tie.close
     (tie.spec
     (λ c. search needs) (λ c. search needs) (λ c. search needs) (λ c. search needs) (λ c. search needs) (λ c. search needs) (λ c. search needs) (λ c. search needs)
-    (λ c κs. search needs)
     (λ c. search needs) (λ c. search needs) (λ c. search needs) (λ c. search needs) (λ c. search needs) (λ c. search needs) (λ c. search needs) (λ c. search needs)
-    (λ c κs. search needs)
     (λ c κs. search needs)
     (λ c. search needs)
     (λ c κs. search needs) (λ c κs. search needs) (λ c κs. search needs) (λ c κs. search needs)
-    (λ c κs. search needs)
     (λ c κs. search needs) (λ c κs. search needs) (λ c κs. search needs) (λ c κs. search needs)
-    (λ c κs. search needs)
     (λ c κs. search needs)
     (λ c. search needs))
