@@ -1,2 +1,6 @@
 // Reading one object: port of elf/* and objects/object_data/*. It knows nothing of sets.
+pub mod check;
+pub mod hash_tables;
 pub mod program_header;
+pub mod symbol;
+pub mod table_bytes;
