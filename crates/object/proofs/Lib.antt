@@ -1,1 +1,10 @@
+-- The laws of specs/, for this crate's proofs and for those of the crates above it. `LookupSame` is the invariance law.
 pub mod FieldLaws
+pub mod Ranges
+pub mod SymbolLaws
+pub mod FindLaws
+pub mod WalkLaws
+pub mod WalkEnds
+pub mod KnownLaws
+pub mod CountLaws
+pub mod LookupSame

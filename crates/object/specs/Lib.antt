@@ -3,4 +3,9 @@ pub mod TableBytes
 pub mod DynamicArray
 pub mod DynamicFields
 pub mod FieldSteps
+pub mod Symbol
+pub mod HashTable
+pub mod HashCheck
+pub mod SymbolCount
+pub mod KnownRange
 pub mod Entries

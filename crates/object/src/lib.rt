@@ -1,4 +1,8 @@
 // Reading one object: port of elf/* and objects/object_data/*. It knows nothing of sets.
+pub mod check;
 pub mod dynamic_array;
+pub mod hash_tables;
 pub mod program_header;
 pub mod relocate;
+pub mod symbol;
+pub mod table_bytes;

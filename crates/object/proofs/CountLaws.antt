@@ -1,0 +1,33 @@
+-- The turns of the two loops. No contract cites this file. Assumes nothing.
+use mathlib.Core.Path.{_≡_, refl, sym, ap, _∙_}
+use mathlib.Core.Bool.{Bool, true, false}
+use mathlib.Core.List.{List, [], _∷_}
+use Prim.Native.Nat.{ℕ, zero, suc, _+_, _≤_, _<_, max}
+use native.Mathlib.Nat.{not-suc-le-zero}
+use native.Mathlib.Numerals.{add-one}
+use Rattle.object.specs.declared.hash_tables.HashTable.{HashTable}
+use Rattle.words.specs.Memory.{mem}
+use Rattle.words.specs.Words.{leAt}
+use Rattle.object.specs.HashTable.{bucketAt, chainAt, isLast, next, walk}
+use Rattle.object.specs.SymbolCount.{highest, lastOf}
+
+pub highest-more : (m : List ℕ) (t : HashTable) (i b w r : ℕ) → b ≡ highest m t i → w ≡ leAt 4 (mem m) (bucketAt t i) → r ≡ max b w
+    → r ≡ highest m t (i + 1)
+unfolding highest
+highest-more m t i b w r e f g = g ∙ rw (e, f, add-one)
+
+module _ (m : List ℕ) (t : HashTable) (s d : ℕ) where
+  pub last-stop : (n w : ℕ) → 0 < n → w ≡ leAt 4 (mem m) (chainAt t s) → isLast t w ≡ true → lastOf (walk m t n s) d ≡ s
+  unfolding walk lastOf
+  last-stop zero w l e la = absurd (not-suc-le-zero l)
+  last-stop (suc n) w l e la = rw (← e, la)
+
+  pub last-on : (n w k : ℕ) → n ≡ suc k → w ≡ leAt 4 (mem m) (chainAt t s) → isLast t w ≡ false
+      → lastOf (walk m t n s) d ≡ lastOf (walk m t k (next t s w)) s
+  unfolding walk lastOf
+  last-on n w k q e la = rw (q, ← e, la)
+
+  pub last-out : (n : ℕ) → n ≤ 0 → lastOf (walk m t n s) d ≡ d
+  unfolding walk lastOf
+  last-out zero l = refl
+  last-out (suc n) l = absurd (not-suc-le-zero l)

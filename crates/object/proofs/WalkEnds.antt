@@ -1,0 +1,90 @@
+-- The walks of a table that is not refused end by themselves: more fuel gives the same list. So `walk` cuts off no walk of such a table.
+-- No contract cites this file. Assumes nothing.
+use mathlib.Core.Path.{_≡_, refl, sym, ap, _∙_}
+use mathlib.Core.Bool.{Bool, true, false, not}
+use mathlib.Core.List.{List, [], _∷_}
+use Prim.Native.Nat.{ℕ, zero, suc, _+_, _-_, _*_, _^_, _≤_, _<_, min}
+use native.Mathlib.Nat.{not-suc-le-zero, le-of-suc-le-suc}
+use native.Mathlib.Omega.{arith}
+use borrow.Author.Tests.{leb-true}
+use lib.Dec.{leb}
+use lib.ListN.{length}
+use Rattle.object.specs.declared.hash_tables.HashTable.{HashTable}
+use Rattle.object.specs.declared.hash_tables.HashTable.the-variants.{Without, SysV, Gnu}
+use Rattle.words.specs.Choice.{pick, every}
+use Rattle.words.specs.Memory.{mem}
+use Rattle.words.specs.Words.{leAt}
+use Rattle.object.proofs.Ranges.{below-at}
+use Rattle.object.specs.HashCheck.{chainOk, symbolOk, stepOk}
+use Rattle.object.specs.HashTable.{chainAt, isLast, next, fuel, walk}
+use Rattle.object.specs.TableBytes.{tableBytes}
+use Rattle.words.proofs.Choice.{both-true}
+
+-- a walk that is shorter than its fuel has ended
+pub walk-ended : (m : List ℕ) (t : HashTable) (k n s : ℕ) → length (walk m t n s) < n → walk m t (n + k) s ≡ walk m t n s
+unfolding walk
+walk-ended m t k zero s h = absurd (not-suc-le-zero h)
+walk-ended m t k (suc n) s h =
+    let w = leAt 4 (mem m) (chainAt t s) in
+    let q : suc n + k ≡ suc (n + k) = omega arith in
+    rw q
+    (ap (λ (l : List ℕ). s ∷ l) (go (isLast t w) (walk m t n (next t s w)) (walk m t (n + k) (next t s w)) h
+    (λ h′. walk-ended m t k n (next t s w) h′)))
+  where
+    go : (b : Bool) (l l′ : List ℕ) → suc (length (pick b [] l)) < suc n → (length l < n → l′ ≡ l) → pick b [] l′ ≡ pick b [] l
+    go true l l′ h ih = refl
+    go false l l′ h ih = ih (omega arith)
+
+module _ (isT : ℕ → Bool) (m : List ℕ) (inside : (i : ℕ) → isT i ≡ true → i < length m) (symbols strings at n first b shift : ℕ) where
+  -- the chain word of a symbol that is fine lies in the image
+  word-in : (s : ℕ) → stepOk isT m symbols strings (Gnu at n first b shift) s ≡ true
+      → at + (16 + 8 * b + 4 * n + 4 * (s - first)) + 4 ≤ length m
+  unfolding chainOk tableBytes
+  word-in s ok =
+      let h = both-true (chainOk isT (Gnu at n first b shift) s) (symbolOk isT m symbols strings s) ok in
+      let p = at + (16 + 8 * b + 4 * n + 4 * (s - first)) in
+      let l : p + 3 < length m = inside (p + 3) (below-at (λ k. isT (p + k)) 4 3 (h .0) (omega arith)) in
+      omega arith
+
+  room : (k s : ℕ) → first ≤ s → at + (16 + 8 * b + 4 * n + 4 * (s - first)) ≤ length m
+      → every (stepOk isT m symbols strings (Gnu at n first b shift)) (walk m (Gnu at n first b shift) k s) ≡ true
+      → at + (16 + 8 * b + 4 * n + 4 * (s - first)) + 4 * length (walk m (Gnu at n first b shift) k s) ≤ length m
+  unfolding walk every
+  room zero s f l e = omega arith
+  room (suc k) s f l e =
+      let w = leAt 4 (mem m) (chainAt (Gnu at n first b shift) s) in
+      let tail = walk m (Gnu at n first b shift) k (s + 1) in
+      let p = stepOk isT m symbols strings (Gnu at n first b shift) in
+      let h = both-true (p s) (every p (pick (isLast (Gnu at n first b shift) w) [] tail)) e in
+      let i = word-in s (h .0) in
+      go (isLast (Gnu at n first b shift) w) tail (h .1) i
+      (λ e′. let r = room k (s + 1) (omega arith) (omega arith) e′ in omega arith)
+    where
+      go : (z : Bool) (l : List ℕ) → every (stepOk isT m symbols strings (Gnu at n first b shift)) (pick z [] l) ≡ true
+          → at + (16 + 8 * b + 4 * n + 4 * (s - first)) + 4 ≤ length m
+          → (every (stepOk isT m symbols strings (Gnu at n first b shift)) l ≡ true
+          → at + (16 + 8 * b + 4 * n + 4 * (s - first)) + 4 + 4 * length l ≤ length m)
+          → at + (16 + 8 * b + 4 * n + 4 * (s - first)) + 4 * suc (length (pick z [] l)) ≤ length m
+      go true l e i ih = omega arith
+      go false l e i ih = let r = ih e in omega arith
+
+  first-in : (f s : ℕ) → 0 < f → every (stepOk isT m symbols strings (Gnu at n first b shift)) (walk m (Gnu at n first b shift) f s) ≡ true
+      → at + (16 + 8 * b + 4 * n + 4 * (s - first)) + 4 ≤ length m
+  unfolding walk every
+  first-in zero s l e = absurd (not-suc-le-zero l)
+  first-in (suc f) s l e = word-in s (both-true _ _ e .0)
+
+  -- of an image of at most 2^28 bytes
+  pub gnu-ends : length m ≤ 2 ^ 28 → (s k : ℕ) → first ≤ s → 0 < length m
+      → every (stepOk isT m symbols strings (Gnu at n first b shift)) (walk m (Gnu at n first b shift) (fuel m (Gnu at n first b shift)) s) ≡ true
+      → walk m (Gnu at n first b shift) (fuel m (Gnu at n first b shift) + k) s ≡ walk m (Gnu at n first b shift) (fuel m (Gnu at n first b shift)) s
+  gnu-ends small s k f pos e =
+      let i = first-in (fuel m (Gnu at n first b shift)) s (omega arith) e in
+      let r = room (fuel m (Gnu at n first b shift)) s f (omega arith) e in
+      walk-ended m (Gnu at n first b shift) k (fuel m (Gnu at n first b shift)) s (omega arith)
+
+pub sysv-ends : (m : List ℕ) (at n c s k : ℕ) → leb (length (walk m (SysV at n c) (c + 1) s)) c ≡ true
+    → walk m (SysV at n c) (c + 1 + k) s ≡ walk m (SysV at n c) (c + 1) s
+sysv-ends m at n c s k e =
+    let l = leb-true (length (walk m (SysV at n c) (c + 1) s)) c e in
+    walk-ended m (SysV at n c) k (c + 1) s (omega arith)

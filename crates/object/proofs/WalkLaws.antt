@@ -1,0 +1,93 @@
+-- The turns of a check of a walk. No contract cites this file. Assumes nothing.
+use mathlib.Core.Path.{_≡_, refl, sym, ap, _∙_}
+use mathlib.Core.Bool.{Bool, true, false, not}
+use mathlib.Core.List.{List, [], _∷_}
+use Prim.Native.Nat.{ℕ, zero, suc, _+_, _-_, _*_, _≤_, _<_}
+use native.Mathlib.Nat.{not-suc-le-zero}
+use native.Mathlib.Numerals.{add-one}
+use native.Mathlib.Omega.{arith}
+use borrow.Author.Tests.{eq-eqb, ne-eqb, le-leb, lt-leb}
+use lib.Dec.{eqb, leb, ltb, leb·zero, leb·suc-suc, leb·suc-zero}
+use lib.ListN.{length}
+use Rattle.object.specs.declared.hash_tables.HashTable.{HashTable}
+use Rattle.object.specs.declared.hash_tables.HashTable.the-variants.{Without, SysV, Gnu}
+use Rattle.words.specs.Choice.{both, pick, every}
+use Rattle.words.specs.Memory.{mem}
+use Rattle.words.specs.Words.{leAt}
+use Rattle.object.specs.HashCheck.{bucketOk, lengthOk, stepOk, walkOk}
+use Rattle.object.specs.HashTable.{chainAt, isLast, next, fuel, walk, walkFrom}
+use Rattle.words.proofs.Choice.{both-false}
+
+module _ (m : List ℕ) (t : HashTable) (p : ℕ → Bool) (s : ℕ) where
+  pub every-no : (n : ℕ) → 0 < n → p s ≡ false → every p (walk m t n s) ≡ false
+  unfolding walk every
+  every-no zero l e = absurd (not-suc-le-zero l)
+  every-no (suc n) l e = rw e
+
+  pub every-last : (n w : ℕ) → 0 < n → w ≡ leAt 4 (mem m) (chainAt t s) → p s ≡ true → isLast t w ≡ true
+      → every p (walk m t n s) ≡ true
+  unfolding walk every
+  every-last zero w l we e la = absurd (not-suc-le-zero l)
+  every-last (suc n) w l we e la = rw (e, ← we, la)
+
+  pub every-on : (n w k : ℕ) → n ≡ suc k → w ≡ leAt 4 (mem m) (chainAt t s) → p s ≡ true → isLast t w ≡ false
+      → every p (walk m t n s) ≡ every p (walk m t k (next t s w))
+  unfolding walk every
+  every-on n w k q we e la = rw (q, e, ← we, la)
+
+  pub every-out : (n : ℕ) → n ≤ 0 → every p (walk m t n s) ≡ true
+  unfolding walk every
+  every-out zero l = refl
+  every-out (suc n) l = absurd (not-suc-le-zero l)
+
+  -- the walk has at most `n` symbols, and all of them are fine
+  pub within : ℕ → Bool
+  within n = both (leb (length (walk m t (suc n) s)) n) (every p (walk m t (suc n) s))
+
+  pub within-no : (n : ℕ) → p s ≡ false → within n ≡ false
+  unfolding within walk every
+  within-no n e = rw e (both-false (leb (length (walk m t (suc n) s)) n) false refl)
+
+  pub within-out : (n : ℕ) → n ≤ 0 → within n ≡ false
+  unfolding within walk
+  within-out zero l = rw (leb·suc-zero (length (pick (isLast t (leAt 4 (mem m) (chainAt t s))) [] [])))
+  within-out (suc n) l = absurd (not-suc-le-zero l)
+
+  pub within-last : (n w : ℕ) → 0 < n → w ≡ leAt 4 (mem m) (chainAt t s) → p s ≡ true → isLast t w ≡ true → within n ≡ true
+  unfolding within walk every
+  within-last n w l we e la = rw (e, ← we, la, le-leb 1 n l)
+
+pub within-on : (m : List ℕ) (t : HashTable) (p : ℕ → Bool) (s n w k : ℕ) → n ≡ suc k → w ≡ leAt 4 (mem m) (chainAt t s)
+    → p s ≡ true → isLast t w ≡ false → within m t p s n ≡ within m t p (next t s w) k
+unfolding within walk every
+within-on m t p s n w k q we e la =
+    rw (q, e, ← we, la) (rw leb·suc-suc)
+
+-- ---- the check of a bucket
+
+module _ (isT : ℕ → Bool) (m : List ℕ) (symbols strings at n : ℕ) where
+  module _ (c i : ℕ) where
+    pub sysv-empty : leAt 4 (mem m) (at + (8 + 4 * i)) ≡ 0 → walkOk isT m symbols strings (SysV at n c) i ≡ true
+    unfolding walkOk walkFrom every bucketOk lengthOk
+    sysv-empty e = rw (e, leb·zero c)
+
+    pub sysv-start : (b : ℕ) → b ≡ leAt 4 (mem m) (at + (8 + 4 * i)) → (b ≡ 0 → ⊥)
+        → walkOk isT m symbols strings (SysV at n c) i ≡ within m (SysV at n c) (stepOk isT m symbols strings (SysV at n c)) b c
+    unfolding walkOk walkFrom bucketOk lengthOk within
+    sysv-start b e nz = rw (← e, ne-eqb b 0 nz, add-one c)
+
+  module _ (first blooms shift i : ℕ) where
+    pub gnu-empty : leAt 4 (mem m) (at + (16 + 8 * blooms + 4 * i)) ≡ 0 → walkOk isT m symbols strings (Gnu at n first blooms shift) i ≡ true
+    unfolding walkOk walkFrom every bucketOk lengthOk
+    gnu-empty e = rw e
+
+    pub gnu-low : (b : ℕ) → b ≡ leAt 4 (mem m) (at + (16 + 8 * blooms + 4 * i)) → (b ≡ 0 → ⊥) → b < first
+        → walkOk isT m symbols strings (Gnu at n first blooms shift) i ≡ false
+    unfolding walkOk bucketOk
+    gnu-low b e nz l = rw (← e, ne-eqb b 0 nz, lt-leb first b l)
+
+    pub gnu-start : (b : ℕ) → b ≡ leAt 4 (mem m) (at + (16 + 8 * blooms + 4 * i)) → (b ≡ 0 → ⊥) → first ≤ b
+        → walkOk isT m symbols strings (Gnu at n first blooms shift) i
+        ≡ every (stepOk isT m symbols strings (Gnu at n first blooms shift)) (walk m (Gnu at n first blooms shift) (fuel m (Gnu at n first blooms shift)) b)
+    unfolding walkOk walkFrom bucketOk lengthOk
+    gnu-start b e nz l = rw (← e, ne-eqb b 0 nz, le-leb first b l)

@@ -1,0 +1,20 @@
+use borrow.Author.Needs.{needs}
+use Rattle.object.proofs.hash_tables.address_of.Statement.{statement}
+use Rattle.object.proofs.hash_tables.address_of.Tie as tie
+use Rattle.object.proofs.hash_tables.address_of.Reads as reads
+use Rattle.object.proofs.hash_tables.address_of.Lts as lts
+use Rattle.words.proofs.bytes.sum_u64.Reads as sum-u64-reads
+
+returns : tie.Need-returns
+returns c =
+    rw (c .if1 .taken)
+
+sum-u64-requires : tie.Need-sum-u64-requires
+sum-u64-requires c κs = search needs
+
+returns-2 : tie.Need-returns-2
+returns-2 c =
+    rw (c .before .if1 .left) (c .sum-u64 .ensures)
+
+pub address-of-spec : {M : Type 1} → statement M
+address-of-spec = tie.close (tie.spec returns sum-u64-requires returns-2)

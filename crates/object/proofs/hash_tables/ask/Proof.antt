@@ -1,0 +1,61 @@
+use native.Mathlib.Omega.{arith}
+use Rattle.object.specs.HashTable.{answerOf, definition}
+use borrow.Author.Tests.{not-true, not-false}
+use mathlib.Core.Path.{sym, _∙_}
+use borrow.Author.Needs.{needs}
+use Rattle.object.proofs.hash_tables.ask.Statement.{statement}
+use Rattle.object.proofs.hash_tables.ask.Tie as tie
+use Rattle.object.proofs.hash_tables.ask.Reads as reads
+use Rattle.object.proofs.hash_tables.ask.Lts as lts
+use Rattle.object.proofs.hash_tables.lookup.Reads as lookup-reads
+use Rattle.object.proofs.symbol.is_exported.Reads as is-exported-reads
+use Rattle.object.proofs.symbol.symbol_off.Reads as symbol-off-reads
+
+lookup-requires : tie.Need-lookup-requires
+lookup-requires c κs = search needs
+
+enum-known-f : tie.Need-enum-known-f
+enum-known-f c = search needs
+
+enum-told : tie.Need-enum-told
+enum-told c = search needs
+
+returns : tie.Need-returns
+unfolding answerOf
+returns c =
+    rw (← c .before .before .lookup .ensures .0, c .enum-told .given .1)
+
+mul-symbol-off : tie.Need-mul-symbol-off
+mul-symbol-off c =
+    let h = rw (c .before .f .given .1) at (c .before .before .before .lookup .ensures .1) in
+    omega (arith, h)
+
+symbol-off-requires : tie.Need-symbol-off-requires
+symbol-off-requires c κs = search needs
+
+is-exported-requires : tie.Need-is-exported-requires
+is-exported-requires c κs = search needs
+
+returns-2 : tie.Need-returns-2
+unfolding answerOf
+returns-2 c =
+    rw (← c .before .before .before .before .before .before .lookup .ensures .0, c .before .before .before .before .f .given .1, ← c .before .before .symbol-off .ensures, sym (c .before .is-exported .ensures) ∙ not-true _ (c .if1 .taken))
+
+returns-3 : tie.Need-returns-3
+unfolding answerOf definition
+returns-3 c =
+    rw (← c .before .before .before .before .before .before .before .before .lookup .ensures .0, c .before .before .before .before .before .before .f .given .1, ← c .before .before .before .before .symbol-off .ensures, sym (c .before .before .before .is-exported .ensures) ∙ not-false _ (c .before .before .if1 .left))
+
+pub ask-spec : {M : Type 1} → statement M
+ask-spec =
+    tie.close
+    (tie.spec
+    lookup-requires
+    enum-known-f
+    enum-told
+    returns
+    mul-symbol-off
+    symbol-off-requires
+    is-exported-requires
+    returns-2
+    returns-3)

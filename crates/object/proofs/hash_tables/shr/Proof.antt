@@ -1,0 +1,21 @@
+use Rattle.object.proofs.FindLaws.{shifted-out}
+use native.Mathlib.Omega.{arith}
+use mathlib.Core.Path.{sym}
+use borrow.Author.Needs.{needs}
+use Rattle.object.proofs.hash_tables.shr.Statement.{statement}
+use Rattle.object.proofs.hash_tables.shr.Tie as tie
+use Rattle.object.proofs.hash_tables.shr.Reads as reads
+use Rattle.object.proofs.hash_tables.shr.Lts as lts
+
+shr-result : tie.Need-shr-result
+shr-result c = search needs
+
+returns : tie.Need-returns
+returns c = search needs
+
+returns-2 : tie.Need-returns-2
+returns-2 c =
+    sym (shifted-out (c .before .args .h) (c .before .args .shift) (search needs) (omega arith))
+
+pub shr-spec : {M : Type 1} → statement M
+shr-spec = tie.close (tie.spec shr-result returns returns-2)

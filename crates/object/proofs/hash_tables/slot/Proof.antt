@@ -1,0 +1,22 @@
+use native.Mathlib.Nat.{mod-lt}
+use native.Mathlib.Omega.{arith}
+use mathlib.Core.Path.{refl}
+use borrow.Author.Needs.{needs}
+use Rattle.object.proofs.hash_tables.slot.Statement.{statement}
+use Rattle.object.proofs.hash_tables.slot.Tie as tie
+use Rattle.object.proofs.hash_tables.slot.Reads as reads
+use Rattle.object.proofs.hash_tables.slot.Lts as lts
+
+rem-result : tie.Need-rem-result
+rem-result c = search needs
+
+cast-result : tie.Need-cast-result
+cast-result c =
+    omega (arith, mod-lt (c .args .h) (c .pre))
+
+returns : tie.Need-returns
+returns c =
+    (refl, mod-lt (c .args .h) (c .pre))
+
+pub slot-spec : {M : Type 1} → statement M
+slot-spec = tie.close (tie.spec rem-result cast-result returns)

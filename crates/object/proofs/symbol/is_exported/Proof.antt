@@ -1,0 +1,46 @@
+use Rattle.object.specs.Symbol.{isExported}
+use borrow.Author.Tests.{not-true, not-false}
+use mathlib.Core.Path.{sym, _∙_}
+use borrow.Author.Needs.{needs}
+use Rattle.object.proofs.symbol.is_exported.Statement.{statement}
+use Rattle.object.proofs.symbol.is_exported.Tie as tie
+use Rattle.object.proofs.symbol.is_exported.Reads as reads
+use Rattle.object.proofs.symbol.is_exported.Lts as lts
+use Rattle.object.proofs.symbol.is_defined.Reads as is-defined-reads
+use Rattle.object.proofs.symbol.is_public.Reads as is-public-reads
+use Rattle.object.proofs.symbol.is_visible.Reads as is-visible-reads
+
+is-defined-requires : tie.Need-is-defined-requires
+is-defined-requires c κs = search needs
+
+returns : tie.Need-returns
+unfolding isExported
+returns c =
+    rw (sym (c .before .is-defined .ensures) ∙ not-true _ (c .if1 .taken))
+
+is-public-requires : tie.Need-is-public-requires
+is-public-requires c κs = search needs
+
+returns-2 : tie.Need-returns-2
+unfolding isExported
+returns-2 c =
+    rw (sym (c .before .before .before .is-defined .ensures) ∙ not-false _ (c .before .before .if1 .left), sym (c .before .is-public .ensures) ∙ not-true _ (c .if2 .taken))
+
+is-visible-requires : tie.Need-is-visible-requires
+is-visible-requires c κs = search needs
+
+returns-3 : tie.Need-returns-3
+unfolding isExported
+returns-3 c =
+    rw (sym (c .before .before .before .before .is-defined .ensures) ∙ not-false _ (c .before .before .before .if1 .left), sym (c .before .before .is-public .ensures) ∙ not-false _ (c .before .if2 .left)) (c .is-visible .ensures)
+
+pub is-exported-spec : {M : Type 1} → statement M
+is-exported-spec =
+    tie.close
+    (tie.spec
+    is-defined-requires
+    returns
+    is-public-requires
+    returns-2
+    is-visible-requires
+    returns-3)

@@ -1,0 +1,17 @@
+use borrow.Author.Needs.{needs}
+use borrow.Author.Tests.{eq-eqb, ne-eqb}
+use Rattle.object.proofs.symbol.is_public.Statement.{statement}
+use Rattle.object.proofs.symbol.is_public.Tie as tie
+use Rattle.object.proofs.symbol.is_public.Reads as reads
+use Rattle.object.proofs.symbol.is_public.Lts as lts
+
+returns : tie.Need-returns
+returns c =
+    simp (eq-eqb _ _ (c .if1 .taken))
+
+returns-2 : tie.Need-returns-2
+returns-2 c =
+    simp (ne-eqb _ _ (c .before .if1 .left))
+
+pub is-public-spec : {M : Type 1} → statement M
+is-public-spec = tie.close (tie.spec returns returns-2)

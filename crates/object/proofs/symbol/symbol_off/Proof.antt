@@ -1,0 +1,55 @@
+use Rattle.object.proofs.SymbolLaws.{symbol-end-at}
+use Rattle.object.specs.Symbol.{symbolFrom}
+use denote.Ref.{now}
+use Prim.Native.Nat.{_+_}
+use mathlib.Core.Path.{_∙_}
+use borrow.Author.Needs.{needs}
+use Rattle.object.proofs.symbol.symbol_off.Statement.{statement}
+use Rattle.object.proofs.symbol.symbol_off.Tie as tie
+use Rattle.object.proofs.symbol.symbol_off.Reads as reads
+use Rattle.object.proofs.symbol.symbol_off.Lts as lts
+use Rattle.words.proofs.bytes.byte_at.Reads as byte-at-reads
+use Rattle.words.proofs.bytes.place.Reads as place-reads
+use Rattle.words.proofs.bytes.u16_off.Reads as u16-off-reads
+use Rattle.words.proofs.bytes.u32_off.Reads as u32-off-reads
+use Rattle.words.proofs.bytes.u64_off.Reads as u64-off-reads
+
+place-requires : tie.Need-place-requires
+place-requires c κs = search needs
+
+u32-off-requires : tie.Need-u32-off-requires
+u32-off-requires c κs = search needs
+
+byte-at-requires : tie.Need-byte-at-requires
+byte-at-requires c κs = search needs
+
+byte-at-requires-2 : tie.Need-byte-at-requires-2
+byte-at-requires-2 c κs = search needs
+
+u16-off-requires : tie.Need-u16-off-requires
+u16-off-requires c κs = search needs
+
+u64-off-requires : tie.Need-u64-off-requires
+u64-off-requires c κs = search needs
+
+u64-off-requires-2 : tie.Need-u64-off-requires-2
+u64-off-requires-2 c κs = search needs
+
+returns : tie.Need-returns
+unfolding symbolFrom
+returns c =
+    let a = c .before .before .before .before .before .before .before .before .args in
+    (cc) ∙ symbol-end-at (now (a .image)) (a .at + a .k) (c .before .before .before .before .before .before .place .result) (c .before .before .before .before .before .before .place .ensures)
+
+pub symbol-off-spec : {M : Type 1} → statement M
+symbol-off-spec =
+    tie.close
+    (tie.spec
+    place-requires
+    u32-off-requires
+    byte-at-requires
+    byte-at-requires-2
+    u16-off-requires
+    u64-off-requires
+    u64-off-requires-2
+    returns)

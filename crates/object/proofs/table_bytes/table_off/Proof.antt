@@ -1,0 +1,46 @@
+use Rattle.object.specs.TableBytes.{tableBytes}
+use Rattle.object.proofs.Ranges.{span-out}
+use Rattle.words.specs.Choice.{below}
+use mathlib.Core.Path.{_≡_, sym}
+use Prim.Native.Nat.{_+_, _-_}
+use native.Mathlib.Omega.{arith}
+use lib.ListN.{take}
+use lib.ListN.{take}
+use borrow.Author.Needs.{needs}
+use Rattle.object.proofs.table_bytes.table_off.Statement.{statement}
+use Rattle.object.proofs.table_bytes.table_off.Tie as tie
+use Rattle.object.proofs.table_bytes.table_off.Reads as reads
+use Rattle.object.proofs.table_bytes.table_off.Lts as lts
+use Rattle.object.proofs.table_bytes.table_bytes.Reads as table-bytes-reads
+
+returns : tie.Need-returns
+unfolding tableBytes below
+returns c =
+    rw (c .if1 .taken)
+
+returns-2 : tie.Need-returns-2
+returns-2 c =
+    let a = c .before .before .args in
+    sym (span-out (a .b .span) (take (a .b .count) (a .b .segments)) (a .at + a .k) (a .n) (omega arith) (omega arith))
+
+sub-if3 : tie.Need-sub-if3
+sub-if3 c = search needs
+
+returns-3 : tie.Need-returns-3
+returns-3 c =
+    let a = c .before .before .before .args in
+    sym (span-out (a .b .span) (take (a .b .count) (a .b .segments)) (a .at + a .k) (a .n) (omega arith) (omega arith))
+
+add-table-bytes : tie.Need-add-table-bytes
+add-table-bytes c = search needs
+
+table-bytes-requires : tie.Need-table-bytes-requires
+table-bytes-requires c κs = search needs
+
+returns-4 : tie.Need-returns-4
+returns-4 c = search needs
+
+pub table-off-spec : {M : Type 1} → statement M
+table-off-spec =
+    tie.close
+    (tie.spec returns returns-2 sub-if3 returns-3 add-table-bytes table-bytes-requires returns-4)
