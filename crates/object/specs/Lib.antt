@@ -8,4 +8,6 @@ pub mod HashTable
 pub mod HashCheck
 pub mod SymbolCount
 pub mod KnownRange
+pub mod LoadTable
+pub mod Record
 pub mod Entries

@@ -1,6 +1,7 @@
 // Reading one object: port of elf/* and objects/object_data/*. It knows nothing of sets.
 pub mod check;
 pub mod dynamic_array;
+pub mod dynamic_fields;
 pub mod hash_tables;
 pub mod program_header;
 pub mod relocate;

@@ -1,0 +1,145 @@
+-- The object record, and refusals 9 to 12. Document 01, "The object record"; System V gABI, "Dynamic Section". "Pointers are offsets
+-- from base." Sums of offsets are natural numbers: a table that starts outside the span is outside. Assumes nothing.
+use mathlib.Core.Bool.{Bool, true}
+use mathlib.Core.List.{List}
+use mathlib.Core.Path.{_≡_}
+use Prim.Native.Nat.{ℕ, _+_, _*_, _/_}
+use lib.Dec.{eqb, leb}
+use lib.ListN.{length, take}
+use Rattle.words.specs.Choice.{pick, both, either, every}
+use Rattle.object.specs.Refusal.{require, after}
+use Rattle.object.specs.declared.program_header.Segment.{Segment}
+use Rattle.object.specs.declared.program_header.Dynamic.{Dynamic}
+use Rattle.object.specs.declared.program_header.Dynamic.the-variants.{Missing, At}
+use Rattle.object.specs.declared.dynamic_array.Field.{Field}
+use Rattle.object.specs.declared.dynamic_array.DynamicFields.{DynamicFields}
+use Rattle.object.specs.declared.hash_tables.HashTable.{HashTable}
+use Rattle.object.specs.declared.hash_tables.HashTable.the-variants.{Without}
+use Rattle.object.specs.declared.hash_tables.View.{View}
+use Rattle.object.specs.declared.hash_tables.SymbolCount.{SymbolCount}
+use Rattle.object.specs.declared.dynamic_fields.ObjectData.{ObjectData}
+use Rattle.object.specs.declared.dynamic_fields.Read.{Read}
+use Rattle.object.specs.DynamicFields.{fieldsOf, needsOf}
+use Rattle.object.specs.TableBytes.{isTable, tableBytes, tableName}
+use Rattle.object.specs.HashTable.{sysvAt, gnuAt}
+use Rattle.object.specs.HashCheck.{tableOk}
+use Rattle.object.specs.SymbolCount.{countOf}
+
+-- ---- the record
+
+pub record Record : Type 0 where
+  -- "up to 16 load segments and up to 64 needed offsets"
+  pub segments : List Segment
+  pub needed : List ℕ
+  pub span : ℕ
+  -- the string table and the symbol table
+  pub strings : ℕ
+  pub symbols : ℕ
+  -- "which hash table was chosen, SysV or GNU, with its numbers", and the symbol count
+  pub table : HashTable
+  pub known : SymbolCount
+  -- the relocation tables and their counts
+  pub rela : ℕ
+  pub relas : ℕ
+  pub plt : ℕ
+  pub plts : ℕ
+  pub relr : ℕ
+  pub relrs : ℕ
+
+-- what the struct of the code holds
+abbrev pub heldBy : ObjectData → Record
+heldBy o =
+    record {
+      segments = take (o .count) (o .segments);
+      needed = take (o .needs) (o .needed);
+      span = o .span;
+      strings = o .strings;
+      symbols = o .symbols;
+      table = o .table;
+      known = o .known;
+      rela = o .rela;
+      relas = o .relas;
+      plt = o .plt;
+      plts = o .plts;
+      relr = o .relr;
+      relrs = o .relrs;
+    }
+
+-- "Counts are byte sizes divided by 24 (RELA, PLT) or 8 (RELR), 0 where the size or the pointer is missing"; a missing size is 0
+abbrev pub entryCount : Field → Field → ℕ → ℕ
+entryCount pointer size unit = pick (pointer .given) (size .value / unit) 0
+
+-- "Of hash tables, the last GNU (0x6ffffef5), else the first SysV (4)"
+unfoldable pub tableIn : List ℕ → DynamicFields → HashTable
+tableIn image f = pick (f .gnu .given) (gnuAt image (f .gnu .value)) (pick (f .hash .given) (sysvAt image (f .hash .value)) Without)
+
+abbrev pub viewIn : List ℕ → DynamicFields → View
+viewIn image f = record { symbols = f .symtab .value; strings = f .strtab .value; table = tableIn image f }
+
+-- the record of an image, the bytes of the span
+unfoldable pub recordIn : List ℕ → List Segment → DynamicFields → List ℕ → Record
+recordIn image segments f needs =
+    record {
+      segments = segments;
+      needed = needs;
+      span = length image;
+      strings = f .strtab .value;
+      symbols = f .symtab .value;
+      table = tableIn image f;
+      known = countOf image (viewIn image f);
+      rela = f .rela .value;
+      relas = entryCount (f .rela) (f .relasz) 24;
+      plt = f .jmprel .value;
+      plts = entryCount (f .jmprel) (f .pltrelsz) 24;
+      relr = f .relr .value;
+      relrs = entryCount (f .relr) (f .relrsz) 8;
+    }
+
+-- ---- refusals 9 to 12
+
+-- "DT_SYMENT or DT_RELAENT not 24, DT_PLTREL not 7": said of an entry that is there
+abbrev pub fieldIs : ℕ → Field → Bool
+fieldIs n f = pick (f .given) (eqb (f .value) n) true
+
+-- 9, 10 and 11, the count of needs excepted
+unfoldable pub fieldsRefusal : DynamicFields → ℕ
+fieldsRefusal f =
+    require (f .ended) 9
+    (require (f .strtab .given) 10
+    (require (f .symtab .given) 10
+    (require (fieldIs 24 (f .syment)) 11
+    (require (fieldIs 24 (f .relaent)) 11
+    (require (fieldIs 7 (f .pltrel)) 11 0)))))
+
+-- a table byte of the object
+abbrev pub isTableOf : Record → ℕ → Bool
+isTableOf r = isTable (r .span) (r .segments)
+
+-- "a non-empty relocation table": the entries that are counted
+unfoldable pub relocationsOk : Record → Bool
+relocationsOk r =
+    both (tableBytes (isTableOf r) (r .rela) (24 * r .relas))
+    (both (tableBytes (isTableOf r) (r .plt) (24 * r .plts)) (tableBytes (isTableOf r) (r .relr) (8 * r .relrs)))
+
+-- 12: "Not wholly table bytes: a need's name .., a non-empty relocation table (host excepted), the chosen hash table .."
+unfoldable pub tablesOk : Bool → List ℕ → Record → Bool
+tablesOk host image r =
+    both (every (λ n. tableName (isTableOf r) image (r .strings + n)) (r .needed))
+    (both (either host (relocationsOk r)) (tableOk (isTableOf r) image (r .symbols) (r .strings) (r .table)))
+
+-- the refusal of an object whose dynamic array stands there, and its record
+unfoldable pub readRefusal : Bool → List ℕ → List Segment → Dynamic → ℕ
+readRefusal host image segments Missing = 9
+readRefusal host image segments (At at) =
+    after (fieldsRefusal (fieldsOf image at))
+    (require (leb (length (needsOf image at)) 64) 11
+    (require (tablesOk host image (recordIn image segments (fieldsOf image at) (needsOf image at))) 12 0))
+
+unfoldable pub recordOf : List ℕ → List Segment → Dynamic → Record
+recordOf image segments Missing = recordIn image segments (fieldsOf image 0) (needsOf image 0)
+recordOf image segments (At at) = recordIn image segments (fieldsOf image at) (needsOf image at)
+
+-- what reading answers
+pub record ReadBy (host : Bool) (image : List ℕ) (segments : List Segment) (d : Dynamic) (r : Read) : Type 0 where
+  pub refusal : r .refusal ≡ readRefusal host image segments d
+  pub object : r .refusal ≡ 0 → heldBy (r .object) ≡ recordOf image segments d

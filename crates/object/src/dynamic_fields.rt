@@ -1,0 +1,154 @@
+// The object record and refusals 9 to 12: port of dynamic_fields.rs.
+ghost use mathlib.Core.Path.{_≡_};
+ghost use Prim.Native.Nat.{_*_, _≤_};
+ghost use lib.ListN.{take};
+ghost use Rattle.object.specs.DynamicFields.{needsOf, Needed};
+ghost use Rattle.object.specs.LoadTable.{segmentsIn};
+ghost use Rattle.object.specs.Record.{heldBy, entryCount, tableIn, recordIn, fieldsRefusal, fieldIs, relocationsOk, tablesOk, ReadBy};
+use crate::dynamic_array::DynamicFields;
+use crate::dynamic_array::Field;
+use crate::dynamic_array::Needs;
+use crate::hash_tables::HashTable;
+use crate::hash_tables::SymbolCount;
+use crate::hash_tables::View;
+use crate::program_header::Dynamic;
+use crate::program_header::Loads;
+use crate::program_header::Segment;
+use crate::table_bytes::Bounds;
+
+// The record of an object: the first `count` of `segments`, of which the host has none, and the first `needs` of `needed`; the string and
+// symbol tables, the chosen hash table, the symbol count, and the relocation tables with their counts. Pointers are offsets in the span.
+pub struct ObjectData {
+    pub segments: [Segment; 16],
+    pub count: usize,
+    pub needed: [usize; 64],
+    pub needs: usize,
+    pub span: usize,
+    pub strings: usize,
+    pub symbols: usize,
+    pub table: HashTable,
+    pub known: SymbolCount,
+    pub rela: usize,
+    pub relas: usize,
+    pub plt: usize,
+    pub plts: usize,
+    pub relr: usize,
+    pub relrs: usize,
+}
+
+// The answer of reading: a refusal of 9 to 12, or 0 with the record.
+pub struct Read {
+    pub refusal: u32,
+    pub object: ObjectData,
+}
+
+fn field_is(n: usize, f: Field) -> bool
+    ensures { λ r. ⌜ r ≡ fieldIs n f ⌝ }
+{
+    if !f.given {
+        return true;
+    }
+    if f.value != n {
+        return false;
+    }
+    true
+}
+
+// The refusal of the fields, or 0.
+fn fields_refusal(f: DynamicFields) -> u32
+    ensures { λ r. ⌜ r ≡ fieldsRefusal f ⌝ }
+{
+    let strtab = f.strtab;
+    let symtab = f.symtab;
+    let syment = f.syment;
+    let relaent = f.relaent;
+    let pltrel = f.pltrel;
+    if !f.ended {
+        return 9;
+    }
+    if !strtab.given {
+        return 10;
+    }
+    if !symtab.given {
+        return 10;
+    }
+    if !field_is(24, syment) {
+        return 11;
+    }
+    if !field_is(24, relaent) {
+        return 11;
+    }
+    if !field_is(7, pltrel) {
+        return 11;
+    }
+    0
+}
+
+// How many entries a table has, of `unit` bytes each.
+fn entry_count(pointer: Field, size: Field, unit: usize) -> usize
+    requires { ⌜ 1 ≤ unit ⌝ }
+    ensures { λ r. ⌜ r ≡ entryCount pointer size unit ⌝ }
+{
+    if !pointer.given {
+        return 0;
+    }
+    size.value / unit
+}
+
+// The chosen hash table.
+fn table_in(image: &[u8], f: DynamicFields) -> HashTable
+    ensures { λ r. ⌜ r ≡ tableIn (now (image .entry)) f ⌝ }
+{
+    let gnu = f.gnu;
+    let hash = f.hash;
+    if gnu.given {
+        return crate::hash_tables::gnu_table(image, gnu.value);
+    }
+    if hash.given {
+        return crate::hash_tables::sysv_table(image, hash.value);
+    }
+    HashTable::Without
+}
+
+// The record of an image.
+fn object_in(image: &[u8], l: Loads, f: DynamicFields, n: Needs) -> ObjectData
+    ensures { λ r. ⌜ heldBy r ≡ recordIn (now (image .entry)) (segmentsIn l) f (take (n .count) (n .list)) ⌝ }
+{
+    let segments = l.list;
+    let needed = n.list;
+    let table = table_in(image, f);
+    let strtab = f.strtab;
+    let symtab = f.symtab;
+    let rela = f.rela;
+    let jmprel = f.jmprel;
+    let relr = f.relr;
+    let relasz = f.relasz;
+    let pltrelsz = f.pltrelsz;
+    let relrsz = f.relrsz;
+    let view = View {
+        symbols: symtab.value,
+        strings: strtab.value,
+        table: table,
+    };
+    let known = crate::hash_tables::symbol_count(image, view);
+    let relas = entry_count(rela, relasz, 24);
+    let plts = entry_count(jmprel, pltrelsz, 24);
+    let relrs = entry_count(relr, relrsz, 8);
+    ObjectData {
+        segments: segments,
+        count: l.count,
+        needed: needed,
+        needs: n.count,
+        span: image.len(),
+        strings: strtab.value,
+        symbols: symtab.value,
+        table: table,
+        known: known,
+        rela: rela.value,
+        relas: relas,
+        plt: jmprel.value,
+        plts: plts,
+        relr: relr.value,
+        relrs: relrs,
+    }
+}
