@@ -1,4 +1,5 @@
 -- The laws of specs/, for this crate's proofs and for those of the crates above it. `LookupSame` is the invariance law.
+pub mod ListTests
 pub mod FieldLaws
 pub mod Ranges
 pub mod SymbolLaws

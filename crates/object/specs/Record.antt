@@ -3,7 +3,7 @@
 use mathlib.Core.Bool.{Bool, true}
 use mathlib.Core.List.{List}
 use mathlib.Core.Path.{_≡_}
-use Prim.Native.Nat.{ℕ, _+_, _*_, _/_}
+use Prim.Native.Nat.{ℕ, _+_, _*_, _/_, _^_, _<_}
 use lib.Dec.{eqb, leb}
 use lib.ListN.{length, take}
 use Rattle.words.specs.Choice.{pick, both, either, every}
@@ -19,6 +19,7 @@ use Rattle.object.specs.declared.hash_tables.View.{View}
 use Rattle.object.specs.declared.hash_tables.SymbolCount.{SymbolCount}
 use Rattle.object.specs.declared.dynamic_fields.ObjectData.{ObjectData}
 use Rattle.object.specs.declared.dynamic_fields.Read.{Read}
+use Rattle.object.specs.declared.table_bytes.Bounds.{Bounds}
 use Rattle.object.specs.DynamicFields.{fieldsOf, needsOf}
 use Rattle.object.specs.TableBytes.{isTable, tableBytes, tableName}
 use Rattle.object.specs.HashTable.{sysvAt, gnuAt}
@@ -95,6 +96,10 @@ recordIn image segments f needs =
       relrs = entryCount (f .relr) (f .relrsz) 8;
     }
 
+-- what a lookup reads of the record
+abbrev pub viewOf : Record → View
+viewOf r = record { symbols = r .symbols; strings = r .strings; table = r .table }
+
 -- ---- refusals 9 to 12
 
 -- "DT_SYMENT or DT_RELAENT not 24, DT_PLTREL not 7": said of an entry that is there
@@ -115,6 +120,10 @@ fieldsRefusal f =
 abbrev pub isTableOf : Record → ℕ → Bool
 isTableOf r = isTable (r .span) (r .segments)
 
+-- "a need's name"
+unfoldable pub needsOk : List ℕ → Record → Bool
+needsOk image r = every (λ n. tableName (isTableOf r) image (r .strings + n)) (r .needed)
+
 -- "a non-empty relocation table": the entries that are counted
 unfoldable pub relocationsOk : Record → Bool
 relocationsOk r =
@@ -124,8 +133,18 @@ relocationsOk r =
 -- 12: "Not wholly table bytes: a need's name .., a non-empty relocation table (host excepted), the chosen hash table .."
 unfoldable pub tablesOk : Bool → List ℕ → Record → Bool
 tablesOk host image r =
-    both (every (λ n. tableName (isTableOf r) image (r .strings + n)) (r .needed))
+    both (needsOk image r)
     (both (either host (relocationsOk r)) (tableOk (isTableOf r) image (r .symbols) (r .strings) (r .table)))
+
+-- what the functions below `read_object` are told of the struct: the bounds are its own, and the counted bytes fit a usize
+pub record BoundsOf (o : ObjectData) (b : Bounds) : Type 0 where
+  pub span : b .span ≡ o .span
+  pub segments : take (b .count) (b .segments) ≡ take (o .count) (o .segments)
+
+pub record RelocationCounts (o : ObjectData) : Type 0 where
+  pub relas : 24 * o .relas < 2 ^ 64
+  pub plts : 24 * o .plts < 2 ^ 64
+  pub relrs : 8 * o .relrs < 2 ^ 64
 
 -- the refusal of an object whose dynamic array stands there, and its record
 unfoldable pub readRefusal : Bool → List ℕ → List Segment → Dynamic → ℕ

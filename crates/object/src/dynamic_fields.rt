@@ -4,7 +4,7 @@ ghost use Prim.Native.Nat.{_*_, _≤_};
 ghost use lib.ListN.{take};
 ghost use Rattle.object.specs.DynamicFields.{needsOf, Needed};
 ghost use Rattle.object.specs.LoadTable.{segmentsIn};
-ghost use Rattle.object.specs.Record.{heldBy, entryCount, tableIn, recordIn, fieldsRefusal, fieldIs, relocationsOk, tablesOk, ReadBy};
+ghost use Rattle.object.specs.Record.{heldBy, viewOf, entryCount, tableIn, recordIn, fieldsRefusal, fieldIs, needsOk, relocationsOk, tablesOk, BoundsOf, RelocationCounts};
 use crate::dynamic_array::DynamicFields;
 use crate::dynamic_array::Field;
 use crate::dynamic_array::Needs;
@@ -151,4 +151,77 @@ fn object_in(image: &[u8], l: Loads, f: DynamicFields, n: Needs) -> ObjectData
         relr: relr.value,
         relrs: relrs,
     }
+}
+
+// Where the object's table bytes and its writable segments lie.
+pub fn bounds_of(o: ObjectData) -> Bounds
+    ensures { λ r. ⌜ BoundsOf o r ⌝ }
+{
+    let segments = o.segments;
+    Bounds {
+        span: o.span,
+        segments: segments,
+        count: o.count,
+    }
+}
+
+// Whether the needs' names are in table bytes.
+fn needs_ok(image: &[u8], b: Bounds, o: ObjectData) -> bool
+    requires { ⌜ BoundsOf o b × (o .needs ≤ 64) ⌝ }
+    ensures { λ r. ⌜ r ≡ needsOk (now (image .entry)) (heldBy o) ⌝ }
+{
+    let strings = o.strings;
+    let mut i = 0;
+    while i < o.needs {
+        let n = o.needed[i];
+        if !crate::table_bytes::name_ok(image, b, strings, n) {
+            return false;
+        }
+        i += 1;
+    }
+    true
+}
+
+// Whether the relocation tables are in table bytes.
+fn relocations_ok(b: Bounds, o: ObjectData) -> bool
+    requires { ⌜ BoundsOf o b × RelocationCounts o ⌝ }
+    ensures { λ r. ⌜ r ≡ relocationsOk (heldBy o) ⌝ }
+{
+    if !crate::table_bytes::table_bytes(b, o.rela, 24 * o.relas) {
+        return false;
+    }
+    if !crate::table_bytes::table_bytes(b, o.plt, 24 * o.plts) {
+        return false;
+    }
+    crate::table_bytes::table_bytes(b, o.relr, 8 * o.relrs)
+}
+
+// What a lookup reads of the record.
+pub fn view_of(o: ObjectData) -> View
+    ensures { λ r. ⌜ r ≡ viewOf (heldBy o) ⌝ }
+{
+    let table = o.table;
+    View {
+        symbols: o.symbols,
+        strings: o.strings,
+        table: table,
+    }
+}
+
+// Refusal 12: whether all tables are in table bytes.
+fn tables_ok(image: &[u8], o: ObjectData, host: bool) -> bool
+    requires { ⌜ (o .needs ≤ 64) × RelocationCounts o ⌝ }
+    ensures { λ r. ⌜ r ≡ tablesOk host (now (image .entry)) (heldBy o) ⌝ }
+{
+    let b = bounds_of(o);
+    if !needs_ok(image, b, o) {
+        return false;
+    }
+    if host {
+        return crate::check::hash_table_ok(image, b, view_of(o));
+    }
+    if !relocations_ok(b, o) {
+        return false;
+    }
+    crate::check::hash_table_ok(image, b, view_of(o))
 }
