@@ -1,6 +1,7 @@
 -- The laws of specs/, for this crate's proofs and for those of the crates above it. `LookupSame` is the invariance law.
 pub mod ListTests
 pub mod FieldLaws
+pub mod ReadLaws
 pub mod Ranges
 pub mod SymbolLaws
 pub mod FindLaws

@@ -1,10 +1,10 @@
 // The object record and refusals 9 to 12: port of dynamic_fields.rs.
 ghost use mathlib.Core.Path.{_≡_};
-ghost use Prim.Native.Nat.{_*_, _≤_};
+ghost use Prim.Native.Nat.{_*_, _^_, _≤_, _<_};
 ghost use lib.ListN.{take};
 ghost use Rattle.object.specs.DynamicFields.{needsOf, Needed};
 ghost use Rattle.object.specs.LoadTable.{segmentsIn};
-ghost use Rattle.object.specs.Record.{heldBy, viewOf, entryCount, tableIn, recordIn, fieldsRefusal, fieldIs, needsOk, relocationsOk, tablesOk, BoundsOf, RelocationCounts};
+ghost use Rattle.object.specs.Record.{heldBy, viewOf, entryCount, tableIn, recordIn, fieldsRefusal, fieldIs, needsOk, relocationsOk, tablesOk, BoundsOf, RelocationCounts, ReadBy};
 use crate::dynamic_array::DynamicFields;
 use crate::dynamic_array::Field;
 use crate::dynamic_array::Needs;
@@ -87,7 +87,7 @@ fn fields_refusal(f: DynamicFields) -> u32
 // How many entries a table has, of `unit` bytes each.
 fn entry_count(pointer: Field, size: Field, unit: usize) -> usize
     requires { ⌜ 1 ≤ unit ⌝ }
-    ensures { λ r. ⌜ r ≡ entryCount pointer size unit ⌝ }
+    ensures { λ r. ⌜ (r ≡ entryCount pointer size unit) × (r * unit < 2 ^ 64) ⌝ }
 {
     if !pointer.given {
         return 0;
@@ -112,7 +112,7 @@ fn table_in(image: &[u8], f: DynamicFields) -> HashTable
 
 // The record of an image.
 fn object_in(image: &[u8], l: Loads, f: DynamicFields, n: Needs) -> ObjectData
-    ensures { λ r. ⌜ heldBy r ≡ recordIn (now (image .entry)) (segmentsIn l) f (take (n .count) (n .list)) ⌝ }
+    ensures { λ r. ⌜ (heldBy r ≡ recordIn (now (image .entry)) (segmentsIn l) f (take (n .count) (n .list))) × (r .needs ≡ n .count) × RelocationCounts r ⌝ }
 {
     let segments = l.list;
     let needed = n.list;
@@ -224,4 +224,68 @@ fn tables_ok(image: &[u8], o: ObjectData, host: bool) -> bool
         return false;
     }
     crate::check::hash_table_ok(image, b, view_of(o))
+}
+
+// A refusal, with a record of zeros.
+fn refused(number: u32) -> Read
+    ensures { λ r. ⌜ r .refusal ≡ number ⌝ }
+{
+    let none = Segment {
+        offset: 0,
+        vaddr: 0,
+        filesz: 0,
+        memsz: 0,
+        flags: 0,
+    };
+    let segments = [none; 16];
+    let needed = [0usize; 64];
+    let table = HashTable::Without;
+    let known = SymbolCount::Unknown;
+    let object = ObjectData {
+        segments: segments,
+        count: 0,
+        needed: needed,
+        needs: 0,
+        span: 0,
+        strings: 0,
+        symbols: 0,
+        table: table,
+        known: known,
+        rela: 0,
+        relas: 0,
+        plt: 0,
+        plts: 0,
+        relr: 0,
+        relrs: 0,
+    };
+    Read {
+        refusal: number,
+        object: object,
+    }
+}
+
+// Reads the record of an image, the placed bytes of an object's span, whose dynamic array stands at `d`.
+pub fn read_object(image: &[u8], l: Loads, d: Dynamic, host: bool) -> Read
+    ensures { λ r. ⌜ ReadBy host (now (image .entry)) (segmentsIn l) d r ⌝ }
+{
+    let Dynamic::At(at) = d else {
+        return refused(9);
+    };
+    let f = crate::dynamic_array::read_fields(image, at);
+    let number = fields_refusal(f);
+    if number != 0 {
+        return refused(number);
+    }
+    let n = crate::dynamic_array::read_needs(image, at);
+    if 64 < n.count {
+        return refused(11);
+    }
+    let o = object_in(image, l, f, n);
+    if !tables_ok(image, o, host) {
+        return refused(12);
+    }
+    Read {
+        refusal: 0,
+        object: o,
+    }
 }
