@@ -4,9 +4,10 @@ use mathlib.Core.Bool.{Bool, true}
 use mathlib.Core.List.{List}
 use mathlib.Core.Path.{_≡_}
 use Prim.Native.Nat.{ℕ, _+_, _*_, _/_, _^_, _<_}
-use lib.Dec.{eqb, leb}
+use lib.Dec.{eqb, leb, ltb}
 use lib.ListN.{length, take}
 use Rattle.words.specs.Choice.{pick, both, either, every}
+use Rattle.words.specs.Names.{nameAt}
 use Rattle.object.specs.Refusal.{require, after}
 use Rattle.object.specs.declared.program_header.Segment.{Segment}
 use Rattle.object.specs.declared.program_header.Dynamic.{Dynamic}
@@ -17,13 +18,18 @@ use Rattle.object.specs.declared.hash_tables.HashTable.{HashTable}
 use Rattle.object.specs.declared.hash_tables.HashTable.the-variants.{Without}
 use Rattle.object.specs.declared.hash_tables.View.{View}
 use Rattle.object.specs.declared.hash_tables.SymbolCount.{SymbolCount}
+use Rattle.object.specs.declared.hash_tables.SymbolCount.the-variants.{Unknown, Known}
+use Rattle.object.specs.declared.symbol.Symbol.{Symbol}
+use Rattle.object.specs.declared.dynamic_fields.CheckedSymbol.{CheckedSymbol}
+use Rattle.object.specs.declared.dynamic_fields.CheckedSymbol.the-variants.{Refused, Checked}
 use Rattle.object.specs.declared.dynamic_fields.ObjectData.{ObjectData}
 use Rattle.object.specs.declared.dynamic_fields.Read.{Read}
 use Rattle.object.specs.declared.table_bytes.Bounds.{Bounds}
 use Rattle.object.specs.DynamicFields.{fieldsOf, needsOf}
 use Rattle.object.specs.TableBytes.{isTable, tableBytes, tableName}
 use Rattle.object.specs.HashTable.{sysvAt, gnuAt}
-use Rattle.object.specs.HashCheck.{tableOk}
+use Rattle.object.specs.Symbol.{symbolAt}
+use Rattle.object.specs.HashCheck.{symbolOk, tableOk}
 use Rattle.object.specs.SymbolCount.{countOf}
 
 -- ---- the record
@@ -162,3 +168,24 @@ recordOf image segments (At at) = recordIn image segments (fieldsOf image at) (n
 pub record ReadBy (host : Bool) (image : List ℕ) (segments : List Segment) (d : Dynamic) (r : Read) : Type 0 where
   pub refusal : r .refusal ≡ readRefusal host image segments d
   pub object : r .refusal ≡ 0 → heldBy (r .object) ≡ recordOf image segments d
+
+-- ---- what an entry and a need name
+
+-- 14: "Symbol index at or above a known count"
+unfoldable pub indexOk : SymbolCount → ℕ → Bool
+indexOk Unknown index = true
+indexOk (Known count) index = ltb index count
+
+-- the symbol of an entry, or refusal 14, or 15: "That symbol or its name not in table bytes"
+unfoldable pub checkedSymbol : List ℕ → Record → ℕ → CheckedSymbol
+checkedSymbol image r index =
+    pick (indexOk (r .known) index)
+    (pick (symbolOk (isTableOf r) image (r .symbols) (r .strings) index) (Checked (symbolAt image (r .symbols) index)) (Refused 15))
+    (Refused 14)
+
+-- the name of a symbol, and of a need
+abbrev pub nameOf : List ℕ → Record → Symbol → List ℕ
+nameOf image r y = nameAt image (r .strings + y .name)
+
+abbrev pub needName : List ℕ → Record → ℕ → List ℕ
+needName image r n = nameAt image (r .strings + n)

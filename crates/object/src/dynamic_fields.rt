@@ -1,10 +1,11 @@
 // The object record and refusals 9 to 12: port of dynamic_fields.rs.
 ghost use mathlib.Core.Path.{_≡_};
 ghost use Prim.Native.Nat.{_*_, _^_, _≤_, _<_};
+ghost use lib.Dec.{ltb};
 ghost use lib.ListN.{take};
 ghost use Rattle.object.specs.DynamicFields.{needsOf, Needed};
 ghost use Rattle.object.specs.LoadTable.{segmentsIn};
-ghost use Rattle.object.specs.Record.{heldBy, viewOf, entryCount, tableIn, recordIn, fieldsRefusal, fieldIs, needsOk, relocationsOk, tablesOk, BoundsOf, RelocationCounts, ReadBy};
+ghost use Rattle.object.specs.Record.{heldBy, viewOf, entryCount, tableIn, recordIn, fieldsRefusal, fieldIs, needsOk, relocationsOk, tablesOk, BoundsOf, RelocationCounts, ReadBy, indexOk, checkedSymbol};
 use crate::dynamic_array::DynamicFields;
 use crate::dynamic_array::Field;
 use crate::dynamic_array::Needs;
@@ -14,6 +15,7 @@ use crate::hash_tables::View;
 use crate::program_header::Dynamic;
 use crate::program_header::Loads;
 use crate::program_header::Segment;
+use crate::symbol::Symbol;
 use crate::table_bytes::Bounds;
 
 // The record of an object: the first `count` of `segments`, of which the host has none, and the first `needs` of `needed`; the string and
@@ -288,4 +290,44 @@ pub fn read_object(image: &[u8], l: Loads, d: Dynamic, host: bool) -> Read
         refusal: 0,
         object: o,
     }
+}
+
+// The symbol of an entry, or its refusal: 14 or 15.
+pub enum CheckedSymbol {
+    Refused(u32),
+    Checked(Symbol),
+}
+
+// Whether an index is below a known count.
+fn index_ok(known: SymbolCount, index: u32) -> bool
+    ensures { λ r. ⌜ r ≡ indexOk known index ⌝ }
+{
+    match known {
+        SymbolCount::Unknown => true,
+        SymbolCount::Known(count) => below_count(index as usize, count),
+    }
+}
+
+fn below_count(index: usize, count: usize) -> bool
+    ensures { λ r. ⌜ r ≡ ltb index count ⌝ }
+{
+    if index < count {
+        return true;
+    }
+    false
+}
+
+// The symbol of an entry.
+pub fn checked_symbol(image: &[u8], o: ObjectData, index: u32) -> CheckedSymbol
+    ensures { λ r. ⌜ r ≡ checkedSymbol (now (image .entry)) (heldBy o) index ⌝ }
+{
+    let known = o.known;
+    if !index_ok(known, index) {
+        return CheckedSymbol::Refused(14);
+    }
+    let b = bounds_of(o);
+    if !crate::check::symbol_ok(image, b, o.symbols, o.strings, index) {
+        return CheckedSymbol::Refused(15);
+    }
+    CheckedSymbol::Checked(crate::symbol::symbol_at(image, o.symbols, index))
 }
