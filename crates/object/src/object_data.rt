@@ -1,4 +1,7 @@
 // One object, from its file: port of objects/object_data/mod.rs (`from_file`, `from_base`).
+ghost use mathlib.Core.Path.{_≡_};
+ghost use mathlib.Core.Bool.{true, false};
+ghost use Rattle.object.specs.Header.{headerRefusal};
 ghost use Rattle.object.specs.Placed.{PlacedBy};
 use crate::program_header::Loads;
 
@@ -9,7 +12,9 @@ pub struct Placed {
     pub loads: Loads,
 }
 
-fn refused(number: u32) -> Placed {
+fn refused(number: u32) -> Placed
+    ensures { λ r. ⌜ (r .refusal ≡ number) × (r .loads .count ≡ 0) ⌝ }
+{
     Placed {
         refusal: number,
         span: 0,
@@ -17,8 +22,11 @@ fn refused(number: u32) -> Placed {
     }
 }
 
-// The host: copied whole.
-fn place_host(part: &mut [u8], file: &[u8]) -> Placed {
+// The host, of which refusals 4 to 6 were passed: copied whole.
+fn place_host(part: &mut [u8], file: &[u8]) -> Placed
+    requires { ⌜ headerRefusal (now file) ≡ 0 ⌝ }
+    ensures { λ r. ⌜ PlacedBy true (now (file .entry)) (now (part .entry)) (now (part .exit)) r ⌝ }
+{
     let n = file.len();
     if n % 4096 != 0 {
         return refused(7);
@@ -34,8 +42,11 @@ fn place_host(part: &mut [u8], file: &[u8]) -> Placed {
     }
 }
 
-// The program or a library: its segments.
-fn place_file(part: &mut [u8], file: &[u8]) -> Placed {
+// The program or a library, of which refusals 4 to 6 were passed: its segments.
+fn place_file(part: &mut [u8], file: &[u8]) -> Placed
+    requires { ⌜ headerRefusal (now file) ≡ 0 ⌝ }
+    ensures { λ r. ⌜ PlacedBy false (now (file .entry)) (now (part .entry)) (now (part .exit)) r ⌝ }
+{
     let l = crate::program_header::read_loads(file);
     if !crate::segments::segments_ok(file, l) {
         return refused(7);

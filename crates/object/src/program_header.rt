@@ -53,7 +53,9 @@ fn segment_at(file: &[u8], start: usize, i: usize) -> Segment
 }
 
 // Sixteen headers of zeros.
-pub(crate) fn no_loads() -> Loads {
+pub(crate) fn no_loads() -> Loads
+    ensures { λ r. ⌜ (r .count ≡ 0) × (length (r .list) ≡ 16) ⌝ }
+{
     let none = Segment {
         offset: 0,
         vaddr: 0,

@@ -1,0 +1,2 @@
+-- The laws of specs/, for this crate's proofs and for those of the crates above it.
+pub mod ListTests
