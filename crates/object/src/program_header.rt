@@ -86,8 +86,10 @@ pub fn read_loads(file: &[u8]) -> Loads
             }
             found.list[at] = segment_at(file, start, i);
             found.count = at + 1;
+            i += 1;
+        } else {
+            i += 1;
         }
-        i += 1;
     }
     found
 }

@@ -1,3 +1,12 @@
+use borrow.Author.Needs.{needs}
+use denote.Ref.{now}
+use Prim.Native.Nat.{_-_, _<_}
+use mathlib.Core.Path.{_≡_, refl, sym, ap, _∙_}
+use native.Mathlib.Omega.{arith}
+use Rattle.object.specs.declared.program_header.Segment.{Segment}
+use Rattle.object.specs.declared.program_header.Dynamic.the-variants.{Missing, At}
+use Rattle.object.specs.ProgramHeader.{typeAt, dynamicIn, dynamicOf, segmentAt}
+use Rattle.object.proofs.LoadLaws.{dynamic-here, dynamic-before}
 use Rattle.object.proofs.program_header.dynamic_at.Statement.{statement}
 use Rattle.object.proofs.program_header.dynamic_at.Tie as tie
 use Rattle.object.proofs.program_header.dynamic_at.Reads as reads
@@ -8,40 +17,54 @@ use Rattle.object.proofs.program_header.segment_at.Reads as segment-at-
 use Rattle.object.proofs.program_header.type_at.Reads as type-at-reads
 
 abbrev Inv-loop : tie.InvT-loop
-Inv-loop file start i₀ i = ?
+Inv-loop file start i₀ i =
+    (i < 65536) × (dynamicIn file i ≡ dynamicOf file)
 
 abbrev μ-loop : tie.MeasureT-loop
-μ-loop file start i₀ i = ?
+μ-loop file start i₀ i =
+    i
 
 table-start-requires : tie.Need-table-start-requires Inv-loop μ-loop
-table-start-requires c κs = ?
+table-start-requires c κs = search needs
 
 header-count-requires : tie.Need-header-count-requires Inv-loop μ-loop
-header-count-requires c κs = ?
+header-count-requires c κs = search needs
 
 loop-holds : tie.Need-loop-holds Inv-loop μ-loop
-loop-holds c = ?
+loop-holds c =
+    (omega (arith, c .header-count .ensures), ap (dynamicIn (now (c .before .before .before .args .file))) (c .header-count .ensures .0))
 
 sub-i : tie.Need-sub-i Inv-loop μ-loop
-sub-i c = ?
+sub-i c = search needs
 
 type-at-requires : tie.Need-type-at-requires Inv-loop μ-loop
-type-at-requires c κs = ?
+type-at-requires c κs = search needs
 
 segment-at-requires : tie.Need-segment-at-requires Inv-loop μ-loop
-segment-at-requires c κs = ?
+segment-at-requires c κs = search needs
 
 returns : tie.Need-returns Inv-loop μ-loop
-returns c = ?
+returns c =
+    let file = now (c .before .before .before .before .before .before .before .before .args .file) in
+    let i = c .before .before .before .before .loop .i in
+    sym
+    (sym (c .before .before .before .before .loop .inv .1)
+    ∙ (dynamic-here file i (i - 1) (omega arith) (sym (c .before .before .type-at .ensures) ∙ c .before .if1 .taken) ∙ ap (λ (s : Segment). At (s .vaddr)) (sym (c .segment-at .ensures))))
 
 loop-less : tie.Need-loop-less Inv-loop μ-loop
-loop-less c = ?
+loop-less c = search needs
 
 loop-again : tie.Need-loop-again Inv-loop μ-loop
-loop-again c = ?
+loop-again c =
+    let file = now (c .before .before .before .before .before .before .before .args .file) in
+    let i = c .before .before .before .loop .i in
+    (omega arith, sym (dynamic-before file i (i - 1) (omega arith) (λ e. c .if1 .left (c .before .type-at .ensures ∙ e))) ∙ c .before .before .before .loop .inv .1)
 
 returns-2 : tie.Need-returns-2 Inv-loop μ-loop
-returns-2 c = ?
+unfolding dynamicIn
+returns-2 c =
+    let z : c .before .loop .i ≡ 0 = omega arith in
+    rw z at (c .before .loop .inv .1)
 
 pub dynamic-at-spec : {M : Type 1} → statement M
 dynamic-at-spec =

@@ -53,6 +53,15 @@ loop-less c = ?
 loop-again : tie.Need-loop-again Inv-loop μ-loop
 loop-again c = ?
 
+add-i-2 : tie.Need-add-i-2 Inv-loop μ-loop
+add-i-2 c = ?
+
+loop-less-2 : tie.Need-loop-less-2 Inv-loop μ-loop
+loop-less-2 c = ?
+
+loop-again-2 : tie.Need-loop-again-2 Inv-loop μ-loop
+loop-again-2 c = ?
+
 returns-2 : tie.Need-returns-2 Inv-loop μ-loop
 returns-2 c = ?
 
@@ -75,4 +84,7 @@ read-loads-spec =
     add-i
     loop-less
     loop-again
+    add-i-2
+    loop-less-2
+    loop-again-2
     returns-2)

@@ -1,0 +1,129 @@
+-- Refusals 7 and 8, and what placing leaves. Assumes nothing.
+use mathlib.Core.Path.{_≡_, refl, sym, ap, _∙_}
+use mathlib.Core.Bool.{Bool, true, false}
+use mathlib.Core.List.{List, [], _∷_}
+use Prim.Native.Nat.{ℕ, zero, suc, _+_, _%_, _≤_, _<_, min}
+use native.Mathlib.Omega.{arith}
+use borrow.Author.Tests.{eq-eqb, ne-eqb, le-leb, lt-leb, leb-true}
+use lib.Dec.{eqb, leb}
+use lib.ListN.{length, take}
+use Rattle.words.specs.Choice.{pick, both, every, some}
+use Rattle.words.specs.Memory.{Mem, mem, patch}
+use Rattle.words.specs.Page.{pageSize}
+use Rattle.words.proofs.Choice.{both-true}
+use Rattle.object.specs.Refusal.{require, after}
+use Rattle.object.specs.Header.{headerRefusal, tableEnd}
+use Rattle.object.specs.ProgramHeader.{loadsOf}
+use Rattle.object.specs.LoadTable.{segmentsIn, Loaded}
+use Rattle.object.specs.Segments.{holdsHeaders, segmentOk, allApart, segmentsOk, spanOf, placedOf}
+use Rattle.object.specs.Placed.{segmentsOf, objectSpan, objectBytes, placeRefusal, PlacedBy}
+use Rattle.object.specs.declared.program_header.Segment.{Segment}
+use Rattle.object.specs.declared.program_header.Loads.{Loads}
+use Rattle.object.specs.declared.object_data.Placed.{Placed}
+
+-- ---- the segments of a file and the table that holds them
+
+module _ (file : List ℕ) (ss : List Segment) (l : Loads) (loaded : Loaded ss l) where
+  pub many : 16 < l .count → segmentsOk file ss ≡ false
+  unfolding segmentsOk
+  many h = let g : 16 < length ss = omega (arith, loaded .count) in rw (lt-leb _ _ g)
+
+  module _ (h : l .count ≤ 16) where
+    few : length ss ≤ 16
+    few = omega (arith, loaded .count)
+
+    pub table-is : segmentsIn l ≡ ss
+    table-is = loaded .list few
+
+    -- the tests in their order
+    pub ok-first : some (holdsHeaders (tableEnd file)) (segmentsIn l) ≡ false → segmentsOk file ss ≡ false
+    unfolding segmentsOk
+    ok-first e = rw (le-leb _ _ few, ← table-is, e)
+
+    module _ (e : some (holdsHeaders (tableEnd file)) (segmentsIn l) ≡ true) where
+      pub ok-second : every (segmentOk (length file)) (segmentsIn l) ≡ false → segmentsOk file ss ≡ false
+      unfolding segmentsOk
+      ok-second g = rw (le-leb _ _ few, ← table-is, e, g)
+
+      pub ok-last :
+          {t : Bool} → every (segmentOk (length file)) (segmentsIn l) ≡ true → t ≡ allApart (segmentsIn l) → t ≡ segmentsOk file ss
+      unfolding segmentsOk
+      ok-last g d = rw (le-leb _ _ few, ← table-is, e, g) d
+
+  module _ (ok : segmentsOk file ss ≡ true) where
+    tests : (length ss ≤ 16) × (every (segmentOk (length file)) ss ≡ true)
+    unfolding segmentsOk
+    tests =
+        let a = both-true (leb (length ss) 16) _ ok in
+        let b = both-true (some (holdsHeaders (tableEnd file)) ss) _ (a .1) in
+        (leb-true (length ss) 16 (a .0), both-true (every (segmentOk (length file)) ss) _ (b .1) .0)
+
+    pub ok-count : l .count ≤ 16
+    ok-count = omega (arith, loaded .count, tests .0)
+
+    pub ok-table : segmentsIn l ≡ ss
+    ok-table = loaded .list (tests .0)
+
+    pub ok-every : every (segmentOk (length file)) (segmentsIn l) ≡ true
+    ok-every = rw ok-table (tests .1)
+
+-- ---- refusals 4 to 8
+
+module _ (host : Bool) (file : List ℕ) (room : ℕ) where
+  abbrev pub Passes : Bool → Type 0
+  Passes t = pick host (eqb (length file % pageSize) 0) (segmentsOk file (loadsOf file)) ≡ t
+
+  number-left : (n rest : ℕ) → (n ≡ 0 → ⊥) → after n rest ≡ n
+  unfolding after
+  number-left zero rest ne = absurd (ne refl)
+  number-left (suc n) rest ne = refl
+
+  pub refusal-header : (headerRefusal file ≡ 0 → ⊥) → placeRefusal host room file ≡ headerRefusal file
+  unfolding placeRefusal
+  refusal-header ne = number-left (headerRefusal file) _ ne
+
+  module _ (z : headerRefusal file ≡ 0) where
+    pub refusal-seven : Passes false → placeRefusal host room file ≡ 7
+    unfolding placeRefusal after require
+    refusal-seven e = rw (z, e)
+
+    pub refusal-eight : Passes true → room < objectSpan host file → placeRefusal host room file ≡ 8
+    unfolding placeRefusal after require
+    refusal-eight e h = rw (z, e, lt-leb (objectSpan host file) room h)
+
+    pub refusal-none : Passes true → objectSpan host file ≤ room → placeRefusal host room file ≡ 0
+    unfolding placeRefusal after require
+    refusal-none e h = rw (z, e, le-leb (objectSpan host file) room h)
+
+-- ---- what placing leaves
+
+pub refused-by :
+    (host : Bool) (file part : List ℕ) (r : Placed) (n : ℕ) → (n ≡ 0 → ⊥) → placeRefusal host (length part) file ≡ n → r .refusal ≡ n
+    → r .loads .count ≡ 0
+    → PlacedBy host file part part r
+refused-by host file part r n ne p e z =
+    record {
+      refusal = e ∙ sym p;
+      part = λ h. absurd (ne (sym e ∙ h));
+      span = λ h. absurd (ne (sym e ∙ h));
+      segments = λ h. absurd (ne (sym e ∙ h));
+      few = omega arith;
+      kept = λ h. refl;
+    }
+
+pub placed-by :
+    (host : Bool) (file entry exit : List ℕ) (r : Placed) → placeRefusal host (length entry) file ≡ 0 → r .refusal ≡ 0
+    → exit ≡ patch entry 0 (objectSpan host file) (objectBytes host file)
+    → r .span ≡ objectSpan host file
+    → segmentsIn (r .loads) ≡ segmentsOf host file
+    → r .loads .count ≤ 16
+    → PlacedBy host file entry exit r
+placed-by host file entry exit r p e x s l f =
+    record {
+      refusal = e ∙ sym p;
+      part = λ h. x;
+      span = λ h. s;
+      segments = λ h. l;
+      few = f;
+      kept = λ h. absurd (h e);
+    }
