@@ -29,7 +29,7 @@ module _ {A : Type 0} (l : List A) (n i : ℕ) where
   none-left h = drop-of-length-le (take n l) {i = i} (simp length-take (omega arith))
 
   module _ (d : A) (h : i < n) (k : i < length l) where
-    within : i < length (take n l)
+    pub within : i < length (take n l)
     within = simp length-take (omega arith)
 
     -- the element at `i` is the first of what is left

@@ -11,7 +11,8 @@ use lib.ListN.{length, take, set, length-append, length-set}
 use lib.Seq.{take-suc-set}
 use lib.Dec.{eqb}
 use Rattle.words.specs.Choice.{pick}
-use Rattle.object.specs.ProgramHeader.{typeAt, segmentAt, loadsIn, dynamicIn}
+use Rattle.object.specs.Header.{headerCount}
+use Rattle.object.specs.ProgramHeader.{typeAt, segmentAt, loadsIn, loadsOf, dynamicIn}
 use Rattle.object.specs.LoadTable.{segmentsIn, Loaded}
 use Rattle.object.specs.declared.program_header.Segment.{Segment}
 use Rattle.object.specs.declared.program_header.Loads.{Loads}
@@ -56,6 +57,24 @@ pub table-over :
 table-over file i n full t h =
     let one : length (loadsIn file (i + 1)) ≡ length (loadsIn file i) + 1 = ap length (loads-one file i t) ∙ length-append (loadsIn file i) (segmentAt file i ∷ []) in
     omega (arith, one, loads-grow file (i + 1) n (omega arith))
+
+-- what the table holds at the end, and where it is full
+pub loaded-all :
+    (file : List ℕ) (i : ℕ) (l : Loads) → i ≡ headerCount file → l .count ≡ length (loadsIn file i) → l .count ≤ 16
+    → length (l .list) ≡ 16
+    → segmentsIn l ≡ loadsIn file i
+    → Loaded (loadsOf file) l
+loaded-all file i l e c few room same =
+    let g : loadsIn file i ≡ loadsOf file = ap (loadsIn file) e in
+    record { count = omega (arith, ap length g); room = room; list = λ h. same ∙ g }
+
+pub loaded-over :
+    (file : List ℕ) (i : ℕ) (l : Loads) → i < headerCount file → length (loadsIn file i) ≡ 16 → typeAt file i ≡ 1 → l .count ≡ 17
+    → length (l .list) ≡ 16
+    → Loaded (loadsOf file) l
+loaded-over file i l h full t c room =
+    let g = table-over file i (headerCount file) full t h in
+    record { count = omega (arith, g); room = room; list = λ k. absurd (omega (arith, g)) }
 
 -- ---- PT_DYNAMIC
 

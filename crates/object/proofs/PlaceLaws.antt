@@ -8,14 +8,15 @@ use borrow.Author.Tests.{eq-eqb, ne-eqb, le-leb, lt-leb, leb-true}
 use lib.Dec.{eqb, leb}
 use lib.ListN.{length, take}
 use Rattle.words.specs.Choice.{pick, both, every, some}
-use Rattle.words.specs.Memory.{Mem, mem, patch}
+use Rattle.words.specs.Memory.{Mem, mem, from, patch}
 use Rattle.words.specs.Page.{pageSize}
 use Rattle.words.proofs.Choice.{both-true}
+use Rattle.words.proofs.Slices.{patch-same}
 use Rattle.object.specs.Refusal.{require, after}
 use Rattle.object.specs.Header.{headerRefusal, tableEnd}
 use Rattle.object.specs.ProgramHeader.{loadsOf}
 use Rattle.object.specs.LoadTable.{segmentsIn, Loaded}
-use Rattle.object.specs.Segments.{holdsHeaders, segmentOk, allApart, segmentsOk, spanOf, placedOf}
+use Rattle.object.specs.Segments.{holdsHeaders, segmentOk, allApart, segmentsOk, spanOf, placeSegments, placedOf}
 use Rattle.object.specs.Placed.{segmentsOf, objectSpan, objectBytes, placeRefusal, PlacedBy}
 use Rattle.object.specs.declared.program_header.Segment.{Segment}
 use Rattle.object.specs.declared.program_header.Loads.{Loads}
@@ -127,3 +128,56 @@ placed-by host file entry exit r p e x s l f =
       few = f;
       kept = λ h. absurd (h e);
     }
+
+-- ---- the host
+
+module _ (file entry : List ℕ) (z : headerRefusal file ≡ 0) where
+  pub host-seven : (length file % pageSize ≡ 0 → ⊥) → placeRefusal true (length entry) file ≡ 7
+  host-seven ne = refusal-seven true file (length entry) z (ne-eqb (length file % pageSize) 0 ne)
+
+  module _ (whole : length file % pageSize ≡ 0) where
+    pub host-eight : length entry < length file → placeRefusal true (length entry) file ≡ 8
+    unfolding objectSpan
+    host-eight h = refusal-eight true file (length entry) z (eq-eqb (length file % pageSize) 0 whole) h
+
+    pub host-placed :
+        (r : Placed) {exit : List ℕ} → length file ≤ length entry → exit ≡ patch entry 0 (length file) (from 0 (mem file))
+        → r .refusal ≡ 0
+        → r .span ≡ length file
+        → r .loads .count ≡ 0
+        → PlacedBy true file entry exit r
+    unfolding objectSpan objectBytes segmentsOf
+    host-placed r {exit} h x e s k =
+        placed-by true file entry exit r (refusal-none true file (length entry) z (eq-eqb (length file % pageSize) 0 whole) h) e
+        (x ∙ patch-same entry 0 (length file) (from 0 (mem file)) (mem file) (λ k l. ap (mem file) (omega arith))) s
+        (ap (λ (n : ℕ). take n (r .loads .list)) k) (omega arith)
+
+-- ---- the program or a library
+
+module _ (file entry : List ℕ) (z : headerRefusal file ≡ 0) where
+  pub file-seven : segmentsOk file (loadsOf file) ≡ false → placeRefusal false (length entry) file ≡ 7
+  file-seven e = refusal-seven false file (length entry) z e
+
+  module _ (l : Loads) (loaded : Loaded (loadsOf file) l) (ok : segmentsOk file (loadsOf file) ≡ true) {span : ℕ} (is : span ≡ spanOf (segmentsIn l)) where
+    span-is : span ≡ objectSpan false file
+    unfolding objectSpan
+    span-is = is ∙ ap (λ (ss : List Segment). spanOf ss) (ok-table file (loadsOf file) l loaded ok)
+
+    pub file-eight : length entry < span → placeRefusal false (length entry) file ≡ 8
+    file-eight h = refusal-eight false file (length entry) z ok (omega (arith, span-is))
+
+    pub file-placed :
+        (r : Placed) {exit : List ℕ} → span ≤ length entry
+        → exit ≡ patch entry 0 span (placeSegments file (segmentsIn l) (λ _. 0))
+        → r .refusal ≡ 0
+        → r .span ≡ span
+        → r .loads ≡ l
+        → PlacedBy false file entry exit r
+    unfolding objectBytes segmentsOf placedOf
+    file-placed r {exit} h x e s k =
+        placed-by false file entry exit r (refusal-none false file (length entry) z ok (omega (arith, span-is))) e
+        (x
+        ∙ (ap (λ (n : ℕ). patch entry 0 n (placeSegments file (segmentsIn l) (λ _. 0))) span-is
+        ∙ ap (λ (ss : List Segment). patch entry 0 (objectSpan false file) (placeSegments file ss (λ _. 0))) (ok-table file (loadsOf file) l loaded ok)))
+        (s ∙ span-is) (ap (λ (t : Loads). segmentsIn t) k ∙ ok-table file (loadsOf file) l loaded ok)
+        (rw k (ok-count file (loadsOf file) l loaded ok))

@@ -10,18 +10,19 @@ use native.Mathlib.Nat.{mod-eq-of-lt}
 use borrow.Author.Tests.{eq-eqb, ne-eqb, le-leb, lt-leb, leb-true, eqb-true}
 use lib.Dec.{eqb, leb}
 use lib.ListN.{length, take, drop, getD}
+use lib.Seq.{getD-take}
 use Rattle.words.specs.Choice.{both, either, every, some}
 use Rattle.words.specs.Memory.{Mem, mem, from, In, write, patch}
 use Rattle.words.specs.Page.{pageSize, pageStart, pageEnd}
 use Rattle.words.proofs.Choice.{both-true}
 use Rattle.words.proofs.Memory.{Out, in-or-out, write-in, write-out}
-use Rattle.words.proofs.Slices.{mem-ext, length-patch, mem-patch-at}
+use Rattle.words.proofs.Slices.{mem-ext, length-patch, mem-patch-at, patch-same}
 use Rattle.object.specs.Segments.{segmentOk, isReadable, pagesApart, allApart, endOf, spanOf, fileBytes, placeSegment, placeSegments}
 use Rattle.object.specs.TableBytes.{isWritable}
 use Rattle.object.specs.LoadTable.{segmentsIn, noSegment}
 use Rattle.object.specs.declared.program_header.Segment.{Segment}
 use Rattle.object.specs.declared.program_header.Loads.{Loads}
-use Rattle.object.proofs.ListTests.{one-left, none-left, every-here}
+use Rattle.object.proofs.ListTests.{one-left, none-left, within, every-here}
 
 -- ---- pages below 2^28: no sum wraps
 
@@ -98,6 +99,10 @@ end-at [] i d h = absurd (omega arith)
 end-at (s ∷ ss) zero d h = omega arith
 end-at (s ∷ ss) (suc i) d h = omega (arith, end-at ss i d (omega arith))
 
+pub end-here :
+    (l : List Segment) (n i : ℕ) (d : Segment) → i < n → i < length l → getD l i d .vaddr + getD l i d .memsz ≤ endOf (take n l)
+end-here l n i d h k = rw (getD-take n l i d h) at (end-at (take n l) i d (within l n i d h k))
+
 -- ---- placing
 
 -- a write inside the first `span` bytes, which were those of a memory, is one to that memory
@@ -134,6 +139,13 @@ patch-over xs span m at n f fits inner =
     over i l =
         mem-patch-at (patch xs 0 span m) at n f i (omega (arith, length-patch xs 0 span m))
         ∙ (go i l (in-or-out at n i) (in-or-out 0 span i) ∙ sym (mem-patch-at xs 0 span (write m at n f) i l))
+
+-- so a second write of those bytes is all that is left
+pub patch-again :
+    (xs : List ℕ) (span : ℕ) (m f : Mem) → span ≤ length xs → patch (patch xs 0 span m) 0 span f ≡ patch xs 0 span f
+patch-again xs span m f fits =
+    patch-over xs span m 0 span f fits (omega arith)
+    ∙ patch-same xs 0 span (write m 0 span f) f (λ k h. write-in m 0 span f k (omega arith) ∙ ap f (omega arith))
 
 -- one segment
 pub place-one :

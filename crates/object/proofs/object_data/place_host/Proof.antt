@@ -1,3 +1,11 @@
+use mathlib.Core.Path.{_≡_, refl, sym, ap, _∙_}
+use denote.Ref.{now}
+use lib.ListN.{length}
+use native.Mathlib.Omega.{arith}
+use borrow.Author.Tests.{not-true, not-false}
+use Rattle.object.specs.ProgramHeader.{loadsOf}
+use Rattle.object.specs.Header.{headerRefusal}
+use Rattle.object.proofs.PlaceLaws.{refused-by, refusal-header, host-seven, host-eight, host-placed, file-seven, file-eight, file-placed, ok-count, ok-every}
 use borrow.Author.Needs.{needs}
 use Rattle.object.proofs.object_data.place_host.Statement.{statement}
 use Rattle.object.proofs.object_data.place_host.Tie as tie
@@ -11,13 +19,19 @@ refused-requires : tie.Need-refused-requires
 refused-requires c κs = search needs
 
 returns : tie.Need-returns
-returns c = ?
+returns c =
+    let a = c .before .before .before .before .args in
+    refused-by _ (now (a .file)) (now (a .part)) _ 7 (λ h. omega arith)
+    (host-seven (now (a .file)) (now (a .part)) (c .before .before .before .before .pre) (c .before .if1 .taken)) (c .refused .ensures .0) (c .refused .ensures .1)
 
 refused-requires-2 : tie.Need-refused-requires-2
 refused-requires-2 c κs = search needs
 
 returns-2 : tie.Need-returns-2
-returns-2 c = ?
+returns-2 c =
+    let a = c .before .before .before .before .before .args in
+    refused-by _ (now (a .file)) (now (a .part)) _ 8 (λ h. omega arith)
+    (host-eight (now (a .file)) (now (a .part)) (c .before .before .before .before .before .pre) (c .before .before .if1 .left) (c .before .if2 .taken)) (c .refused2 .ensures .0) (c .refused2 .ensures .1)
 
 copy-requires : tie.Need-copy-requires
 copy-requires c κs = search needs
@@ -29,7 +43,9 @@ same-length : tie.Need-same-length
 same-length c = search needs
 
 returns-3 : tie.Need-returns-3
-returns-3 c = ?
+returns-3 c =
+    let a = c .before .before .before .before .before .before .before .before .before .args in
+    host-placed (now (a .file)) (now (a .part)) (c .before .before .before .before .before .before .before .before .before .pre) (c .before .before .before .before .before .before .if1 .left) _ (c .before .before .before .before .before .if2 .left) (c .before .before .before .copy .ensures) refl refl (c .no-loads .ensures .0)
 
 pub place-host-spec : {M : Type 1} → statement M
 place-host-spec =
