@@ -1,23 +1,19 @@
 -- The PT_LOAD headers and the last PT_DYNAMIC of a file, header by header. Assumes nothing.
-use mathlib.Core.Path.{_≡_, refl, sym, ap, _∙_}
-use mathlib.Core.Bool.{Bool, true, false}
+use mathlib.Core.Path.{_≡_, ap, _∙_}
 use mathlib.Core.List.{List, [], _∷_, _++_, append-nil}
-use Prim.Native.Nat.{ℕ, zero, suc, _+_, _≤_, _<_, min}
+use Prim.Native.Nat.{ℕ, zero, suc, _+_, _≤_, _<_}
 use native.Mathlib.Omega.{arith}
 use native.Mathlib.Decide.{decLe}
 use native.Mathlib.Numerals.{add-one}
 use borrow.Author.Tests.{eq-eqb, ne-eqb}
-use lib.ListN.{length, take, set, length-append, length-set}
+use lib.ListN.{length, take, set, length-append}
 use lib.Seq.{take-suc-set}
-use lib.Dec.{eqb}
-use Rattle.words.specs.Choice.{pick}
 use Rattle.object.specs.Header.{headerCount}
 use Rattle.object.specs.ProgramHeader.{typeAt, segmentAt, loadsIn, loadsOf, dynamicIn}
 use Rattle.object.specs.LoadTable.{segmentsIn, Loaded}
 use Rattle.object.specs.declared.program_header.Segment.{Segment}
 use Rattle.object.specs.declared.program_header.Loads.{Loads}
-use Rattle.object.specs.declared.program_header.Dynamic.{Dynamic}
-use Rattle.object.specs.declared.program_header.Dynamic.the-variants.{Missing, At}
+use Rattle.object.specs.declared.program_header.Dynamic.the-variants.{At}
 
 -- ---- PT_LOAD
 

@@ -1,14 +1,14 @@
 -- Refusals 7 and 8, and what placing leaves. Assumes nothing.
 use mathlib.Core.Path.{_≡_, refl, sym, ap, _∙_}
 use mathlib.Core.Bool.{Bool, true, false}
-use mathlib.Core.List.{List, [], _∷_}
-use Prim.Native.Nat.{ℕ, zero, suc, _+_, _%_, _≤_, _<_, min}
+use mathlib.Core.List.{List}
+use Prim.Native.Nat.{ℕ, zero, suc, _%_, _≤_, _<_}
 use native.Mathlib.Omega.{arith}
 use borrow.Author.Tests.{eq-eqb, ne-eqb, le-leb, lt-leb, leb-true}
 use lib.Dec.{eqb, leb}
 use lib.ListN.{length, take}
-use Rattle.words.specs.Choice.{pick, both, every, some}
-use Rattle.words.specs.Memory.{Mem, mem, from, patch}
+use Rattle.words.specs.Choice.{pick, every, some}
+use Rattle.words.specs.Memory.{mem, from, patch}
 use Rattle.words.specs.Page.{pageSize}
 use Rattle.words.proofs.Choice.{both-true}
 use Rattle.words.proofs.Slices.{patch-same}

@@ -1,13 +1,13 @@
 -- What a file that is not refused by its ELF header satisfies. Assumes nothing.
-use mathlib.Core.Path.{_≡_, refl, sym, ap, _∙_}
+use mathlib.Core.Path.{_≡_, refl}
 use mathlib.Core.Bool.{Bool, true, false}
 use mathlib.Core.List.{List}
-use Prim.Native.Nat.{ℕ, zero, suc, _+_, _*_, _≤_, _<_}
+use Prim.Native.Nat.{ℕ, suc, _≤_}
 use native.Mathlib.Omega.{arith}
 use borrow.Author.Tests.{leb-true}
 use lib.Dec.{eqb, leb}
 use lib.ListN.{length}
-use Rattle.object.specs.Refusal.{require, after}
+use Rattle.object.specs.Refusal.{require}
 use Rattle.object.specs.Header.{headerRefusal, magic, fileType, class, encoding, machine, headerSize, headerCount, tableEnd}
 
 -- a chain that gives 0 passed its first test

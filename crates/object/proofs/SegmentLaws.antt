@@ -1,28 +1,25 @@
 -- The load segments: what a segment that is not refused satisfies, the tests and the span of the table from `i` on, and where a
 -- segment's bytes go. Assumes nothing.
-use mathlib.Core.Path.{_≡_, refl, sym, ap, _∙_}
+use mathlib.Core.Path.{_≡_, sym, ap, _∙_}
 use mathlib.Core.Logic.{_⊎_, inl, inr}
-use mathlib.Core.Bool.{Bool, true, false, not}
+use mathlib.Core.Bool.{Bool, true, not}
 use mathlib.Core.List.{List, [], _∷_}
-use Prim.Native.Nat.{ℕ, zero, suc, _+_, _-_, _/_, _%_, _^_, _≤_, _<_, max}
+use Prim.Native.Nat.{ℕ, zero, suc, _+_, _-_, _%_, _^_, _≤_, _<_, max}
 use native.Mathlib.Omega.{arith}
 use native.Mathlib.Nat.{mod-eq-of-lt}
-use borrow.Author.Tests.{eq-eqb, ne-eqb, le-leb, lt-leb, leb-true, eqb-true}
+use borrow.Author.Tests.{leb-true, eqb-true}
 use lib.Dec.{eqb, leb}
 use lib.ListN.{length, take, drop, getD}
 use lib.Seq.{getD-take}
-use Rattle.words.specs.Choice.{both, either, every, some}
+use Rattle.words.specs.Choice.{both, every}
 use Rattle.words.specs.Memory.{Mem, mem, from, In, write, patch}
 use Rattle.words.specs.Page.{pageSize, pageStart, pageEnd}
 use Rattle.words.proofs.Choice.{both-true}
 use Rattle.words.proofs.Memory.{Out, in-or-out, write-in, write-out}
 use Rattle.words.proofs.Slices.{mem-ext, length-patch, mem-patch-at, patch-same}
-use Rattle.object.specs.Segments.{segmentOk, isReadable, pagesApart, allApart, endOf, spanOf, fileBytes, placeSegment, placeSegments}
-use Rattle.object.specs.TableBytes.{isWritable}
-use Rattle.object.specs.LoadTable.{segmentsIn, noSegment}
+use Rattle.object.specs.Segments.{segmentOk, pagesApart, allApart, endOf, fileBytes, placeSegment, placeSegments}
 use Rattle.object.specs.declared.program_header.Segment.{Segment}
-use Rattle.object.specs.declared.program_header.Loads.{Loads}
-use Rattle.object.proofs.ListTests.{one-left, none-left, within, every-here}
+use Rattle.object.proofs.ListTests.{one-left, none-left, within}
 
 -- ---- pages below 2^28: no sum wraps
 
@@ -153,8 +150,8 @@ pub place-one :
     → pageEnd (s .vaddr + s .memsz) ≤ span
     → ys ≡ patch xs 0 span m
     → zs
-      ≡ patch (patch ys (pageStart (s .vaddr)) (fileBytes s) (from (pageStart (s .offset)) (mem file))) (s .vaddr + s .filesz)
-        (s .memsz - s .filesz) (λ _. 0)
+    ≡ patch (patch ys (pageStart (s .vaddr)) (fileBytes s) (from (pageStart (s .offset)) (mem file))) (s .vaddr + s .filesz)
+    (s .memsz - s .filesz) (λ _. 0)
     → zs ≡ patch xs 0 span (placeSegment file s m)
 unfolding placeSegment
 place-one xs file span m s o fits inner e g =

@@ -1,19 +1,15 @@
+-- `object::header::header_refusal` meets its contract: each return is the chain of the definition, cut where its test fails. Assumes
+-- nothing.
 use Prim.Native.Nat.{_<_, _≤_}
-use denote.Ref.{now}
-use lib.ListN.{length}
 use native.Mathlib.Omega.{arith}
 use borrow.Author.Tests.{eq-eqb, ne-eqb, le-leb, lt-leb}
+use borrow.Author.Needs.{needs}
+use lib.ListN.{length}
+use denote.Ref.{now}
 use Rattle.object.specs.Refusal.{require}
 use Rattle.object.specs.Header.{headerRefusal, headerCount, tableEnd}
-use borrow.Author.Needs.{needs}
 use Rattle.object.proofs.header.header_refusal.Statement.{statement}
 use Rattle.object.proofs.header.header_refusal.Tie as tie
-use Rattle.object.proofs.header.header_refusal.Reads as reads
-use Rattle.object.proofs.header.header_refusal.Lts as lts
-use Rattle.words.proofs.bytes.byte_at.Reads as byte-at-reads
-use Rattle.words.proofs.bytes.u16_at.Reads as u16-at-reads
-use Rattle.words.proofs.bytes.u32_at.Reads as u32-at-reads
-use Rattle.words.proofs.bytes.u64_at.Reads as u64-at-reads
 
 returns : tie.Need-returns
 unfolding headerRefusal require

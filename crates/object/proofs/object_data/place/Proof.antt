@@ -1,20 +1,13 @@
-use mathlib.Core.Path.{_≡_, refl, sym, ap, _∙_}
-use denote.Ref.{now}
-use lib.ListN.{length}
-use native.Mathlib.Omega.{arith}
-use borrow.Author.Tests.{not-true, not-false}
-use Rattle.object.specs.ProgramHeader.{loadsOf}
-use Rattle.object.specs.Header.{headerRefusal}
-use Rattle.object.proofs.PlaceLaws.{refused-by, refusal-header, host-seven, host-eight, host-placed, file-seven, file-eight, file-placed, ok-count, ok-every}
+-- `object::object_data::place` meets its contract: a refusal by the header, else what the host's or the file's placing gives. Assumes
+-- nothing.
+use mathlib.Core.Path.{_≡_, sym, _∙_}
 use borrow.Author.Needs.{needs}
+use lib.ListN.{length}
+use denote.Ref.{now}
+use Rattle.object.specs.Header.{headerRefusal}
+use Rattle.object.proofs.PlaceLaws.{refused-by, refusal-header}
 use Rattle.object.proofs.object_data.place.Statement.{statement}
 use Rattle.object.proofs.object_data.place.Tie as tie
-use Rattle.object.proofs.object_data.place.Reads as reads
-use Rattle.object.proofs.object_data.place.Lts as lts
-use Rattle.object.proofs.header.header_refusal.Reads as header-refusal-reads
-use Rattle.object.proofs.object_data.place_file.Reads as place-file-reads
-use Rattle.object.proofs.object_data.place_host.Reads as place-host-reads
-use Rattle.object.proofs.object_data.refused.Reads as refused-reads
 
 header-refusal-requires : tie.Need-header-refusal-requires
 header-refusal-requires c κs = search needs

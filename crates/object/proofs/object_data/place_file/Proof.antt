@@ -1,21 +1,13 @@
-use mathlib.Core.Path.{_≡_, refl, sym, ap, _∙_}
-use denote.Ref.{now}
-use lib.ListN.{length}
+-- `object::object_data::place_file` meets its contract: refusal 7, refusal 8, or the placed segments. Assumes nothing.
+use mathlib.Core.Path.{refl, sym, _∙_}
 use native.Mathlib.Omega.{arith}
 use borrow.Author.Tests.{not-true, not-false}
-use Rattle.object.specs.ProgramHeader.{loadsOf}
-use Rattle.object.specs.Header.{headerRefusal}
-use Rattle.object.proofs.PlaceLaws.{refused-by, refusal-header, host-seven, host-eight, host-placed, file-seven, file-eight, file-placed, ok-count, ok-every}
 use borrow.Author.Needs.{needs}
+use denote.Ref.{now}
+use Rattle.object.specs.ProgramHeader.{loadsOf}
+use Rattle.object.proofs.PlaceLaws.{refused-by, file-seven, file-eight, file-placed, ok-count, ok-every}
 use Rattle.object.proofs.object_data.place_file.Statement.{statement}
 use Rattle.object.proofs.object_data.place_file.Tie as tie
-use Rattle.object.proofs.object_data.place_file.Reads as reads
-use Rattle.object.proofs.object_data.place_file.Lts as lts
-use Rattle.object.proofs.object_data.refused.Reads as refused-reads
-use Rattle.object.proofs.program_header.read_loads.Reads as read-loads-reads
-use Rattle.object.proofs.segments.place_segments.Reads as place-segments-reads
-use Rattle.object.proofs.segments.segments_ok.Reads as segments-ok-reads
-use Rattle.object.proofs.segments.span_of.Reads as span-of-reads
 
 read-loads-requires : tie.Need-read-loads-requires
 read-loads-requires c κs = search needs

@@ -1,19 +1,11 @@
-use mathlib.Core.Path.{_≡_, refl, sym, ap, _∙_}
-use denote.Ref.{now}
-use lib.ListN.{length}
+-- `object::object_data::place_host` meets its contract: refusal 7, refusal 8, or the file's bytes. Assumes nothing.
+use mathlib.Core.Path.{refl}
 use native.Mathlib.Omega.{arith}
-use borrow.Author.Tests.{not-true, not-false}
-use Rattle.object.specs.ProgramHeader.{loadsOf}
-use Rattle.object.specs.Header.{headerRefusal}
-use Rattle.object.proofs.PlaceLaws.{refused-by, refusal-header, host-seven, host-eight, host-placed, file-seven, file-eight, file-placed, ok-count, ok-every}
 use borrow.Author.Needs.{needs}
+use denote.Ref.{now}
+use Rattle.object.proofs.PlaceLaws.{refused-by, host-seven, host-eight, host-placed}
 use Rattle.object.proofs.object_data.place_host.Statement.{statement}
 use Rattle.object.proofs.object_data.place_host.Tie as tie
-use Rattle.object.proofs.object_data.place_host.Reads as reads
-use Rattle.object.proofs.object_data.place_host.Lts as lts
-use Rattle.object.proofs.object_data.refused.Reads as refused-reads
-use Rattle.object.proofs.program_header.no_loads.Reads as no-loads-reads
-use Rattle.words.proofs.bytes.copy.Reads as copy-reads
 
 refused-requires : tie.Need-refused-requires
 refused-requires c κs = search needs

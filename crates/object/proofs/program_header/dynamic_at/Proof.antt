@@ -1,20 +1,16 @@
+-- `object::program_header::dynamic_at` meets its contract. The invariant: the last PT_DYNAMIC among the first `i` headers is the last
+-- of all. Assumes nothing.
+use mathlib.Core.Path.{_≡_, sym, ap, _∙_}
+use Prim.Native.Nat.{_-_, _<_}
+use native.Mathlib.Omega.{arith}
 use borrow.Author.Needs.{needs}
 use denote.Ref.{now}
-use Prim.Native.Nat.{_-_, _<_}
-use mathlib.Core.Path.{_≡_, refl, sym, ap, _∙_}
-use native.Mathlib.Omega.{arith}
 use Rattle.object.specs.declared.program_header.Segment.{Segment}
-use Rattle.object.specs.declared.program_header.Dynamic.the-variants.{Missing, At}
-use Rattle.object.specs.ProgramHeader.{typeAt, dynamicIn, dynamicOf, segmentAt}
+use Rattle.object.specs.declared.program_header.Dynamic.the-variants.{At}
+use Rattle.object.specs.ProgramHeader.{dynamicIn, dynamicOf}
 use Rattle.object.proofs.LoadLaws.{dynamic-here, dynamic-before}
 use Rattle.object.proofs.program_header.dynamic_at.Statement.{statement}
 use Rattle.object.proofs.program_header.dynamic_at.Tie as tie
-use Rattle.object.proofs.program_header.dynamic_at.Reads as reads
-use Rattle.object.proofs.program_header.dynamic_at.Lts as lts
-use Rattle.object.proofs.header.header_count.Reads as header-count-reads
-use Rattle.object.proofs.header.table_start.Reads as table-start-reads
-use Rattle.object.proofs.program_header.segment_at.Reads as segment-at-reads
-use Rattle.object.proofs.program_header.type_at.Reads as type-at-reads
 
 abbrev Inv-loop : tie.InvT-loop
 Inv-loop file start i₀ i =

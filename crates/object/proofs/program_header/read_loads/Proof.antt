@@ -1,23 +1,17 @@
-use borrow.Author.Needs.{needs}
-use Prim.Native.Nat.{_+_, _-_, _≤_}
+-- `object::program_header::read_loads` meets its contract. The invariant: the table holds the PT_LOAD headers among the first `i`, at
+-- most 16. A 17th ends it, and no header after that makes them fewer. Assumes nothing.
 use mathlib.Core.List.{[], _∷_}
 use mathlib.Core.Path.{_≡_, refl, sym, ap, _∙_}
-use denote.Ref.{now}
-use lib.ListN.{length, take, length-set, length-append}
+use Prim.Native.Nat.{_-_, _≤_}
 use native.Mathlib.Omega.{arith}
-use Rattle.object.specs.declared.program_header.Segment.{Segment}
+use borrow.Author.Needs.{needs}
+use lib.ListN.{length, take, length-set, length-append}
+use denote.Ref.{now}
 use Rattle.object.specs.LoadTable.{segmentsIn}
-use Rattle.object.specs.ProgramHeader.{typeAt, segmentAt, loadsIn, loadsOf}
+use Rattle.object.specs.ProgramHeader.{segmentAt, loadsIn}
 use Rattle.object.proofs.LoadLaws.{loads-one, loads-none, table-more, loaded-all, loaded-over}
 use Rattle.object.proofs.program_header.read_loads.Statement.{statement}
 use Rattle.object.proofs.program_header.read_loads.Tie as tie
-use Rattle.object.proofs.program_header.read_loads.Reads as reads
-use Rattle.object.proofs.program_header.read_loads.Lts as lts
-use Rattle.object.proofs.header.header_count.Reads as header-count-reads
-use Rattle.object.proofs.header.table_start.Reads as table-start-reads
-use Rattle.object.proofs.program_header.no_loads.Reads as no-loads-reads
-use Rattle.object.proofs.program_header.segment_at.Reads as segment-at-reads
-use Rattle.object.proofs.program_header.type_at.Reads as type-at-reads
 
 abbrev Inv-loop : tie.InvT-loop
 Inv-loop file start n found₀ i₀ found i =
@@ -76,9 +70,13 @@ loop-again c =
     let i = c .before .before .before .before .before .loop .i in
     let v = c .before .before .before .before .before .loop .inv in
     let t = sym (c .before .before .before .type-at .ensures) ∙ c .before .before .if1 .taken in
-    let one = ap length (loads-one file i t) ∙ length-append (loadsIn file i) (segmentAt file i ∷ []) in
-    (omega arith, omega (arith, one, v .1), omega (arith, c .before .if2 .left), length-set (c .before .before .before .before .before .loop .found .list) (c .before .before .before .before .before .loop .found .count) (c .segment-at .result) ∙ v .3,
-    table-more file i (c .before .before .before .before .before .loop .found) (c .before .if2 .left) (v .3) (v .4) _ t (c .segment-at .ensures))
+    let one = ap length (loads-one file i t) ∙ length-append (loadsIn file i) (segmentAt file i ∷ []) in (
+      omega arith,
+      omega (arith, one, v .1),
+      omega (arith, c .before .if2 .left),
+      length-set (c .before .before .before .before .before .loop .found .list) (c .before .before .before .before .before .loop .found .count) (c .segment-at .result) ∙ v .3,
+      table-more file i (c .before .before .before .before .before .loop .found) (c .before .if2 .left) (v .3) (v .4) _ t (c .segment-at .ensures),
+    )
 
 add-i-2 : tie.Need-add-i-2 Inv-loop μ-loop
 add-i-2 c = search needs

@@ -1,11 +1,8 @@
-use Rattle.object.specs.ProgramHeader.{segmentAt}
+-- `object::program_header::segment_at` meets its contract, field by field. Assumes nothing.
 use borrow.Author.Needs.{needs}
+use Rattle.object.specs.ProgramHeader.{segmentAt}
 use Rattle.object.proofs.program_header.segment_at.Statement.{statement}
 use Rattle.object.proofs.program_header.segment_at.Tie as tie
-use Rattle.object.proofs.program_header.segment_at.Reads as reads
-use Rattle.object.proofs.program_header.segment_at.Lts as lts
-use Rattle.words.proofs.bytes.u32_off.Reads as u32-off-reads
-use Rattle.words.proofs.bytes.u64_off.Reads as u64-off-reads
 
 mul-k : tie.Need-mul-k
 mul-k c = search needs

@@ -1,11 +1,7 @@
-use mathlib.Core.Path.{_∙_, ap}
-use Rattle.object.specs.ProgramHeader.{typeAt}
+-- `object::program_header::type_at` meets its contract: the start that it is given is the table's. Assumes nothing.
 use borrow.Author.Needs.{needs}
 use Rattle.object.proofs.program_header.type_at.Statement.{statement}
 use Rattle.object.proofs.program_header.type_at.Tie as tie
-use Rattle.object.proofs.program_header.type_at.Reads as reads
-use Rattle.object.proofs.program_header.type_at.Lts as lts
-use Rattle.words.proofs.bytes.u32_off.Reads as u32-off-reads
 
 mul-u32-off : tie.Need-mul-u32-off
 mul-u32-off c = search needs
