@@ -1,5 +1,9 @@
 -- The laws of specs/, for this crate's proofs and for those of the crates above it. `LookupSame` is the invariance law.
 pub mod ListTests
+pub mod RefusalLaws
+pub mod LoadLaws
+pub mod SegmentLaws
+pub mod PlaceLaws
 pub mod FieldLaws
 pub mod ReadLaws
 pub mod Ranges

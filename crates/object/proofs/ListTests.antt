@@ -1,6 +1,6 @@
 -- Tests of every element, and of some element, of the first `n` elements of an array, by a loop: what is left to test from `i` on.
 -- Assumes nothing.
-use mathlib.Core.Path.{_≡_, refl, sym, ap, _∙_}
+use mathlib.Core.Path.{_≡_, sym, ap, _∙_}
 use mathlib.Core.Bool.{Bool, true, false}
 use mathlib.Core.List.{List, [], _∷_, map}
 use Prim.Native.Nat.{ℕ, zero, suc, _+_, _≤_, _<_}
@@ -29,7 +29,7 @@ module _ {A : Type 0} (l : List A) (n i : ℕ) where
   none-left h = drop-of-length-le (take n l) {i = i} (simp length-take (omega arith))
 
   module _ (d : A) (h : i < n) (k : i < length l) where
-    within : i < length (take n l)
+    pub within : i < length (take n l)
     within = simp length-take (omega arith)
 
     -- the element at `i` is the first of what is left

@@ -1,5 +1,10 @@
 pub mod Refusal
+pub mod Header
+pub mod ProgramHeader
+pub mod LoadTable
 pub mod TableBytes
+pub mod Segments
+pub mod Placed
 pub mod DynamicArray
 pub mod DynamicFields
 pub mod FieldSteps
@@ -8,6 +13,5 @@ pub mod HashTable
 pub mod HashCheck
 pub mod SymbolCount
 pub mod KnownRange
-pub mod LoadTable
 pub mod Record
 pub mod Entries

@@ -64,9 +64,11 @@ loop-again c =
     let a = c .before .before .before .before .before .before .args in
     let l = c .before .before .before .before .loop in
     let image = now (a .image) in
-    let wide : length (a .t3 .needed) ≡ 64 = search needs in
-    (search needs, l .inv .1 ∙ every-turn (a .t3 .needed) (a .t3 .needs) (l .i) 0 (omega arith) (omega arith) (nameOk image (a .t3)) true
-    (rw (c .before .before .before .before .before .before .pre .0 .span, c .before .before .before .before .before .before .pre .0 .segments) at (sym (c .before .name-ok .ensures) ∙ not-false _ (c .if1 .left))))
+    let wide : length (a .t3 .needed) ≡ 64 = search needs in (
+      search needs,
+      l .inv .1 ∙ every-turn (a .t3 .needed) (a .t3 .needs) (l .i) 0 (omega arith) (omega arith) (nameOk image (a .t3)) true
+          (rw (c .before .before .before .before .before .before .pre .0 .span, c .before .before .before .before .before .before .pre .0 .segments) at (sym (c .before .name-ok .ensures) ∙ not-false _ (c .if1 .left))),
+    )
 
 returns-2 : tie.Need-returns-2 Inv-loop μ-loop
 returns-2 c =

@@ -31,8 +31,7 @@ unfolding recordIn
 returns c =
     let h1 : 24 * c .before .before .entry-count .result < 2 ^ 64 = omega (arith, c .before .before .entry-count .ensures .1) in
     let h2 : 24 * c .before .entry-count2 .result < 2 ^ 64 = omega (arith, c .before .entry-count2 .ensures .1) in
-    let h3 : 8 * c .entry-count3 .result < 2 ^ 64 = omega (arith, c .entry-count3 .ensures .1) in
-    (
+    let h3 : 8 * c .entry-count3 .result < 2 ^ 64 = omega (arith, c .entry-count3 .ensures .1) in (
       rw (← c .before .before .before .before .before .before .before .before .before .before .before .before .table-in .ensures, ← c .before .before .before .symbol-count .ensures, ← c .before .before .entry-count .ensures .0, ← c .before .entry-count2 .ensures .0, ← c .entry-count3 .ensures .0),
       refl,
       record { relas = h1; plts = h2; relrs = h3 },
