@@ -6,6 +6,7 @@ pub mod SegmentLaws
 pub mod PlaceLaws
 pub mod FieldLaws
 pub mod ReadLaws
+pub mod LoadedLaws
 pub mod Ranges
 pub mod SymbolLaws
 pub mod FindLaws

@@ -14,6 +14,7 @@ use Rattle.words.proofs.Choice.{both-true}
 use Rattle.words.proofs.Slices.{patch-same}
 use Rattle.object.specs.Refusal.{require, after}
 use Rattle.object.specs.Header.{headerRefusal, tableEnd}
+use Rattle.object.proofs.RefusalLaws.{after-met}
 use Rattle.object.specs.ProgramHeader.{loadsOf}
 use Rattle.object.specs.LoadTable.{segmentsIn, Loaded}
 use Rattle.object.specs.Segments.{holdsHeaders, segmentOk, allApart, segmentsOk, spanOf, placeSegments, placedOf}
@@ -74,14 +75,9 @@ module _ (host : Bool) (file : List ℕ) (room : ℕ) where
   abbrev pub Passes : Bool → Type 0
   Passes t = pick host (eqb (length file % pageSize) 0) (segmentsOk file (loadsOf file)) ≡ t
 
-  number-left : (n rest : ℕ) → (n ≡ 0 → ⊥) → after n rest ≡ n
-  unfolding after
-  number-left zero rest ne = absurd (ne refl)
-  number-left (suc n) rest ne = refl
-
   pub refusal-header : (headerRefusal file ≡ 0 → ⊥) → placeRefusal host room file ≡ headerRefusal file
   unfolding placeRefusal
-  refusal-header ne = number-left (headerRefusal file) _ ne
+  refusal-header ne = after-met (headerRefusal file) _ ne
 
   module _ (z : headerRefusal file ≡ 0) where
     pub refusal-seven : Passes false → placeRefusal host room file ≡ 7

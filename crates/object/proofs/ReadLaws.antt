@@ -6,23 +6,13 @@ use Prim.Native.Nat.{ℕ, zero, suc, _≤_, _<_, min}
 use native.Mathlib.Omega.{arith}
 use borrow.Author.Tests.{le-leb, lt-leb}
 use lib.ListN.{length, take}
-use Rattle.object.specs.Refusal.{require, after}
+use Rattle.object.specs.Refusal.{require}
 use Rattle.object.specs.declared.program_header.Segment.{Segment}
 use Rattle.object.specs.declared.program_header.Dynamic.the-variants.{Missing, At}
 use Rattle.object.specs.declared.dynamic_array.Needs.{Needs}
 use Rattle.object.specs.DynamicFields.{fieldsOf, needsOf, Needed}
+use Rattle.object.proofs.RefusalLaws.{after-met, after-none}
 use Rattle.object.specs.Record.{recordIn, fieldsRefusal, tablesOk, readRefusal, recordOf}
-
--- a refusal that was met stays
-pub after-met : (n rest : ℕ) → (n ≡ 0 → ⊥) → after n rest ≡ n
-unfolding after
-after-met zero rest ne = absurd (ne refl)
-after-met (suc n) rest ne = refl
-
-pub after-none : (n rest : ℕ) → n ≡ 0 → after n rest ≡ rest
-unfolding after
-after-none zero rest e = refl
-after-none (suc n) rest e = absurd (omega arith)
 
 -- what the table of needs tells of the needs
 pub needs-few : (needs : List ℕ) (n : Needs) → Needed needs n → n .count ≤ 64 → (length needs ≤ 64) × (take (n .count) (n .list) ≡ needs)

@@ -1,13 +1,13 @@
--- What a file that is not refused by its ELF header satisfies. Assumes nothing.
+-- Chains of refusals, and what a file that is not refused by its ELF header satisfies. Assumes nothing.
 use mathlib.Core.Path.{_≡_, refl}
 use mathlib.Core.Bool.{Bool, true, false}
 use mathlib.Core.List.{List}
-use Prim.Native.Nat.{ℕ, suc, _≤_}
+use Prim.Native.Nat.{ℕ, zero, suc, _≤_}
 use native.Mathlib.Omega.{arith}
 use borrow.Author.Tests.{leb-true}
 use lib.Dec.{eqb, leb}
 use lib.ListN.{length}
-use Rattle.object.specs.Refusal.{require}
+use Rattle.object.specs.Refusal.{require, after}
 use Rattle.object.specs.Header.{headerRefusal, magic, fileType, class, encoding, machine, headerSize, headerCount, tableEnd}
 
 -- a chain that gives 0 passed its first test
@@ -15,6 +15,22 @@ pub required : (t : Bool) (n rest : ℕ) → require t (suc n) rest ≡ 0 → (t
 unfolding require
 required true n rest e = (refl, e)
 required false n rest e = absurd (omega arith)
+
+-- a refusal that was met stays; where none was met, what follows decides
+pub after-met : (n rest : ℕ) → (n ≡ 0 → ⊥) → after n rest ≡ n
+unfolding after
+after-met zero rest ne = absurd (ne refl)
+after-met (suc n) rest ne = refl
+
+pub after-none : (n rest : ℕ) → n ≡ 0 → after n rest ≡ rest
+unfolding after
+after-none zero rest e = refl
+after-none (suc n) rest e = absurd (omega arith)
+
+pub after-zero : (n rest : ℕ) → after n rest ≡ 0 → (n ≡ 0) × (rest ≡ 0)
+unfolding after
+after-zero zero rest e = (refl, e)
+after-zero (suc n) rest e = absurd (omega arith)
 
 -- the header table lies in the file
 pub table-inside : (file : List ℕ) → headerRefusal file ≡ 0 → tableEnd file ≤ length file

@@ -14,4 +14,5 @@ pub mod HashCheck
 pub mod SymbolCount
 pub mod KnownRange
 pub mod Record
+pub mod Loaded
 pub mod Entries

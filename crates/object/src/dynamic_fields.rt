@@ -229,7 +229,7 @@ fn tables_ok(image: &[u8], o: ObjectData, host: bool) -> bool
 }
 
 // A refusal, with a record of zeros.
-fn refused(number: u32) -> Read
+pub(crate) fn refused(number: u32) -> Read
     ensures { λ r. ⌜ r .refusal ≡ number ⌝ }
 {
     let none = Segment {

@@ -3,6 +3,8 @@ ghost use mathlib.Core.Path.{_≡_};
 ghost use mathlib.Core.Bool.{true, false};
 ghost use Rattle.object.specs.Header.{headerRefusal};
 ghost use Rattle.object.specs.Placed.{PlacedBy};
+ghost use Rattle.object.specs.Loaded.{LoadedBy};
+use crate::dynamic_fields::Read;
 use crate::program_header::Loads;
 
 // The answer of placing: a refusal of 4 to 8, or 0 with the span and the load segments, of which the host has none.
@@ -75,4 +77,18 @@ pub fn place(part: &mut [u8], file: &[u8], host: bool) -> Placed
         return place_host(part, file);
     }
     place_file(part, file)
+}
+
+// Checks an object, places it at the start of `part`, the arena from the object's offset to its end, and reads its record: refusals 4 to 12.
+pub fn load(part: &mut [u8], file: &[u8], host: bool) -> Read
+    ensures { λ r. ⌜ LoadedBy host (now (file .entry)) (now (part .entry)) (now (part .exit)) r ⌝ }
+{
+    let p = place(part, file, host);
+    if p.refusal != 0 {
+        return crate::dynamic_fields::refused(p.refusal);
+    }
+    let l = p.loads;
+    let span = p.span;
+    let d = crate::program_header::dynamic_at(file);
+    crate::dynamic_fields::read_object(&part[..span], l, d, host)
 }

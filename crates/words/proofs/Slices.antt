@@ -307,3 +307,17 @@ mem-tail xs off = fun-ext (λ i. go i (decLt i (length xs - off)))
     go i (no h) =
         mem-past (take (length xs - off) (drop off xs)) i (simp (length-take, length-drop) (omega arith))
         ∙ sym (mem-past xs (off + i) (omega arith))
+
+-- the front of a slice that was written from its start on is what was written
+pub take-patch : (xs : List ℕ) (n : ℕ) (f : ℕ → ℕ) → n ≤ length xs → take n (patch xs 0 n f) ≡ tab n f
+take-patch xs n f fits =
+    mem-ext (take n (patch xs 0 n f)) (tab n f) (front ∙ sym (length-tab n f)) (λ i h. go i (omega (arith, front)))
+  where
+    front : length (take n (patch xs 0 n f)) ≡ n
+    front = length-take-le n (patch xs 0 n f) (omega (arith, length-patch xs 0 n f))
+
+    go : (i : ℕ) → i < n → mem (take n (patch xs 0 n f)) i ≡ mem (tab n f) i
+    go i h =
+        mem-take n (patch xs 0 n f) i h
+        ∙ (mem-patch-at xs 0 n f i (omega arith)
+        ∙ (write-in (mem xs) 0 n f i (omega arith) ∙ (ap f (omega arith) ∙ sym (mem-tab n f i h))))

@@ -1,0 +1,80 @@
+-- Placing and then reading: the image that is read is the file's, wherever it was placed. Assumes nothing.
+use mathlib.Core.Path.{_≡_, refl, sym, ap, _∙_}
+use mathlib.Core.Bool.{Bool}
+use mathlib.Core.List.{List}
+use Prim.Native.Nat.{ℕ, zero, suc, _%_, _≤_}
+use native.Mathlib.Omega.{arith}
+use borrow.Author.Tests.{leb-true}
+use lib.Dec.{eqb, leb}
+use lib.ListN.{length, take}
+use Rattle.words.specs.Choice.{pick}
+use Rattle.words.specs.Memory.{patch}
+use Rattle.words.specs.Page.{pageSize}
+use Rattle.words.proofs.Slices.{take-patch, length-patch}
+use Rattle.object.specs.Header.{headerRefusal}
+use Rattle.object.specs.ProgramHeader.{loadsOf, dynamicOf}
+use Rattle.object.specs.LoadTable.{segmentsIn}
+use Rattle.object.specs.Segments.{segmentsOk}
+use Rattle.object.specs.Placed.{segmentsOf, objectSpan, objectBytes, objectImage, placeRefusal, PlacedBy}
+use Rattle.object.specs.Record.{readRefusal, ReadBy}
+use Rattle.object.specs.Loaded.{objectRecord, objectRefusal, LoadedBy}
+use Rattle.object.specs.declared.program_header.Dynamic.{Dynamic}
+use Rattle.object.specs.declared.object_data.Placed.{Placed}
+use Rattle.object.specs.declared.dynamic_fields.Read.{Read}
+use Rattle.object.proofs.RefusalLaws.{required, after-met, after-none, after-zero}
+
+module _ (host : Bool) (file : List ℕ) where
+  -- refusal 8 passed: there is room for the span
+  pub place-fits : (room : ℕ) → placeRefusal host room file ≡ 0 → objectSpan host file ≤ room
+  unfolding placeRefusal
+  place-fits room e =
+      let a = after-zero (headerRefusal file) _ e in
+      let b = required (pick host (eqb (length file % pageSize) 0) (segmentsOk file (loadsOf file))) 6 _ (a .1) in
+      let c = required (leb (objectSpan host file) room) 7 _ (b .1) in
+      leb-true (objectSpan host file) room (c .0)
+
+  -- the image read after placing is the file's own
+  pub image-placed :
+      (entry exit : List ℕ) → objectSpan host file ≤ length entry
+      → exit ≡ patch entry 0 (objectSpan host file) (objectBytes host file)
+      → take (objectSpan host file) exit ≡ objectImage host file
+  image-placed entry exit fits e = rw e (take-patch entry (objectSpan host file) (objectBytes host file) fits)
+
+-- ---- loading: placing, then reading
+
+module _ (host : Bool) (file entry exit : List ℕ) (p : Placed) (h : PlacedBy host file entry exit p) where
+  pub load-refused : (p .refusal ≡ 0 → ⊥) → (r : Read) → r .refusal ≡ p .refusal → LoadedBy host file entry exit r
+  unfolding objectRefusal
+  load-refused ne r e =
+      let n : placeRefusal host (length entry) file ≡ 0 → ⊥ = λ z. ne (h .refusal ∙ z) in
+      record {
+        refusal = e ∙ (h .refusal ∙ sym (after-met (placeRefusal host (length entry) file) _ n));
+        object = λ z. absurd (ne (sym e ∙ z));
+        part = λ z. absurd (ne (sym e ∙ z));
+        fits = λ z. absurd (ne (sym e ∙ z));
+      }
+
+  module _ (z : p .refusal ≡ 0) where
+    room : objectSpan host file ≤ length entry
+    room = place-fits host file (length entry) (sym (h .refusal) ∙ z)
+
+    pub load-fits : p .span ≤ length exit
+    load-fits = omega (arith, room, h .span z, ap length (h .part z), length-patch entry 0 (objectSpan host file) (objectBytes host file))
+
+    pub load-read :
+        (r : Read) (d : Dynamic) → d ≡ dynamicOf file → ReadBy host (take (p .span) exit) (segmentsIn (p .loads)) d r
+        → LoadedBy host file entry exit r
+    unfolding objectRefusal objectRecord
+    load-read r d ed read =
+        let image : take (p .span) exit ≡ objectImage host file =
+        rw (h .span z) (image-placed host file entry exit room (h .part z)) in
+        let told = rw (image, h .segments z, ed) at read in
+        record {
+          refusal =
+              told .refusal
+              ∙ sym (after-none (placeRefusal host (length entry) file)
+              (readRefusal host (objectImage host file) (segmentsOf host file) (dynamicOf file)) (sym (h .refusal) ∙ z));
+          object = told .object;
+          part = λ _. h .part z;
+          fits = λ _. room;
+        }
