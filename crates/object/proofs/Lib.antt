@@ -15,3 +15,4 @@ pub mod WalkEnds
 pub mod KnownLaws
 pub mod CountLaws
 pub mod LookupSame
+pub mod ReadingsSame

@@ -16,3 +16,4 @@ pub mod KnownRange
 pub mod Record
 pub mod Loaded
 pub mod Entries
+pub mod Invariant
