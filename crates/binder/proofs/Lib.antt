@@ -2,3 +2,6 @@
 pub mod VisitSteps
 pub mod ArrangeSteps
 pub mod ArrangeUses
+pub mod SheetLaws
+pub mod PartLaws
+pub mod WipeLaws
