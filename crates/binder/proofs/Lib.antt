@@ -4,4 +4,5 @@ pub mod ArrangeSteps
 pub mod ArrangeUses
 pub mod SheetLaws
 pub mod PartLaws
+pub mod SheetCases
 pub mod WipeLaws

@@ -1,5 +1,5 @@
 -- What the table of parts stands for: its objects are those of the sheet; a part of the byte slice; the searches by name. Assumes nothing.
-use Prim.Native.Nat.{ℕ, zero, suc, _+_, _*_, _-_, _≤_, _<_, min}
+use Prim.Native.Nat.{ℕ, zero, suc, _+_, _-_, _≤_, _<_, min}
 use mathlib.Core.Bool.{Bool, true, false}
 use mathlib.Core.Path.{_≡_, refl, sym, ap, _∙_}
 use mathlib.Core.List.{List, [], _∷_, _++_, map, append-assoc, append-nil}
@@ -11,11 +11,11 @@ use lib.Seq.{drop-drop, take-suc-set, getD-take, take-all}
 use Rattle.words.specs.Choice as choice
 use Rattle.words.specs.Choice.{pick, either, some}
 use Rattle.words.specs.Names.{sameBytes}
-use Rattle.binder.specs.Sheet.{sizeOf, cut, libsOf, objectsOf, setOf, Input, noInput, named, twinFrom, twinOf, sheetOk}
+use Rattle.binder.specs.Sheet.{sizeOf, cut, libsOf, objectsOf, setOf, Input, noInput, named, twinFrom, sheetOk}
 use Rattle.binder.specs.Parts.{noPart, inputIn, inputsIn, handedIn, Tabled}
 use Rattle.binder.specs.declared.sheet.Part.{Part}
 use Rattle.binder.specs.declared.sheet.Parts.{Parts}
-use Rattle.binder.proofs.SheetLaws.{drop-next, pair-at}
+use Rattle.binder.proofs.SheetLaws.{drop-next, pair-at, told}
 
 pub length-mapped : (X Y : Type 0) (f : X → Y) (l : List X) (n : ℕ) → length (map f l) ≡ n → length l ≡ n
 length-mapped X Y f l n e = sym (length-map l f) ∙ e
@@ -84,7 +84,7 @@ pub parts-end : (xs : List ℕ) (l : List Part) (k i at : ℕ) {whole : List Par
 parts-end xs l k i at h e =
     sym (append-nil (take k l)) ∙ ap (λ (t : List Part). take k l ++ t) (sym (libs-none xs i at h)) ∙ e
 
--- the count of a table that has room for it
+-- how many objects a table names
 pub inputs-length : (bs : List ℕ) (p : Parts) → length (inputsIn bs p) ≡ min (p .count) (length (p .list))
 unfolding inputsIn
 inputs-length bs p = length-map (take (p .count) (p .list)) (inputIn bs) ∙ length-take (p .count) (p .list)
@@ -109,6 +109,21 @@ tabled-none sheet n p bad none =
       count = λ bytes. rw (bad, none);
       few = omega arith;
     }
+
+-- what the caller of `parts_of` reads off where the sheet is not refused
+pub handed-in : {sheet : List ℕ} {n : ℕ} {p : Parts} → Tabled sheet n p → sheetOk sheet n ≡ true → (bytes : List ℕ) → inputsIn bytes p ≡ setOf sheet bytes
+handed-in {sheet} {n} {p} t ok bytes = t .same bytes ∙ rw ok
+
+set-two : (sheet bytes : List ℕ) → 2 ≤ length sheet → 2 ≤ length (setOf sheet bytes)
+unfolding objectsOf cut
+set-two [] bytes h = absurd (omega arith)
+set-two (x ∷ []) bytes h = absurd (omega arith)
+set-two (x ∷ (y ∷ ws)) bytes h = omega arith
+
+pub two-parts : {sheet : List ℕ} {n : ℕ} {p : Parts} → Tabled sheet n p → sheetOk sheet n ≡ true → 2 ≤ p .count
+two-parts {sheet} {n} {p} t ok =
+    let e : length (setOf sheet []) ≡ p .count = sym (ap (λ (l : List Input). length l) (handed-in t ok [])) ∙ ap (λ (l : List Input). length l) (t .same []) ∙ t .count [] in
+    omega (arith, e, set-two sheet [] (told sheet n ok .low))
 
 -- ---- an object of a table
 

@@ -1,15 +1,14 @@
 -- What the loop of `sheet_ok` over the sheet's words cites, and what a sheet that is not refused tells. Assumes nothing.
-use Prim.Native.Nat.{ℕ, zero, suc, _+_, _*_, _-_, _≤_, _<_}
+use Prim.Native.Nat.{ℕ, _+_, _-_, _≤_, _<_}
 use mathlib.Core.Bool.{Bool, true, false}
 use mathlib.Core.Path.{_≡_, refl, sym, ap, _∙_}
 use mathlib.Core.List.{List, [], _∷_}
 use native.Mathlib.Omega.{arith}
-use native.Mathlib.Nat.{add-assoc}
 use native.Mathlib.Numerals.{add-one}
 use lib.Dec.{leb, eqb}
-use lib.ListN.{length, take, drop, getD, drop-of-length-le}
+use lib.ListN.{length, drop, getD, drop-of-length-le}
 use lib.Seq.{drop-cons}
-use borrow.Author.Tests.{eq-eqb, ne-eqb, le-leb, lt-leb, leb-true, eqb-true}
+use borrow.Author.Tests.{eq-eqb, le-leb, leb-true, eqb-true}
 use Rattle.words.specs.Choice.{both}
 use Rattle.words.proofs.Choice.{both-true}
 use Rattle.binder.specs.Sheet.{kindOf, sizeOf, pairOk, libWords, total, sheetOk}

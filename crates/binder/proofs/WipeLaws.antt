@@ -1,9 +1,9 @@
 -- A write of zeros over all of a slice. Assumes nothing.
 use Prim.Native.Nat.{ℕ, zero, suc}
 use mathlib.Core.Path.{_≡_, refl, sym, ap, _∙_}
-use mathlib.Core.List.{List, [], _∷_}
+use mathlib.Core.List.{List, _∷_}
 use native.Mathlib.Omega.{arith}
-use lib.ListN.{length, take, replicate}
+use lib.ListN.{length, replicate}
 use lib.Seq.{take-all}
 use Rattle.words.specs.Memory as memory
 use Rattle.words.specs.Memory.{tab, patch}

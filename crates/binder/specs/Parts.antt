@@ -3,7 +3,6 @@
 -- objects of a sheet names a set too. Assumes nothing.
 use Prim.Native.Nat.{ℕ, _≤_}
 use mathlib.Core.Path.{_≡_}
-use mathlib.Core.Bool.{Bool}
 use mathlib.Core.List.{List, [], map}
 use lib.ListN.{length, take, drop}
 use Rattle.words.specs.Choice.{pick}

@@ -1,20 +1,18 @@
-use borrow.Author.Needs.{needs}
-use Rattle.binder.proofs.PartLaws.{length-mapped, named-is, named-none, inputs-length}
-use Rattle.binder.specs.Parts.{inputsIn}
-use Rattle.binder.specs.Sheet.{named}
-use Rattle.words.specs.Names.{sameBytes}
-use denote.Ref.{now}
-use lib.ListN.{length, getD, take, drop}
-use native.Mathlib.Omega.{arith}
+-- `binder::sheet::named_before` meets its contract. The invariant: the search from object `j` on gives what the whole one gives. Assumes
+-- nothing.
+use Prim.Native.Nat.{_-_, _≤_}
 use mathlib.Core.Bool.{true, false}
 use mathlib.Core.Path.{_≡_, refl, sym, ap, _∙_}
-use Prim.Native.Nat.{_+_, _-_, _*_, _≤_}
+use native.Mathlib.Omega.{arith}
+use borrow.Author.Needs.{needs}
+use lib.ListN.{length, take, drop}
+use denote.Ref.{now}
+use Rattle.words.specs.Names.{sameBytes}
+use Rattle.binder.specs.Parts.{inputsIn}
+use Rattle.binder.specs.Sheet.{named}
+use Rattle.binder.proofs.PartLaws.{length-mapped, named-is, named-none, inputs-length}
 use Rattle.binder.proofs.sheet.named_before.Statement.{statement}
 use Rattle.binder.proofs.sheet.named_before.Tie as tie
-use Rattle.binder.proofs.sheet.named_before.Reads as reads
-use Rattle.binder.proofs.sheet.named_before.Lts as lts
-use Rattle.binder.proofs.sheet.name_of.Reads as name-of-reads
-use Rattle.words.proofs.names.same.Reads as same-reads
 
 abbrev Inv-loop : tie.InvT-loop
 Inv-loop bytes parts k name j₀ j =
@@ -31,35 +29,26 @@ loop-holds : tie.Need-loop-holds Inv-loop μ-loop
 loop-holds c =
     (search needs, refl)
 
-name-of-requires : tie.Need-name-of-requires Inv-loop μ-loop
-name-of-requires c κs = search needs
-
-same-requires : tie.Need-same-requires Inv-loop μ-loop
-same-requires c κs = search needs
-
 returns : tie.Need-returns Inv-loop μ-loop
 returns c =
-    let os = inputsIn (now (c .before .before .before .before .before .before .before .args .bytes)) (c .before .before .before .before .before .before .before .args .parts) in
-    let n = inputs-length (now (c .before .before .before .before .before .before .before .args .bytes)) (c .before .before .before .before .before .before .before .args .parts) in
-    sym (named-is (now (c .before .before .before .before .before .before .before .args .name)) os (c .before .before .before .before .before .before .before .args .k) (c .before .before .before .before .loop .j) (c .before .before .before .loop-test .taken) (omega (arith, whole (c .before .before .before .before .before .before .before))) true (ap (sameBytes (now (c .before .before .before .before .before .before .before .args .name))) (sym (c .before .before .name-of .ensures)) ∙ sym (c .before .same .ensures) ∙ c .if1 .taken)) ∙ c .before .before .before .before .loop .inv .1
-
-add-j : tie.Need-add-j Inv-loop μ-loop
-add-j c = search needs
-
-loop-less : tie.Need-loop-less Inv-loop μ-loop
-loop-less c = search needs
+    let a = c .before .before .before .before .before .before .before .args in
+    let os = inputsIn (now (a .bytes)) (a .parts) in
+    let n = inputs-length (now (a .bytes)) (a .parts) in
+    sym (named-is (now (a .name)) os (a .k) (c .before .before .before .before .loop .j) (c .before .before .before .loop-test .taken) (omega (arith, whole (c .before .before .before .before .before .before .before))) true (ap (sameBytes (now (a .name))) (sym (c .before .before .name-of .ensures)) ∙ sym (c .before .same .ensures) ∙ c .if1 .taken)) ∙ c .before .before .before .before .loop .inv .1
 
 loop-again : tie.Need-loop-again Inv-loop μ-loop
 loop-again c =
-    let os = inputsIn (now (c .before .before .before .before .before .before .before .args .bytes)) (c .before .before .before .before .before .before .before .args .parts) in
-    let n = inputs-length (now (c .before .before .before .before .before .before .before .args .bytes)) (c .before .before .before .before .before .before .before .args .parts) in (
+    let a = c .before .before .before .before .before .before .before .args in
+    let os = inputsIn (now (a .bytes)) (a .parts) in
+    let n = inputs-length (now (a .bytes)) (a .parts) in (
       omega arith,
-      sym (named-is (now (c .before .before .before .before .before .before .before .args .name)) os (c .before .before .before .before .before .before .before .args .k) (c .before .before .before .before .loop .j) (c .before .before .before .loop-test .taken) (omega (arith, whole (c .before .before .before .before .before .before .before))) false (ap (sameBytes (now (c .before .before .before .before .before .before .before .args .name))) (sym (c .before .before .name-of .ensures)) ∙ sym (c .before .same .ensures) ∙ c .if1 .left)) ∙ c .before .before .before .before .loop .inv .1,
+      sym (named-is (now (a .name)) os (a .k) (c .before .before .before .before .loop .j) (c .before .before .before .loop-test .taken) (omega (arith, whole (c .before .before .before .before .before .before .before))) false (ap (sameBytes (now (a .name))) (sym (c .before .before .name-of .ensures)) ∙ sym (c .before .same .ensures) ∙ c .if1 .left)) ∙ c .before .before .before .before .loop .inv .1,
     )
 
 returns-2 : tie.Need-returns-2 Inv-loop μ-loop
 returns-2 c =
-    sym (named-none (now (c .before .before .before .before .args .name)) (inputsIn (now (c .before .before .before .before .args .bytes)) (c .before .before .before .before .args .parts)) (c .before .before .before .before .args .k) (c .before .loop .j) (c .loop-test .left)) ∙ c .before .loop .inv .1
+    let a = c .before .before .before .before .args in
+    sym (named-none (now (a .name)) (inputsIn (now (a .bytes)) (a .parts)) (a .k) (c .before .loop .j) (c .loop-test .left)) ∙ c .before .loop .inv .1
 
 pub named-before-spec : {M : Type 1} → statement M
 named-before-spec =
@@ -68,10 +57,10 @@ named-before-spec =
     Inv-loop
     μ-loop
     loop-holds
-    name-of-requires
-    same-requires
+    (λ c κs. search needs)
+    (λ c κs. search needs)
     returns
-    add-j
-    loop-less
+    (λ c. search needs)
+    (λ c. search needs)
     loop-again
     returns-2)

@@ -1,32 +1,19 @@
-use Rattle.binder.specs.Sheet.{pairOk}
+-- `binder::sheet::pair_ok` meets its contract: each return is the definition, cut where its test fails. Assumes nothing.
 use borrow.Author.Tests.{eq-eqb, ne-eqb, le-leb, lt-leb}
-use mathlib.Core.Path.{_≡_, refl, sym, ap, _∙_}
 use borrow.Author.Needs.{needs}
+use Rattle.binder.specs.Sheet.{pairOk}
 use Rattle.binder.proofs.sheet.pair_ok.Statement.{statement}
 use Rattle.binder.proofs.sheet.pair_ok.Tie as tie
-use Rattle.binder.proofs.sheet.pair_ok.Reads as reads
-use Rattle.binder.proofs.sheet.pair_ok.Lts as lts
-use Rattle.binder.proofs.sheet.kind.Reads as kind-reads
-use Rattle.binder.proofs.sheet.size.Reads as size-reads
-
-kind-requires : tie.Need-kind-requires
-kind-requires c κs = search needs
 
 returns : tie.Need-returns
 unfolding pairOk
 returns c =
     rw (← c .before .kind .ensures, ne-eqb _ _ (c .if1 .taken))
 
-kind-requires-2 : tie.Need-kind-requires-2
-kind-requires-2 c κs = search needs
-
 returns-2 : tie.Need-returns-2
 unfolding pairOk
 returns-2 c =
     rw (← c .before .before .before .kind .ensures, ← c .before .kind2 .ensures, eq-eqb _ _ (c .before .before .if1 .left), ne-eqb _ _ (c .if2 .taken))
-
-size-requires : tie.Need-size-requires
-size-requires c κs = search needs
 
 returns-3 : tie.Need-returns-3
 unfolding pairOk
@@ -47,11 +34,11 @@ pub pair-ok-spec : {M : Type 1} → statement M
 pair-ok-spec =
     tie.close
     (tie.spec
-    kind-requires
+    (λ c κs. search needs)
     returns
-    kind-requires-2
+    (λ c κs. search needs)
     returns-2
-    size-requires
+    (λ c κs. search needs)
     returns-3
     returns-4
     returns-5)
