@@ -2,3 +2,7 @@
 pub mod VisitSteps
 pub mod ArrangeSteps
 pub mod ArrangeUses
+pub mod SheetLaws
+pub mod PartLaws
+pub mod SheetCases
+pub mod WipeLaws

@@ -1,2 +1,4 @@
 pub mod Table
 pub mod OrderState
+pub mod Sheet
+pub mod Parts

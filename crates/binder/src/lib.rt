@@ -1,2 +1,4 @@
 // Ordering the objects of a set, and binding them.
 pub mod order;
+pub mod sheet;
+pub mod wipe;
