@@ -16,3 +16,4 @@ pub mod KnownLaws
 pub mod CountLaws
 pub mod LookupSame
 pub mod ReadingsSame
+pub mod RelrCases
