@@ -79,7 +79,7 @@ moved (word p) = word (p + 8 * 63)
 unfoldable pub bitWords : Location → ℕ → ℕ → ℕ → List Word
 bitWords location bitmap k zero = []
 bitWords location bitmap k (suc n) =
-    pick (eqb (bitmap / 2 ^ k % 2) 1) (wordAfter location k ∷ bitWords location bitmap (k + 1) n) (bitWords location bitmap (k + 1) n)
+    pick (eqb (bitmap / 2 ^ k % 2) 1) (wordAfter location k ∷ []) [] ++ bitWords location bitmap (k + 1) n
 
 -- the words that an entry names, and the location after it: "location becomes the word after it"
 abbrev pub entryWords : Location → Relr → List Word
