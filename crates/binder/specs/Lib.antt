@@ -1,6 +1,9 @@
+pub mod Sheet
 pub mod Table
 pub mod OrderState
 pub mod Instance
 pub mod Verdict
 pub mod Report
 pub mod SetOrder
+pub mod Bind
+pub mod LongerSet

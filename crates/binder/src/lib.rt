@@ -1,2 +1,31 @@
-// Ordering the objects of a set, and binding them.
+// The order of a set's objects, and what binding it answers.
 pub mod order;
+
+// What happens to a set with undefined entries: it is refused, or bound with a report.
+pub enum Policy {
+    Strict,
+    Lenient,
+}
+
+// The answer of a call that binds: refusals have a number and an object.
+pub enum Answer {
+    Bound,
+    Refused {
+        number: u32,
+        object: u32,
+    },
+}
+
+// The answer of a query.
+pub enum Reply {
+    Found {
+        object: u32,
+        symbol: u32,
+        address: u64,
+    },
+    Absent,
+    Refused {
+        number: u32,
+        object: u32,
+    },
+}
