@@ -2,3 +2,5 @@
 pub mod VisitSteps
 pub mod ArrangeSteps
 pub mod ArrangeUses
+pub mod OutcomeLaws
+pub mod SheetLonger
