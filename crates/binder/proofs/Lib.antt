@@ -4,3 +4,4 @@ pub mod ArrangeSteps
 pub mod ArrangeUses
 pub mod OutcomeLaws
 pub mod SheetLonger
+pub mod InsideLaws
