@@ -5,3 +5,4 @@ pub mod ArrangeUses
 pub mod OutcomeLaws
 pub mod SheetLonger
 pub mod InsideLaws
+pub mod SoundLaws
