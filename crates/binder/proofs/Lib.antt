@@ -6,3 +6,5 @@ pub mod OutcomeLaws
 pub mod SheetLonger
 pub mod InsideLaws
 pub mod SoundLaws
+pub mod OrderIs
+pub mod LongerSetLaw

@@ -82,8 +82,12 @@ pub map-append : {A B : Type 0} (f : A → B) (xs ys : List A) → map f (xs ++ 
 map-append f [] ys = refl
 map-append {B = B} f (x ∷ xs) ys = ap (λ (l : List B). f x ∷ l) (map-append f xs ys)
 
+pub files-are : (h p : Input) (ls : List Input) → filesOf (h ∷ (p ∷ ls)) ≡ hostFile h ∷ (fileOf p ∷ map fileOf ls)
+unfolding filesOf
+files-are h p ls = refl
+
 pub files-longer :
     (h p : Input) (ls : List Input) (x : Input)
     → filesOf (h ∷ (p ∷ (ls ++ (x ∷ [])))) ≡ hostFile h ∷ (fileOf p ∷ (map fileOf ls ++ (fileOf x ∷ [])))
-unfolding filesOf
-files-longer h p ls x = ap (λ (fs : List File). hostFile h ∷ (fileOf p ∷ fs)) (map-append fileOf ls (x ∷ []))
+files-longer h p ls x =
+    files-are h p (ls ++ (x ∷ [])) ∙ ap (λ (fs : List File). hostFile h ∷ (fileOf p ∷ fs)) (map-append fileOf ls (x ∷ []))
