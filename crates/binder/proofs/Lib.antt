@@ -8,3 +8,4 @@ pub mod InsideLaws
 pub mod SoundLaws
 pub mod OrderIs
 pub mod LongerSetLaw
+pub mod OrderReported

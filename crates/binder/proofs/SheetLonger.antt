@@ -4,7 +4,7 @@ use mathlib.Core.Bool.{Bool, true, false, true≢false}
 use mathlib.Core.List.{List, [], _∷_, _++_, map}
 use Prim.Native.Nat.{ℕ, zero, suc, _+_, _*_, _-_, _≤_}
 use native.Mathlib.Omega.{arith}
-use borrow.Author.Tests.{eqb-true}
+use borrow.Author.Tests.{eqb-true, leb-true}
 use lib.Dec.{eqb, leb}
 use lib.ListN.{length, take, drop, length-drop}
 use lib.Seq.{take-append-le, drop-append-le}
@@ -68,6 +68,39 @@ sheet-longer (h ∷ (p ∷ ws)) bytes f n added e =
           ap objectsOf (cut-append (h ∷ (p ∷ ws)) (f ∷ (n ∷ [])) bytes added (eqb-true (total (h ∷ (p ∷ ws))) (length bytes) (d .1)))
           ∙ ap (λ (ls : List Input). record { file = take (sizeOf h) bytes; name = [] } ∷ (record { file = take (sizeOf p) (drop (sizeOf h) bytes); name = [] } ∷ ls))
           (libs-append ws rest x y (d .0));
+    }
+
+-- ---- a host, a program and at most 62 libraries
+
+pub record Shape (os : List Input) : Type 0 where
+  pub host : Input
+  pub program : Input
+  pub libs : List Input
+  pub is : os ≡ host ∷ (program ∷ libs)
+  pub few : length libs ≤ 62
+
+-- two words a library
+libs-length : (ws bs : List ℕ) → 2 * length (libsOf (cut ws bs)) ≤ length ws
+unfolding cut libsOf
+libs-length [] bs = omega arith
+libs-length (f ∷ []) bs = omega arith
+libs-length (f ∷ (n ∷ ws)) bs = omega (arith, libs-length ws (drop (sizeOf n) (drop (sizeOf f) bs)))
+
+pub sheet-shape : (sheet bytes : List ℕ) (n : ℕ) → sheetOk sheet n ≡ true → Shape (setOf sheet bytes)
+unfolding sheetOk objectsOf cut
+sheet-shape [] bytes n e = absurd (true≢false (sym e))
+sheet-shape (h ∷ []) bytes n e = absurd (true≢false (sym e))
+sheet-shape (h ∷ (p ∷ ws)) bytes n e =
+    let a = both-true (eqb (kindOf h) 1) _ e in
+    let b = both-true (eqb (kindOf p) 2) _ (a .1) in
+    let c = both-true (leb (length ws) (62 * 2)) _ (b .1) in
+    let rest : List ℕ = drop (sizeOf p) (drop (sizeOf h) bytes) in
+    record {
+      host = record { file = take (sizeOf h) bytes; name = [] };
+      program = record { file = take (sizeOf p) (drop (sizeOf h) bytes); name = [] };
+      libs = libsOf (cut ws rest);
+      is = refl;
+      few = omega (arith, libs-length ws rest, leb-true (length ws) (62 * 2) (c .0));
     }
 
 -- ---- files

@@ -7,3 +7,4 @@ pub mod Report
 pub mod SetOrder
 pub mod Bind
 pub mod LongerSet
+pub mod OrderReport
