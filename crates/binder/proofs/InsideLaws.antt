@@ -1,26 +1,24 @@
 -- What refusals 17 and 18 leave of an object: its words, its entries' places and a COPY's source lie inside spans. Assumes nothing.
 use mathlib.Core.Path.{_≡_, refl, sym, ap, subst, _∙_}
 use mathlib.Core.Bool.{Bool, true, false, true≢false, not}
-use mathlib.Core.Logic.{_⊎_, inl, inr, ⊎-elim}
+use mathlib.Core.Logic.{⊎-elim}
 use mathlib.Core.List.{List, [], _∷_, map, List·Memᴰ, List·Memᴰ·cases-cons, List·Memᴰ·not-nil}
-use Prim.Native.Nat.{ℕ, zero, suc, _+_, _*_, _≤_, _<_, min, max}
+use Prim.Native.Nat.{ℕ, _+_, _*_, _≤_, min}
 use native.Mathlib.Omega.{arith}
 use borrow.Author.Tests.{leb-true, ne-eqb}
 use lib.Dec.{eqb, leb}
-use Rattle.words.specs.Choice.{pick, both, either, some}
+use Rattle.words.specs.Choice.{pick, both, some}
 use Rattle.words.specs.Choice as choice
 use Rattle.words.specs.Memory.{mem}
 use Rattle.words.specs.Words.{leAt}
 use Rattle.words.specs.Names.{nameAt}
-use Rattle.words.specs.Page.{pageEnd}
 use Rattle.words.proofs.Choice.{both-true, either-true}
 use Rattle.words.proofs.Page.{end-near}
-use Rattle.model.specs.Symbols.{Sym, Answer, absent, answer}
+use Rattle.model.specs.Symbols.{Answer, absent, answer}
 use Rattle.model.specs.Objects.{Entry, Objs, obj}
 use Rattle.model.specs.Scope.{resolveCopy}
 use Rattle.model.specs.Sound.{InsideCopy, Inside}
-use Rattle.object.specs.Refusal.{require}
-use Rattle.object.specs.Segments.{endOf, spanOf}
+use Rattle.object.specs.Segments.{endOf}
 use Rattle.object.specs.Segments as segments
 use Rattle.object.specs.ProgramHeader.{loadsOf, dynamicOf}
 use Rattle.object.specs.TableBytes.{isWritable, holdsRange, inWritable}
@@ -39,14 +37,13 @@ use Rattle.object.specs.declared.symbol.Symbol.{Symbol}
 use Rattle.object.specs.declared.relocate.Rela.{Rela}
 use Rattle.object.specs.declared.relocate.Action.{Action}
 use Rattle.object.specs.declared.relocate.Action.the-variants.{Ignored, Passed, Relative, Symbolic, Copy, Irelative}
-use Rattle.object.specs.declared.dynamic_fields.CheckedSymbol.{CheckedSymbol}
 use Rattle.object.specs.declared.dynamic_fields.CheckedSymbol.the-variants.{Refused, Checked}
 use Rattle.object.specs.declared.program_header.Segment.{Segment}
 use Rattle.object.specs.declared.program_header.Dynamic.{Dynamic}
 use Rattle.object.specs.declared.program_header.Dynamic.the-variants.{Missing, At}
 use Rattle.object.proofs.RefusalLaws.{required}
-use Rattle.binder.specs.Instance.{File, imageOf, recordOf, placesOf, entryBy, entryOf}
-use Rattle.binder.specs.Verdict.{Verdict, passed, verdict, wordRefusal, writtenRefusal, copyOk, copyRefusal, symbolThen, refusalBy, entryRefusal, wordsVerdict, entriesVerdict}
+use Rattle.binder.specs.Instance.{recordOf, placesOf, entryBy, entryOf}
+use Rattle.binder.specs.Verdict.{passed, verdict, wordRefusal, writtenRefusal, copyOk, copyRefusal, symbolThen, refusalBy, entryRefusal, wordsVerdict, entriesVerdict}
 use Rattle.binder.proofs.OutcomeLaws.{first-passed, verdict-passed}
 
 -- ---- a range inside one writable segment ends within the span
@@ -97,6 +94,14 @@ words-inside k r (nowhere ∷ ws) e p m =
 
 -- ---- RELA and PLT
 
+-- 14 and 15 passed: what follows is of the symbol
+symbol-then :
+    (a b : Bool) (y : Symbol) (rest : Symbol → ℕ) → symbolThen (pick a (pick b (Checked y) (Refused 15)) (Refused 14)) rest ≡ 0
+    → rest y ≡ 0
+symbol-then true true y rest e = e
+symbol-then true false y rest e = absurd (omega arith)
+symbol-then false b y rest e = absurd (omega arith)
+
 module _ (S : Objs) (k : ℕ) (image : List ℕ) (r : Record) (base : ℕ)
     (inner : (p n : ℕ) → inWritable (r .segments) p n ≡ true → p + n ≤ (obj S k) .span) where
   written : (p n : ℕ) → writtenRefusal r p n ≡ 0 → p + n ≤ (obj S k) .span
@@ -113,14 +118,6 @@ module _ (S : Objs) (k : ℕ) (image : List ℕ) (r : Record) (base : ℕ)
       let g = both-true (not (s .absolute)) _ (f .0) in
       let h = both-true (leb (s .value + n) ((obj S d) .span)) _ (g .1) in
       (inner p n (c .0), leb-true (s .value + n) ((obj S d) .span) (h .0))
-
-  -- 14 and 15 passed: what follows is of the symbol
-  symbol-then :
-      (a b : Bool) (y : Symbol) (rest : Symbol → ℕ) → symbolThen (pick a (pick b (Checked y) (Refused 15)) (Refused 14)) rest ≡ 0
-      → rest y ≡ 0
-  symbol-then true true y rest e = e
-  symbol-then true false y rest e = absurd (omega arith)
-  symbol-then false b y rest e = absurd (omega arith)
 
   checked-then :
       (index : ℕ) (rest : Symbol → ℕ) → symbolThen (checkedSymbol image r index) rest ≡ 0 → rest (symbolAt image (r .symbols) index) ≡ 0

@@ -1,23 +1,20 @@
 -- Demand 3 for `bind` and `query`: what a longer set keeps of a set that is bound. Assumes nothing.
 use mathlib.Core.Path.{_≡_, sym, ap, subst, _∙_}
 use mathlib.Core.List.{List, [], _∷_, _++_, map}
-use Prim.Native.Nat.{ℕ, _+_}
+use Prim.Native.Nat.{ℕ}
 use native.Mathlib.Omega.{arith}
 use lib.ListN.{length, length-append, length-map}
 use Rattle.words.specs.Memory.{mem, tab}
-use Rattle.model.specs.Objects.{Objs}
 use Rattle.model.specs.Relocation.{bound}
 use Rattle.model.specs.Longer.{OnlyProgramCopies, Kept}
-use Rattle.model.specs.Layout.{objsOf}
 use Rattle.model.proofs.Files.{longer-files}
-use Rattle.binder.specs.declared.Policy.{Policy}
 use Rattle.binder.specs.Sheet.{Input, setOf}
 use Rattle.binder.specs.Instance.{File, objectAt}
 use Rattle.binder.specs.Verdict.{passed, loadVerdict, orderVerdict}
 use Rattle.binder.specs.SetOrder.{setOrder}
 use Rattle.binder.specs.Bind.{filesOf, namesOf, objectsOf}
 use Rattle.binder.specs.LongerSet.{LongerSet}
-use Rattle.binder.proofs.OutcomeLaws.{orderIn, objectsIn, Passed, bound-passed}
+use Rattle.binder.proofs.OutcomeLaws.{objectsIn, bound-passed}
 use Rattle.binder.proofs.SheetLonger.{Longer, sheet-longer, hostFile, fileOf, files-are, files-longer}
 use Rattle.binder.proofs.SoundLaws.{set-sound, set-fits}
 use Rattle.binder.proofs.OrderIs.{names-length, order-is}

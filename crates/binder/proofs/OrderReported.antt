@@ -1,7 +1,7 @@
 -- The words of kind 5 of a report are the order of the set, with its laws. Assumes nothing.
-use mathlib.Core.Path.{_≡_, refl, sym, ap, subst, _∙_}
+use mathlib.Core.Path.{_≡_, refl, ap, subst, _∙_}
 use mathlib.Core.Bool.{Bool, true, false}
-use mathlib.Core.Logic.{_⊎_, inl, inr, ⊎-elim}
+use mathlib.Core.Logic.{⊎-elim}
 use mathlib.Core.List.{List, [], _∷_, _++_}
 use Prim.Native.Nat.{ℕ, zero, suc, _+_, _*_, _-_, _/_, _%_, _^_, _≤_, _<_}
 use native.Mathlib.Omega.{arith}
@@ -11,7 +11,7 @@ use lib.ListN.{length, getD, replicate}
 use Rattle.words.specs.Choice.{pick}
 use Rattle.model.specs.Objects.{Objs}
 use Rattle.model.specs.Order.{has, Before, Reach, OnceEach}
-use Rattle.model.proofs.OrderLaws.{decide, has-head, has-cons, nothing-else, needed-first}
+use Rattle.model.proofs.OrderLaws.{has-head, has-cons, nothing-else, needed-first}
 use Rattle.object.specs.Entries.{actionOf}
 use Rattle.object.specs.Record.{Record}
 use Rattle.object.specs.declared.relocate.Rela.{Rela}
@@ -21,9 +21,9 @@ use Rattle.binder.specs.Verdict.{noFile}
 use Rattle.binder.specs.Report.{reportWord, isUndefined, isPassed, entryWords, objectWords, orderWords}
 use Rattle.binder.specs.SetOrder.{needsOf, setOrder}
 use Rattle.binder.specs.Bind.{filesOf, namesOf}
-use Rattle.binder.specs.OrderReport.{numbersOf, needsIn, OrderReported, OrderReport}
+use Rattle.binder.specs.OrderReport.{numbersOf, needsIn, OrderReport}
 use Rattle.binder.proofs.OutcomeLaws.{objectsIn, orderIn, bound-passed}
-use Rattle.binder.proofs.SheetLonger.{Shape, sheet-shape}
+use Rattle.binder.proofs.SheetLonger.{sheet-shape}
 use Rattle.binder.proofs.OrderIs.{set-order, names-length}
 
 -- ---- words of kind 5, and others

@@ -1,24 +1,23 @@
 -- What a call to `bind` that is not refused has passed, and what it leaves. Assumes nothing.
-use mathlib.Core.Path.{_≡_, refl, _∙_}
+use mathlib.Core.Path.{_≡_, refl}
 use mathlib.Core.Bool.{Bool, true, false}
 use mathlib.Core.List.{List, _++_}
-use Prim.Native.Nat.{ℕ, zero, suc, _-_}
+use Prim.Native.Nat.{ℕ, _-_}
 use native.Mathlib.Omega.{arith}
 use borrow.Author.Tests.{eqb-true}
-use lib.Dec.{eqb, leb}
+use lib.Dec.{eqb}
 use lib.ListN.{length, replicate}
 use Rattle.words.specs.Choice.{pick}
 use Rattle.words.specs.Memory.{tab}
 use Rattle.model.specs.Objects.{Objs}
 use Rattle.model.specs.Relocation.{bound}
 use Rattle.binder.specs.declared.Policy.{Policy}
-use Rattle.binder.specs.declared.Answer.the-variants.{Bound, Refused}
+use Rattle.binder.specs.declared.Answer.the-variants.{Bound}
 use Rattle.binder.specs.Sheet.{Input, sheetOk, setOf, arenaOk, twinOf}
-use Rattle.binder.specs.Instance.{File}
 use Rattle.binder.specs.Verdict.{Verdict, passed, refused, first, verdict, loadVerdict, orderVerdict}
-use Rattle.binder.specs.Report.{orderWords, firstUndefined}
+use Rattle.binder.specs.Report.{orderWords}
 use Rattle.binder.specs.SetOrder.{setOrder}
-use Rattle.binder.specs.Bind.{filesOf, namesOf, objectsOf, unless, prepareVerdict, allows, relocateVerdict, Outcome, outcome, outcomeOf, bindIn, bindOf}
+use Rattle.binder.specs.Bind.{filesOf, namesOf, objectsOf, unless, prepareVerdict, relocateVerdict, outcome, outcomeOf, bindIn, bindOf}
 
 -- ---- verdicts that passed
 

@@ -1,18 +1,17 @@
 -- The set of a sheet with two more words and more bytes is the set with one more object. Assumes nothing.
 use mathlib.Core.Path.{_≡_, refl, sym, ap, _∙_}
-use mathlib.Core.Bool.{Bool, true, false, true≢false}
+use mathlib.Core.Bool.{true, false, true≢false}
 use mathlib.Core.List.{List, [], _∷_, _++_, map}
-use Prim.Native.Nat.{ℕ, zero, suc, _+_, _*_, _-_, _≤_}
+use Prim.Native.Nat.{ℕ, _*_, _≤_}
 use native.Mathlib.Omega.{arith}
 use borrow.Author.Tests.{eqb-true, leb-true}
 use lib.Dec.{eqb, leb}
 use lib.ListN.{length, take, drop, length-drop}
 use lib.Seq.{take-append-le, drop-append-le}
-use Rattle.words.specs.Choice.{both}
 use Rattle.words.proofs.Choice.{both-true}
 use Rattle.binder.specs.Sheet.{kindOf, sizeOf, pairOk, libWords, total, sheetOk, cut, Input, libsOf, objectsOf, setOf}
 use Rattle.binder.specs.Instance.{File}
-use Rattle.binder.specs.Bind.{filesOf, namesOf}
+use Rattle.binder.specs.Bind.{filesOf}
 
 -- the parts of the first words are of the first bytes, those of the others of the rest
 cut-append : (ws us bs cs : List ℕ) → total ws ≡ length bs → cut (ws ++ us) (bs ++ cs) ≡ cut ws bs ++ cut us cs
@@ -54,7 +53,6 @@ sheet-longer (h ∷ (p ∷ ws)) bytes f n added e =
     let b = both-true (eqb (kindOf p) 2) _ (a .1) in
     let c = both-true (leb (length ws) (62 * 2)) _ (b .1) in
     let d = both-true (libWords ws) (eqb (total (h ∷ (p ∷ ws))) (length bytes)) (c .1) in
-    let parts : List (List ℕ) = cut (h ∷ (p ∷ ws)) bytes in
     let x : List ℕ = take (sizeOf f) added in
     let y : List ℕ = take (sizeOf n) (drop (sizeOf f) added) in
     let rest : List ℕ = drop (sizeOf p) (drop (sizeOf h) bytes) in

@@ -1,18 +1,18 @@
 -- A set that meets none of refusals 4 to 18 is sound, and fits its arena. Assumes nothing.
-use mathlib.Core.Path.{_≡_, refl, sym, ap, subst, _∙_}
+use mathlib.Core.Path.{_≡_, refl, ap, subst}
 use mathlib.Core.Bool.{Bool, true, false}
-use mathlib.Core.Logic.{_⊎_, inl, inr, ⊎-elim}
+use mathlib.Core.Logic.{⊎-elim}
 use mathlib.Core.List.{List, [], _∷_, _++_, map, List·Memᴰ, List·Memᴰ·not-nil}
 use Prim.Native.Nat.{ℕ, zero, suc, _+_, _-_, _≤_, _<_}
 use native.Mathlib.Omega.{arith}
 use native.Mathlib.Decide.{decLe}
-use borrow.Author.Tests.{eq-eqb, eqb-true}
+use borrow.Author.Tests.{eqb-true}
 use lib.Dec.{eqb}
 use lib.ListN.{length, getD}
 use Rattle.words.specs.Choice.{pick}
 use Rattle.model.specs.Objects.{Entry, Obj, Objs, count, obj}
 use Rattle.model.specs.Order.{times, OnceEach}
-use Rattle.model.specs.Sound.{Inside, Sound}
+use Rattle.model.specs.Sound.{Sound}
 use Rattle.model.specs.Layout.{Fits, layout, objsOf}
 use Rattle.model.specs.Layout as layouts
 use Rattle.model.proofs.Laid.{objs-apart}
@@ -24,7 +24,7 @@ use Rattle.object.specs.Loaded as loading
 use Rattle.object.proofs.RefusalLaws.{after-zero}
 use Rattle.object.proofs.LoadedLaws.{place-fits}
 use Rattle.binder.specs.Instance.{File, imageOf, recordOf, placesOf, wordsOf, relasOf, entryOf, objectAt}
-use Rattle.binder.specs.Verdict.{Verdict, passed, verdict, noFile, loadVerdict, wordsVerdict, entriesVerdict, objectVerdict, orderVerdict}
+use Rattle.binder.specs.Verdict.{passed, verdict, noFile, loadVerdict, wordsVerdict, entriesVerdict, objectVerdict, orderVerdict}
 use Rattle.binder.proofs.OutcomeLaws.{first-passed, verdict-passed}
 use Rattle.binder.proofs.InsideLaws.{writable-inside, words-inside, entries-inside}
 
