@@ -6,3 +6,10 @@ pub mod SheetLaws
 pub mod PartLaws
 pub mod SheetCases
 pub mod WipeLaws
+pub mod OutcomeLaws
+pub mod SheetLonger
+pub mod InsideLaws
+pub mod SoundLaws
+pub mod OrderIs
+pub mod LongerSetLaw
+pub mod OrderReported

@@ -1,4 +1,11 @@
-pub mod Table
-pub mod OrderState
 pub mod Sheet
 pub mod Parts
+pub mod Table
+pub mod OrderState
+pub mod Instance
+pub mod Verdict
+pub mod Report
+pub mod SetOrder
+pub mod Bind
+pub mod LongerSet
+pub mod OrderReport

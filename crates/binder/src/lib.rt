@@ -2,3 +2,32 @@
 pub mod order;
 pub mod sheet;
 pub mod wipe;
+
+// What happens to a set with undefined entries: it is refused, or bound with a report.
+pub enum Policy {
+    Strict,
+    Lenient,
+}
+
+// The answer of a call that binds: refusals have a number and an object.
+pub enum Answer {
+    Bound,
+    Refused {
+        number: u32,
+        object: u32,
+    },
+}
+
+// The answer of a query.
+pub enum Reply {
+    Found {
+        object: u32,
+        symbol: u32,
+        address: u64,
+    },
+    Absent,
+    Refused {
+        number: u32,
+        object: u32,
+    },
+}

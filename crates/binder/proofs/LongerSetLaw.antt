@@ -1,0 +1,87 @@
+-- Demand 3 for `bind` and `query`: what a longer set keeps of a set that is bound. Assumes nothing.
+use mathlib.Core.Path.{_≡_, sym, ap, subst, _∙_}
+use mathlib.Core.List.{List, [], _∷_, _++_, map}
+use Prim.Native.Nat.{ℕ}
+use native.Mathlib.Omega.{arith}
+use lib.ListN.{length, length-append, length-map}
+use Rattle.words.specs.Memory.{mem, tab}
+use Rattle.model.specs.Relocation.{bound}
+use Rattle.model.specs.Longer.{OnlyProgramCopies, Kept}
+use Rattle.model.proofs.Files.{longer-files}
+use Rattle.binder.specs.Sheet.{Input, setOf}
+use Rattle.binder.specs.Instance.{File, objectAt}
+use Rattle.binder.specs.Verdict.{passed, loadVerdict, orderVerdict}
+use Rattle.binder.specs.SetOrder.{setOrder}
+use Rattle.binder.specs.Bind.{filesOf, namesOf, objectsOf}
+use Rattle.binder.specs.LongerSet.{LongerSet}
+use Rattle.binder.proofs.OutcomeLaws.{objectsIn, bound-passed}
+use Rattle.binder.proofs.SheetLonger.{Longer, sheet-longer, hostFile, fileOf, files-are, files-longer}
+use Rattle.binder.proofs.SoundLaws.{set-sound, set-fits}
+use Rattle.binder.proofs.OrderIs.{names-length, order-is}
+
+-- the two stages that a set passed, of its files and its libraries' names
+abbrev Loads : ℕ → List File → Type 0
+Loads size files = loadVerdict size 0 0 files ≡ passed
+
+abbrev Relocates : ℕ → List File → List (List ℕ) → Type 0
+Relocates address files names = orderVerdict (objectsOf address files) files (setOrder files names) ≡ passed
+
+-- what is claimed, of two sets in arenas of `size` and `size′` bytes
+abbrev Keeps : ℕ → ℕ → List File → List (List ℕ) → ℕ → List File → List (List ℕ) → Type 0
+Keeps address size files names size′ files′ names′ =
+    Kept (objectsOf address files) (objectsOf address files′)
+    (mem (tab size (bound (objectsOf address files) (setOrder files names))))
+    (mem (tab size′ (bound (objectsOf address files′) (setOrder files′ names′))))
+
+-- of files
+keeps :
+    (address size size′ : ℕ) (h p : File) (fs : List File) (f : File) (names names′ : List (List ℕ)) → length names ≡ length fs
+    → length names′ ≡ length (fs ++ (f ∷ []))
+    → Loads size (h ∷ (p ∷ fs))
+    → Relocates address (h ∷ (p ∷ fs)) names
+    → OnlyProgramCopies (objectsOf address (h ∷ (p ∷ fs)))
+    → Loads size′ (h ∷ (p ∷ (fs ++ (f ∷ []))))
+    → Relocates address (h ∷ (p ∷ (fs ++ (f ∷ [])))) names′
+    → Keeps address size (h ∷ (p ∷ fs)) names size′ (h ∷ (p ∷ (fs ++ (f ∷ [])))) names′
+unfolding objectsOf
+keeps address size size′ h p fs f names names′ n n′ v w only v′ w′ =
+    let order : List ℕ = setOrder (h ∷ (p ∷ fs)) names in
+    let order′ : List ℕ = setOrder (h ∷ (p ∷ (fs ++ (f ∷ [])))) names′ in
+    let o = order-is address h p fs names n in
+    let o′ = order-is address h p (fs ++ (f ∷ [])) names′ n′ in
+    longer-files (objectAt address) h p fs order size (set-sound address size h p fs v order o w) o (set-fits address size h p fs v) only
+    f order′ size′ (set-sound address size′ h p (fs ++ (f ∷ [])) v′ order′ o′ w′) o′ (set-fits address size′ h p (fs ++ (f ∷ [])) v′)
+
+-- of any two sets of which the second is the first and one object more
+keeps-any :
+    (address size size′ : ℕ) (os os′ : List Input) → Longer os os′ → Loads size (filesOf os)
+    → Relocates address (filesOf os) (namesOf os)
+    → OnlyProgramCopies (objectsIn address os)
+    → Loads size′ (filesOf os′)
+    → Relocates address (filesOf os′) (namesOf os′)
+    → Keeps address size (filesOf os) (namesOf os) size′ (filesOf os′) (namesOf os′)
+keeps-any address size size′ os os′ l v w only v′ w′ =
+    let fs : List File = map fileOf (l .libs) in
+    let files : filesOf os ≡ hostFile (l .host) ∷ (fileOf (l .program) ∷ fs) =
+    ap filesOf (l .is) ∙ files-are (l .host) (l .program) (l .libs) in
+    let files′ : filesOf os′ ≡ hostFile (l .host) ∷ (fileOf (l .program) ∷ (fs ++ (fileOf (l .added) ∷ []))) =
+    ap filesOf (l .longer) ∙ files-longer (l .host) (l .program) (l .libs) (l .added) in
+    let n : length (namesOf os) ≡ length fs =
+    ap (λ (s : List Input). length (namesOf s)) (l .is)
+    ∙ (names-length (l .host) (l .program) (l .libs) ∙ sym (length-map (l .libs) fileOf)) in
+    let n″ : length (namesOf os′) ≡ length (l .libs ++ (l .added ∷ [])) =
+    ap (λ (s : List Input). length (namesOf s)) (l .longer) ∙ names-length (l .host) (l .program) (l .libs ++ (l .added ∷ [])) in
+    let n′ : length (namesOf os′) ≡ length (fs ++ (fileOf (l .added) ∷ [])) =
+    omega (arith, length-append fs (fileOf (l .added) ∷ []), length-append (l .libs) (l .added ∷ []), length-map (l .libs) fileOf) in
+    rw (files, files′)
+    (keeps address size size′ (hostFile (l .host)) (fileOf (l .program)) fs (fileOf (l .added)) (namesOf os) (namesOf os′) n n′
+    (rw files at v) (rw files at w) (subst (λ (s : List File). OnlyProgramCopies (objectsOf address s)) files only) (rw files′ at v′)
+    (rw files′ at w′))
+
+pub longer-set : LongerSet
+longer-set address policy sheet bytes size words arena report b only f n added size′ words′ arena′ report′ b′ =
+    let p = bound-passed sheet bytes size address policy words arena report b in
+    let p′ = bound-passed (sheet ++ (f ∷ (n ∷ []))) (bytes ++ added) size′ address policy words′ arena′ report′ b′ in
+    rw (p .arena-is, p′ .arena-is)
+    (keeps-any address size size′ (setOf sheet bytes) (setOf (sheet ++ (f ∷ (n ∷ []))) (bytes ++ added))
+    (sheet-longer sheet bytes f n added (p .sheet-ok)) (p .loads) (p .relocates) only (p′ .loads) (p′ .relocates))

@@ -1,0 +1,130 @@
+-- The words of kind 5 of a report are the order of the set, with its laws. Assumes nothing.
+use mathlib.Core.Path.{_≡_, refl, ap, subst, _∙_}
+use mathlib.Core.Bool.{Bool, true, false}
+use mathlib.Core.Logic.{⊎-elim}
+use mathlib.Core.List.{List, [], _∷_, _++_}
+use Prim.Native.Nat.{ℕ, zero, suc, _+_, _*_, _-_, _/_, _%_, _^_, _≤_, _<_}
+use native.Mathlib.Omega.{arith}
+use borrow.Author.Tests.{eq-eqb, ne-eqb}
+use lib.Dec.{eqb}
+use lib.ListN.{length, getD, replicate}
+use Rattle.words.specs.Choice.{pick}
+use Rattle.model.specs.Objects.{Objs}
+use Rattle.model.specs.Order.{has, Before, Reach, OnceEach}
+use Rattle.model.proofs.OrderLaws.{has-head, has-cons, nothing-else, needed-first}
+use Rattle.object.specs.Entries.{actionOf}
+use Rattle.object.specs.Record.{Record}
+use Rattle.object.specs.declared.relocate.Rela.{Rela}
+use Rattle.binder.specs.Sheet.{Input, setOf}
+use Rattle.binder.specs.Instance.{File, imageOf, recordOf, relasOf}
+use Rattle.binder.specs.Verdict.{noFile}
+use Rattle.binder.specs.Report.{reportWord, isUndefined, isPassed, entryWords, objectWords, orderWords}
+use Rattle.binder.specs.SetOrder.{needsOf, setOrder}
+use Rattle.binder.specs.Bind.{filesOf, namesOf}
+use Rattle.binder.specs.OrderReport.{numbersOf, needsIn, OrderReport}
+use Rattle.binder.proofs.OutcomeLaws.{objectsIn, orderIn, bound-passed}
+use Rattle.binder.proofs.SheetLonger.{sheet-shape}
+use Rattle.binder.proofs.OrderIs.{set-order, names-length}
+
+-- ---- words of kind 5, and others
+
+numbers-append : (kind : ℕ) (xs ys : List ℕ) → numbersOf kind (xs ++ ys) ≡ numbersOf kind xs ++ numbersOf kind ys
+unfolding numbersOf
+numbers-append kind [] ys = refl
+numbers-append kind (x ∷ xs) ys = go (eqb (x / 2 ^ 28) kind) (numbersOf kind (xs ++ ys)) (numbersOf kind xs) (numbers-append kind xs ys)
+  where
+    go :
+        (t : Bool) (l r : List ℕ) → l ≡ r ++ numbersOf kind ys
+        → pick t (x % 2 ^ 28 ∷ l) l ≡ pick t (x % 2 ^ 28 ∷ r) r ++ numbersOf kind ys
+    go true l r e = ap (λ (l : List ℕ). x % 2 ^ 28 ∷ l) e
+    go false l r e = e
+
+-- a word of kind 5
+number-five : (k : ℕ) (ws : List ℕ) → k < 2 ^ 28 → numbersOf 5 (reportWord 5 k ∷ ws) ≡ k ∷ numbersOf 5 ws
+unfolding numbersOf
+number-five k ws h =
+    let d : (5 * 2 ^ 28 + k) / 2 ^ 28 ≡ 5 = omega arith in
+    let m : (5 * 2 ^ 28 + k) % 2 ^ 28 ≡ k = omega arith in
+    rw (eq-eqb _ _ d) (ap (λ (n : ℕ). n ∷ numbersOf 5 ws) m)
+
+-- another word
+number-other : (w : ℕ) (ws : List ℕ) → (w / 2 ^ 28 ≡ 5 → ⊥) → numbersOf 5 (w ∷ ws) ≡ numbersOf 5 ws
+unfolding numbersOf
+number-other w ws h = rw (ne-eqb _ _ h)
+
+no-zeros : (n : ℕ) → numbersOf 5 (replicate n 0) ≡ []
+unfolding numbersOf
+no-zeros zero = refl
+no-zeros (suc n) = no-zeros n
+
+-- those of entries are of kinds 6 and 7
+entry-none : (i : ℕ) (s t : Bool) (ws : List ℕ) → numbersOf 5 (pick s (reportWord 6 i ∷ []) (pick t (reportWord 7 i ∷ []) []) ++ ws) ≡ numbersOf 5 ws
+entry-none i true t ws = number-other (reportWord 6 i) ws (λ e. omega arith)
+entry-none i false true ws = number-other (reportWord 7 i) ws (λ e. omega arith)
+entry-none i false false ws = refl
+
+entries-none : (S : Objs) (k : ℕ) (image : List ℕ) (r : Record) (i : ℕ) (es : List Rela) → numbersOf 5 (entryWords S k image r i es) ≡ []
+unfolding entryWords numbersOf
+entries-none S k image r i [] = refl
+entries-none S k image r i (e ∷ es) =
+    entry-none i (isUndefined S k image r e) (isPassed (actionOf (e .kind))) (entryWords S k image r (i + 1) es)
+    ∙ entries-none S k image r (i + 1) es
+
+-- the words of an order whose numbers fit 28 bits
+order-numbers :
+    (S : Objs) (files : List File) (order : List ℕ) → ((k : ℕ) → has k order ≡ true → k < 2 ^ 28)
+    → numbersOf 5 (orderWords S files order) ≡ order
+unfolding orderWords objectWords
+order-numbers S files [] small = no-zeros 0
+order-numbers S files (k ∷ ks) small =
+    let f : File = getD files k noFile in
+    let es : List ℕ = entryWords S k (imageOf f) (recordOf f) 0 (relasOf (imageOf f) (recordOf f)) in
+    number-five k (es ++ orderWords S files ks) (small k (has-head k ks))
+    ∙ ap (λ (l : List ℕ). k ∷ l)
+    (numbers-append 5 es (orderWords S files ks)
+    ∙ (ap (λ (l : List ℕ). l ++ numbersOf 5 (orderWords S files ks))
+    (entries-none S k (imageOf f) (recordOf f) 0 (relasOf (imageOf f) (recordOf f)))
+    ∙ order-numbers S files ks (λ j h. small j (has-cons j k ks h))))
+
+append-nil : (l : List ℕ) → l ++ [] ≡ l
+append-nil [] = refl
+append-nil (x ∷ l) = ap (λ (r : List ℕ). x ∷ r) (append-nil l)
+
+-- ---- the order of a set of at most 62 libraries
+
+order-small : (files : List File) (names : List (List ℕ)) → length names ≤ 62 → (k : ℕ) → has k (setOrder files names) ≡ true → k < 2 ^ 28
+unfolding setOrder
+order-small files names few k h =
+    ⊎-elim (λ (e : k ≡ 1). omega arith) (λ (b : (2 ≤ k) × (k < length names + 2)). omega arith)
+    (nothing-else (λ k. needsOf names (getD files k noFile)) (length names) k h)
+
+set-needed-first :
+    (os : List Input) (a b : ℕ) → 2 ≤ a → a < length (namesOf os) + 2 → 2 ≤ b → b < length (namesOf os) + 2
+    → has b (needsIn os a) ≡ true
+    → (Reach (needsIn os) (length (namesOf os)) b a → ⊥)
+    → Before b a (orderIn os)
+unfolding setOrder
+set-needed-first os a b la ha lb hb n far = needed-first (needsIn os) (length (namesOf os)) a b la ha lb hb n far
+
+pub order-report : OrderReport
+order-report sheet bytes size address policy words arena report e =
+    let os : List Input = setOf sheet bytes in
+    let p = bound-passed sheet bytes size address policy words arena report e in
+    let s = sheet-shape sheet bytes (length bytes) (p .sheet-ok) in
+    let names : length (namesOf os) ≡ length (s .libs) =
+    ap (λ (l : List Input). length (namesOf l)) (s .is) ∙ names-length (s .host) (s .program) (s .libs) in
+    let all : length os ≡ length (s .libs) + 2 = omega (arith, ap (λ (l : List Input). length l) (s .is)) in
+    let count : length (namesOf os) + 2 ≡ length os = omega arith in
+    let ws : List ℕ = orderWords (objectsIn address os) (filesOf os) (orderIn os) in
+    let few : length (namesOf os) ≤ 62 = omega (arith, s .few) in
+    let is : numbersOf 5 report ≡ orderIn os =
+    ap (λ (l : List ℕ). numbersOf 5 l) (p .report-is)
+    ∙ (numbers-append 5 ws (replicate (words - length ws) 0)
+    ∙ (ap (λ (l : List ℕ). numbersOf 5 ws ++ l) (no-zeros (words - length ws))
+    ∙ (append-nil (numbersOf 5 ws)
+    ∙ order-numbers (objectsIn address os) (filesOf os) (orderIn os) (order-small (filesOf os) (namesOf os) few)))) in
+    record {
+      order = is;
+      once = rw is (subst (λ (n : ℕ). OnceEach n (orderIn os)) count (set-order (filesOf os) (namesOf os)));
+      needed-first = λ a b la ha lb hb n far. rw is (set-needed-first os a b la (omega arith) lb (omega arith) n far);
+    }

@@ -1,0 +1,170 @@
+-- A set that meets none of refusals 4 to 18 is sound, and fits its arena. Assumes nothing.
+use mathlib.Core.Path.{_≡_, refl, ap, subst}
+use mathlib.Core.Bool.{Bool, true, false}
+use mathlib.Core.Logic.{⊎-elim}
+use mathlib.Core.List.{List, [], _∷_, _++_, map, List·Memᴰ, List·Memᴰ·not-nil}
+use Prim.Native.Nat.{ℕ, zero, suc, _+_, _-_, _≤_, _<_}
+use native.Mathlib.Omega.{arith}
+use native.Mathlib.Decide.{decLe}
+use borrow.Author.Tests.{eqb-true}
+use lib.Dec.{eqb}
+use lib.ListN.{length, getD}
+use Rattle.words.specs.Choice.{pick}
+use Rattle.model.specs.Objects.{Entry, Obj, Objs, count, obj}
+use Rattle.model.specs.Order.{times, OnceEach}
+use Rattle.model.specs.Sound.{Sound}
+use Rattle.model.specs.Layout.{Fits, layout, objsOf}
+use Rattle.model.specs.Layout as layouts
+use Rattle.model.proofs.Laid.{objs-apart}
+use Rattle.model.proofs.OrderLaws.{decide}
+use Rattle.object.specs.TableBytes.{inWritable}
+use Rattle.object.specs.Placed.{objectSpan, placeRefusal}
+use Rattle.object.specs.Loaded.{objectRefusal}
+use Rattle.object.specs.Loaded as loading
+use Rattle.object.proofs.RefusalLaws.{after-zero}
+use Rattle.object.proofs.LoadedLaws.{place-fits}
+use Rattle.binder.specs.Instance.{File, imageOf, recordOf, placesOf, wordsOf, relasOf, entryOf, objectAt}
+use Rattle.binder.specs.Verdict.{passed, verdict, noFile, loadVerdict, wordsVerdict, entriesVerdict, objectVerdict, orderVerdict}
+use Rattle.binder.proofs.OutcomeLaws.{first-passed, verdict-passed}
+use Rattle.binder.proofs.InsideLaws.{writable-inside, words-inside, entries-inside}
+
+-- ---- where an object stands
+
+-- refusal 8 passed
+load-fits : (f : File) (room : ℕ) → objectRefusal (f .host) room (f .bytes) ≡ 0 → objectSpan (f .host) (f .bytes) ≤ room
+unfolding loading.objectRefusal
+load-fits f room e = place-fits (f .host) (f .bytes) room (after-zero (placeRefusal (f .host) room (f .bytes)) _ e .0)
+
+-- `o` is the object of the file `f` at an offset, and ends within the arena
+record Stands (address size : ℕ) (f : File) (o : Obj) : Type 0 where
+  off : ℕ
+  is : o ≡ objectAt address f off
+  fits : off + objectSpan (f .host) (f .bytes) ≤ size
+
+module _ (address size : ℕ) where
+  stands :
+      (files : List File) (n off k : ℕ) (d : Obj) → off ≤ size → loadVerdict size n off files ≡ passed → k < length files
+      → Stands address size (getD files k noFile) (getD (layout (objectAt address) files off) k d)
+  unfolding loadVerdict layouts.layout objectAt
+  stands [] n off k d l v h = absurd (omega arith)
+  stands (f ∷ fs) n off zero d l v h =
+      let a = first-passed (verdict (objectRefusal (f .host) (size - off) (f .bytes)) n) _ v in
+      let b = load-fits f (size - off) (verdict-passed (objectRefusal (f .host) (size - off) (f .bytes)) n (a .0)) in
+      record { off = off; is = refl; fits = omega arith }
+  stands (f ∷ fs) n off (suc k) d l v h =
+      let a = first-passed (verdict (objectRefusal (f .host) (size - off) (f .bytes)) n) _ v in
+      let b = load-fits f (size - off) (verdict-passed (objectRefusal (f .host) (size - off) (f .bytes)) n (a .0)) in
+      stands fs (n + 1) (off + objectSpan (f .host) (f .bytes)) k d (omega arith) (a .1) (omega arith)
+
+  layout-length : (files : List File) (off : ℕ) → length (layout (objectAt address) files off) ≡ length files
+  unfolding layouts.layout
+  layout-length [] off = refl
+  layout-length (f ∷ fs) off = ap suc (layout-length fs _)
+
+  pub count-is : (h p : File) (fs : List File) → count (objsOf (objectAt address) h p fs) ≡ length fs + 2
+  unfolding layouts.objsOf
+  count-is h p fs = omega (arith, layout-length fs (layouts.next (objectAt address) p (layouts.next (objectAt address) h 0)))
+
+  object-is :
+      (h p : File) (fs : List File) → loadVerdict size 0 0 (h ∷ (p ∷ fs)) ≡ passed → (k : ℕ) → k < count (objsOf (objectAt address) h p fs)
+      → Stands address size (getD (h ∷ (p ∷ fs)) k noFile) (obj (objsOf (objectAt address) h p fs) k)
+  unfolding layouts.objsOf layouts.layout
+  object-is h p fs v k l =
+      stands (h ∷ (p ∷ fs)) 0 0 k (objectAt address h 0) (omega arith) v (omega (arith, layout-length (h ∷ (p ∷ fs)) 0))
+
+  -- the objects fit the arena
+  pub set-fits :
+      (h p : File) (fs : List File) → loadVerdict size 0 0 (h ∷ (p ∷ fs)) ≡ passed → Fits (objsOf (objectAt address) h p fs) size
+  unfolding objectAt
+  set-fits h p fs v k l =
+      let s = object-is h p fs v k l in
+      let a = ap (λ (o : Obj). o .offset) (s .is) in
+      let b = ap (λ (o : Obj). o .span) (s .is) in
+      omega (arith, s .fits)
+
+-- ---- every object of the order is checked
+
+order-checked :
+    (S : Objs) (files : List File) (order : List ℕ) → orderVerdict S files order ≡ passed → (k : ℕ) → 0 < times k order
+    → objectVerdict S k (getD files k noFile) ≡ passed
+unfolding orderVerdict
+order-checked S files [] v k h = absurd (omega arith)
+order-checked S files (j ∷ js) v k h =
+    let a = first-passed (objectVerdict S j (getD files j noFile)) (orderVerdict S files js) v in
+    ⊎-elim
+    (λ (t : eqb j k ≡ true). subst (λ (i : ℕ). objectVerdict S i (getD files i noFile) ≡ passed) (eqb-true j k t) (a .0))
+    (λ (t : eqb j k ≡ false). order-checked S files js (a .1) k (rw t at h))
+    (decide (eqb j k))
+
+times-front : (k : ℕ) (front : List ℕ) → 0 < times k front → 0 < times k (front ++ (1 ∷ []))
+times-front k [] h = absurd (omega arith)
+times-front k (j ∷ js) h =
+    ⊎-elim (λ (t : eqb j k ≡ true). rw t (omega arith)) (λ (t : eqb j k ≡ false). rw t (times-front k js (rw t at h))) (decide (eqb j k))
+
+times-last : (front : List ℕ) → 0 < times 1 (front ++ (1 ∷ []))
+times-last [] = omega arith
+times-last (j ∷ js) =
+    ⊎-elim (λ (t : eqb j 1 ≡ true). rw t (omega arith)) (λ (t : eqb j 1 ≡ false). rw t (times-last js)) (decide (eqb j 1))
+
+-- every object but the host is in the order
+in-order : (n : ℕ) (order : List ℕ) → OnceEach n order → (k : ℕ) → 1 ≤ k → k < n → 0 < times k order
+in-order n order o k a b = rw (o .split) (go (decLe 2 k))
+  where
+    go : Dec (2 ≤ k) → 0 < times k (o .front ++ (1 ∷ []))
+    go (yes l) = times-front k (o .front) (omega (arith, o .once k l b))
+    go (no l) = let z : k ≡ 1 = omega arith in rw z (times-last (o .front))
+
+-- ---- what is picked
+
+from-pick : {A : Type 0} {x : A} (t : Bool) (xs : List A) → List·Memᴰ x (pick t [] xs) → List·Memᴰ x xs
+from-pick true xs m = absurd (List·Memᴰ·not-nil m)
+from-pick false xs m = m
+
+-- ---- the set
+
+module _ (address size : ℕ) (h p : File) (fs : List File) (v : loadVerdict size 0 0 (h ∷ (p ∷ fs)) ≡ passed) (order : List ℕ)
+    (once : OnceEach (count (objsOf (objectAt address) h p fs)) order)
+    (w : orderVerdict (objsOf (objectAt address) h p fs) (h ∷ (p ∷ fs)) order ≡ passed) where
+  abbrev set : Objs
+  set = objsOf (objectAt address) h p fs
+
+  abbrev file : ℕ → File
+  file k = getD (h ∷ (p ∷ fs)) k noFile
+
+  checked :
+      (k : ℕ) → 1 ≤ k → k < count set
+      → (wordsVerdict k (recordOf (file k)) (wordsOf (imageOf (file k)) (recordOf (file k))) ≡ passed)
+      × (entriesVerdict set k (imageOf (file k)) (recordOf (file k)) (relasOf (imageOf (file k)) (recordOf (file k))) ≡ passed)
+  unfolding objectVerdict
+  checked k a b =
+      first-passed (wordsVerdict k (recordOf (file k)) (wordsOf (imageOf (file k)) (recordOf (file k)))) _
+      (order-checked set (h ∷ (p ∷ fs)) order w k (in-order (count set) order once k a b))
+
+  inner :
+      (k : ℕ) → k < count set → (q n : ℕ) → inWritable (recordOf (file k) .segments) q n ≡ true → q + n ≤ (obj set k) .span
+  unfolding objectAt
+  inner k b q n e =
+      let s = ap (λ (o : Obj). o .span) (object-is address size h p fs v k b .is) in
+      omega (arith, writable-inside (file k .host) (file k .bytes) q n e)
+
+  pub set-sound : Sound (objsOf (objectAt address) h p fs)
+  unfolding objectAt
+  set-sound =
+      record {
+        apart = objs-apart (objectAt address) (λ f off. omega arith) h p fs;
+        words-in = λ k a b q m.
+            let s = object-is address size h p fs v k b in
+            let ws : List ℕ = placesOf (wordsOf (imageOf (file k)) (recordOf (file k))) in
+            let in-file : List·Memᴰ q ws =
+            from-pick (file k .host) ws (subst (λ (l : List ℕ). List·Memᴰ q l) (ap (λ (o : Obj). o .words) (s .is)) m) in
+            inner k b q 8
+            (words-inside k (recordOf (file k)) (wordsOf (imageOf (file k)) (recordOf (file k))) (checked k a b .0) q in-file);
+        entries-in = λ k a b x m.
+            let s = object-is address size h p fs v k b in
+            let es : List Entry =
+            map (entryOf (imageOf (file k)) (recordOf (file k)) (address + s .off)) (relasOf (imageOf (file k)) (recordOf (file k))) in
+            let in-file : List·Memᴰ x es =
+            from-pick (file k .host) es (subst (λ (l : List Entry). List·Memᴰ x l) (ap (λ (o : Obj). o .entries) (s .is)) m) in
+            entries-inside set k (imageOf (file k)) (recordOf (file k)) (address + s .off) (inner k b)
+            (relasOf (imageOf (file k)) (recordOf (file k))) (checked k a b .1) x in-file;
+      }

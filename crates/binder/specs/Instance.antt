@@ -1,0 +1,82 @@
+-- The objects of a set as the model has them: its objects made of files by the reader's definitions. Document 01, "Placed bytes" ("base =
+-- arena address + offset"), "An address for a name", "Relocated bytes and report". An object depends on its file, on whether it is the
+-- host's, on its offset and on the arena's address, and on nothing else. Assumes nothing.
+use mathlib.Core.Bool.{Bool, true, false}
+use mathlib.Core.List.{List, [], _∷_, _++_, map}
+use Prim.Native.Nat.{ℕ, _+_}
+use lib.ListN.{length}
+use Rattle.words.specs.Choice.{pick}
+use Rattle.words.specs.Words.{sum64}
+use Rattle.model.specs.Symbols.{Name, Sym, Found, none, hit}
+use Rattle.model.specs.Objects.{Entry, fixed, symbol, copy, pass, Obj}
+use Rattle.object.specs.declared.relocate.Rela.{Rela}
+use Rattle.object.specs.declared.relocate.Action.{Action}
+use Rattle.object.specs.declared.relocate.Action.the-variants.{Ignored, Passed, Relative, Symbolic, Copy, Irelative}
+use Rattle.object.specs.declared.hash_tables.Definition.{Definition}
+use Rattle.object.specs.declared.hash_tables.Answer.{Answer}
+use Rattle.object.specs.declared.hash_tables.Answer.the-variants.{Absent, Present}
+use Rattle.object.specs.Symbol.{symbolAt, symbolName}
+use Rattle.object.specs.HashTable.{answerIn}
+use Rattle.object.specs.Entries.{relasFrom, relrsFrom, actionOf, Location, Word, place, nowhere, relrWords}
+use Rattle.object.specs.Entries as entries
+use Rattle.object.specs.Record.{Record, viewOf}
+use Rattle.object.specs.Placed.{objectSpan, objectBytes, objectImage}
+use Rattle.object.specs.Loaded.{objectRecord}
+
+-- a file of the set, and whether it is the host's
+pub record File : Type 0 where
+  pub host : Bool
+  pub bytes : List ℕ
+
+abbrev pub imageOf : File → List ℕ
+imageOf f = objectImage (f .host) (f .bytes)
+
+abbrev pub recordOf : File → Record
+recordOf f = objectRecord (f .host) (f .bytes)
+
+-- a symbol that answers
+abbrev pub symOf : Definition → Sym
+symOf d = record { index = d .index; value = d .value; size = d .size; protected = d .guarded; absolute = d .absolute }
+
+abbrev pub foundOf : Answer → Found
+foundOf Absent = none
+foundOf (Present d) = hit (symOf d)
+
+-- the places of the words that RELR names; refusal 17 leaves no word before any address
+unfoldable pub placesOf : List Word → List ℕ
+placesOf [] = []
+placesOf (place p ∷ ws) = p ∷ placesOf ws
+placesOf (nowhere ∷ ws) = placesOf ws
+
+unfoldable pub wordsOf : List ℕ → Record → List Word
+wordsOf image r = relrWords entries.none (relrsFrom image (r .relr) 0 (r .relrs))
+
+-- RELA, then PLT
+unfoldable pub relasOf : List ℕ → Record → List Rela
+relasOf image r = relasFrom image (r .rela) 0 (r .relas) ++ relasFrom image (r .plt) 0 (r .plts)
+
+-- what an entry is, by its type
+unfoldable pub entryBy : List ℕ → Record → ℕ → Rela → Action → Entry
+entryBy image r base e Ignored = pass
+entryBy image r base e Passed = pass
+entryBy image r base e Irelative = pass
+entryBy image r base e Relative = fixed (e .place) 8 (sum64 base (e .addend))
+entryBy image r base e Symbolic = symbol (e .place) 8 (symbolName image (r .symbols) (r .strings) (e .symbol)) (λ a. a)
+entryBy image r base e Copy =
+    copy (e .place) (symbolName image (r .symbols) (r .strings) (e .symbol)) (symbolAt image (r .symbols) (e .symbol) .size)
+
+abbrev pub entryOf : List ℕ → Record → ℕ → Rela → Entry
+entryOf image r base e = entryBy image r base e (actionOf (e .kind))
+
+-- the object of a file at an offset, in an arena at `address`; the host's relocation tables are not read
+unfoldable pub objectAt : ℕ → File → ℕ → Obj
+objectAt address f off =
+    record {
+      offset = off;
+      span = objectSpan (f .host) (f .bytes);
+      base = address + off;
+      image = objectBytes (f .host) (f .bytes);
+      find = λ name. foundOf (answerIn (imageOf f) (viewOf (recordOf f)) name);
+      words = pick (f .host) [] (placesOf (wordsOf (imageOf f) (recordOf f)));
+      entries = pick (f .host) [] (map (entryOf (imageOf f) (recordOf f) (address + off)) (relasOf (imageOf f) (recordOf f)));
+    }

@@ -1,0 +1,75 @@
+-- The report. Document 01, "Relocated bytes and report": "per object a word of kind 5 with its number, then in entry order kind 6
+-- (undefined) or kind 7 (passed over, type 0 excepted) with the entry's number, RELA from 0, PLT following. Unused words are 0";
+-- "Unresolved with binding other than 2 is undefined, also for symbol 0"; refusals 19 and 20. Assumes nothing.
+use mathlib.Core.Bool.{Bool, true, false, not}
+use mathlib.Core.List.{List, [], _∷_, _++_}
+use Prim.Native.Nat.{ℕ, _+_, _*_, _^_}
+use lib.Dec.{eqb}
+use lib.ListN.{getD}
+use Rattle.words.specs.Choice.{pick, both, some}
+use Rattle.model.specs.Symbols.{Answer, absent, answer}
+use Rattle.model.specs.Objects.{Objs}
+use Rattle.model.specs.Scope.{resolve, resolveCopy}
+use Rattle.object.specs.Symbol.{symbolAt, symbolName, bindingOf}
+use Rattle.object.specs.Entries.{actionOf}
+use Rattle.object.specs.Record.{Record}
+use Rattle.object.specs.declared.relocate.Rela.{Rela}
+use Rattle.object.specs.declared.relocate.Action.{Action}
+use Rattle.object.specs.declared.relocate.Action.the-variants.{Ignored, Passed, Relative, Symbolic, Copy, Irelative}
+use Rattle.binder.specs.Instance.{File, imageOf, recordOf, relasOf}
+use Rattle.binder.specs.Verdict.{noFile}
+
+-- a word: the top four bits are the kind, the low 28 a number
+abbrev pub reportWord : ℕ → ℕ → ℕ
+reportWord kind n = kind * 2 ^ 28 + n
+
+abbrev pub isAbsent : Answer → Bool
+isAbsent absent = true
+isAbsent (answer k s a) = false
+
+-- "Unresolved with binding other than 2", of an entry of object `k` whose search had that answer
+abbrev pub unresolved : List ℕ → Record → Rela → Answer → Bool
+unresolved image r e a = both (isAbsent a) (not (eqb (bindingOf (symbolAt image (r .symbols) (e .symbol))) 2))
+
+unfoldable pub undefinedBy : Objs → ℕ → List ℕ → Record → Rela → Action → Bool
+undefinedBy S k image r e Ignored = false
+undefinedBy S k image r e Passed = false
+undefinedBy S k image r e Irelative = false
+undefinedBy S k image r e Relative = false
+undefinedBy S k image r e Symbolic = unresolved image r e (resolve S k (symbolName image (r .symbols) (r .strings) (e .symbol)))
+undefinedBy S k image r e Copy = unresolved image r e (resolveCopy S (symbolName image (r .symbols) (r .strings) (e .symbol)))
+
+abbrev pub isUndefined : Objs → ℕ → List ℕ → Record → Rela → Bool
+isUndefined S k image r e = undefinedBy S k image r e (actionOf (e .kind))
+
+abbrev pub isPassed : Action → Bool
+isPassed Ignored = false
+isPassed Passed = true
+isPassed Relative = false
+isPassed Symbolic = false
+isPassed Copy = false
+isPassed Irelative = false
+
+-- the words of the entries, the first of which has the number `i`
+unfoldable pub entryWords : Objs → ℕ → List ℕ → Record → ℕ → List Rela → List ℕ
+entryWords S k image r i [] = []
+entryWords S k image r i (e ∷ es) =
+    pick (isUndefined S k image r e) (reportWord 6 i ∷ [])
+    (pick (isPassed (actionOf (e .kind))) (reportWord 7 i ∷ []) [])
+    ++ entryWords S k image r (i + 1) es
+
+unfoldable pub objectWords : Objs → ℕ → File → List ℕ
+objectWords S k f = reportWord 5 k ∷ entryWords S k (imageOf f) (recordOf f) 0 (relasOf (imageOf f) (recordOf f))
+
+-- the words of the objects of an order
+unfoldable pub orderWords : Objs → List File → List ℕ → List ℕ
+orderWords S files [] = []
+orderWords S files (k ∷ ks) = objectWords S k (getD files k noFile) ++ orderWords S files ks
+
+-- 19: the first object of an order that has an undefined entry; 0 where none has
+unfoldable pub hasUndefined : Objs → ℕ → File → Bool
+hasUndefined S k f = some (isUndefined S k (imageOf f) (recordOf f)) (relasOf (imageOf f) (recordOf f))
+
+unfoldable pub firstUndefined : Objs → List File → List ℕ → ℕ
+firstUndefined S files [] = 0
+firstUndefined S files (k ∷ ks) = pick (hasUndefined S k (getD files k noFile)) k (firstUndefined S files ks)

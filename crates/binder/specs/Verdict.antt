@@ -1,0 +1,112 @@
+-- Refusals of a set, each with its object: 4 to 12 object by object, 14 to 18 entry by entry in binding order. Document 01, "Refused, in
+-- checking order". All are functions of the placed images. Assumes nothing.
+use mathlib.Core.Bool.{Bool, true, false, not}
+use mathlib.Core.List.{List, [], _∷_}
+use Prim.Native.Nat.{ℕ, zero, suc, _+_, _-_, min}
+use lib.Dec.{eqb, leb}
+use lib.ListN.{getD}
+use Rattle.words.specs.Choice.{pick, both, either}
+use Rattle.model.specs.Symbols.{Name, Sym, Answer, absent, answer}
+use Rattle.model.specs.Objects.{Objs, obj}
+use Rattle.model.specs.Scope.{resolve, resolveCopy}
+use Rattle.object.specs.Refusal.{require}
+use Rattle.object.specs.TableBytes.{inWritable}
+use Rattle.object.specs.Symbol.{bindingOf}
+use Rattle.object.specs.Entries.{actionOf, Word, place, nowhere}
+use Rattle.object.specs.Record.{Record, checkedSymbol, nameOf}
+use Rattle.object.specs.Placed.{objectSpan}
+use Rattle.object.specs.Loaded.{objectRefusal}
+use Rattle.object.specs.declared.symbol.Symbol.{Symbol}
+use Rattle.object.specs.declared.relocate.Rela.{Rela}
+use Rattle.object.specs.declared.relocate.Action.{Action}
+use Rattle.object.specs.declared.relocate.Action.the-variants.{Ignored, Passed, Relative, Symbolic, Copy, Irelative}
+use Rattle.object.specs.declared.dynamic_fields.CheckedSymbol.{CheckedSymbol}
+use Rattle.object.specs.declared.dynamic_fields.CheckedSymbol.the-variants.{Refused, Checked}
+use Rattle.binder.specs.Instance.{File, imageOf, recordOf, wordsOf, relasOf}
+
+-- a refusal with its object, or none
+pub data Verdict : Type 0 where
+  passed : Verdict
+  refused : (number object : ℕ) → Verdict
+
+-- the first refusal of two
+abbrev pub first : Verdict → Verdict → Verdict
+first passed v = v
+first (refused n k) v = refused n k
+
+-- a refusal of object `k`; 0 is none
+unfoldable pub verdict : ℕ → ℕ → Verdict
+verdict n k = pick (eqb n 0) passed (refused n k)
+
+-- ---- 4 to 12: "object by object"
+
+-- the files from object `k` on, the first at the offset `off` of an arena of `size` bytes
+unfoldable pub loadVerdict : ℕ → ℕ → ℕ → List File → Verdict
+loadVerdict size k off [] = passed
+loadVerdict size k off (f ∷ fs) =
+    first (verdict (objectRefusal (f .host) (size - off) (f .bytes)) k) (loadVerdict size (k + 1) (off + objectSpan (f .host) (f .bytes)) fs)
+
+-- ---- 14 to 18: "entry by entry in binding order"
+
+-- 17: "A written place .. not inside one writable PT_LOAD of its object, or a RELR bit set before any address"
+abbrev pub writtenRefusal : Record → ℕ → ℕ → ℕ
+writtenRefusal r p n = require (inWritable (r .segments) p n) 17 0
+
+abbrev pub wordRefusal : Record → Word → ℕ
+wordRefusal r (place p) = writtenRefusal r p 8
+wordRefusal r nowhere = 17
+
+-- not 18: "A non-empty COPY from an absolute symbol, from outside the definer's span, or overlapping its destination": `n` bytes from the
+-- symbol `s` of object `d` to the place `p` of object `k`
+unfoldable pub copyOk : Objs → ℕ → ℕ → ℕ → Sym → ℕ → Bool
+copyOk S k p d s n =
+    both (not (s .absolute))
+    (both (leb (s .value + n) ((obj S d) .span))
+    (either (leb ((obj S k) .offset + p + n) ((obj S d) .offset + s .value)) (leb ((obj S d) .offset + s .value + n) ((obj S k) .offset + p))))
+
+-- 17 and 18 of a COPY to the place `p` of object `k`, whose own symbol has that size: nothing is looked at where nothing is copied
+unfoldable pub copyRefusal : Objs → ℕ → Record → ℕ → ℕ → Answer → ℕ
+copyRefusal S k r p size absent = 0
+copyRefusal S k r p size (answer d s a) =
+    pick (eqb (min size (s .size)) 0) 0
+    (require (inWritable (r .segments) p (min size (s .size))) 17 (require (copyOk S k p d s (min size (s .size))) 18 0))
+
+-- 14 and 15 of the entry's symbol, else what follows
+abbrev pub symbolThen : CheckedSymbol → (Symbol → ℕ) → ℕ
+symbolThen (Refused n) rest = n
+symbolThen (Checked y) rest = rest y
+
+unfoldable pub refusalBy : Objs → ℕ → List ℕ → Record → Rela → Action → ℕ
+refusalBy S k image r e Ignored = 0
+refusalBy S k image r e Passed = 0
+refusalBy S k image r e Irelative = 16
+refusalBy S k image r e Relative = writtenRefusal r (e .place) 8
+refusalBy S k image r e Symbolic = symbolThen (checkedSymbol image r (e .symbol)) (λ y. writtenRefusal r (e .place) 8)
+refusalBy S k image r e Copy =
+    symbolThen (checkedSymbol image r (e .symbol)) (λ y. copyRefusal S k r (e .place) (y .size) (resolveCopy S (nameOf image r y)))
+
+abbrev pub entryRefusal : Objs → ℕ → List ℕ → Record → Rela → ℕ
+entryRefusal S k image r e = refusalBy S k image r e (actionOf (e .kind))
+
+-- the words that RELR names, then the entries of RELA and PLT
+unfoldable pub wordsVerdict : ℕ → Record → List Word → Verdict
+wordsVerdict k r [] = passed
+wordsVerdict k r (w ∷ ws) = first (verdict (wordRefusal r w) k) (wordsVerdict k r ws)
+
+unfoldable pub entriesVerdict : Objs → ℕ → List ℕ → Record → List Rela → Verdict
+entriesVerdict S k image r [] = passed
+entriesVerdict S k image r (e ∷ es) = first (verdict (entryRefusal S k image r e) k) (entriesVerdict S k image r es)
+
+unfoldable pub objectVerdict : Objs → ℕ → File → Verdict
+objectVerdict S k f =
+    first (wordsVerdict k (recordOf f) (wordsOf (imageOf f) (recordOf f)))
+    (entriesVerdict S k (imageOf f) (recordOf f) (relasOf (imageOf f) (recordOf f)))
+
+-- what a number that is no object's stands for
+abbrev pub noFile : File
+noFile = record { host = true; bytes = [] }
+
+-- the objects of an order, one after another
+unfoldable pub orderVerdict : Objs → List File → List ℕ → Verdict
+orderVerdict S files [] = passed
+orderVerdict S files (k ∷ ks) = first (objectVerdict S k (getD files k noFile)) (orderVerdict S files ks)
