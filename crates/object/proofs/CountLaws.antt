@@ -1,17 +1,18 @@
--- The turns of the two loops. No contract cites this file. Assumes nothing.
-use mathlib.Core.Path.{_≡_, refl, sym, ap, _∙_, subst}
+-- The largest bucket word and the last symbol of a walk, turn by turn. No contract cites this file. Assumes nothing.
+use mathlib.Core.Path.{_≡_, refl, sym, _∙_, subst}
 use mathlib.Core.Logic.{⊎-elim}
-use mathlib.Core.Bool.{Bool, true, false}
-use mathlib.Core.List.{List, [], _∷_}
+use mathlib.Core.Bool.{true, false}
+use mathlib.Core.List.{List}
 use Prim.Native.Nat.{ℕ, zero, suc, _+_, _≤_, _<_, max}
 use native.Mathlib.Nat.{not-suc-le-zero}
 use native.Mathlib.Numerals.{add-one}
 use native.Mathlib.Omega.{arith}
-use Rattle.object.specs.declared.hash_tables.HashTable.{HashTable}
 use Rattle.words.specs.Memory.{mem}
 use Rattle.words.specs.Words.{leAt}
+use Rattle.object.specs.declared.hash_tables.HashTable.{HashTable}
 use Rattle.object.specs.HashTable.{bucketAt, chainAt, isLast, next, walk}
-use Rattle.object.specs.SymbolCount.{highest, lastOf}
+use Rattle.object.specs.declared.hash_tables.SymbolCount.the-variants.{Known}
+use Rattle.object.specs.SymbolCount.{highest, lastOf, countOf}
 use Rattle.object.proofs.Ranges.{split}
 
 pub highest-more : (m : List ℕ) (t : HashTable) (i b w r : ℕ) → b ≡ highest m t i → w ≡ leAt 4 (mem m) (bucketAt t i) → r ≡ max b w
@@ -48,3 +49,8 @@ module _ (m : List ℕ) (t : HashTable) (s d : ℕ) where
   unfolding walk lastOf
   last-out zero l = refl
   last-out (suc n) l = absurd (not-suc-le-zero l)
+
+-- document 01, "Proved cases": strings 0x400, symbols 0x2B0: 14 symbols
+pub count-case : (image : List ℕ) (t : HashTable) → countOf image (record { symbols = 0x2b0; strings = 0x400; table = t }) ≡ Known 14
+unfolding countOf
+count-case image t = refl

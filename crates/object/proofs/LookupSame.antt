@@ -3,8 +3,8 @@
 use mathlib.Core.Path.{_≡_, refl, sym, ap, _∙_}
 use mathlib.Core.Bool.{Bool, true, false, not}
 use mathlib.Core.List.{List, [], _∷_}
-use mathlib.Core.Logic.{_⊎_, inl, inr, ⊎-elim}
-use Prim.Native.Nat.{ℕ, zero, suc, _+_, _-_, _*_, _/_, _%_, _≤_, _<_}
+use mathlib.Core.Logic.{⊎-elim}
+use Prim.Native.Nat.{ℕ, zero, suc, _+_, _*_, _/_, _%_, _≤_, _<_}
 use native.Mathlib.Nat.{not-suc-le-zero, add-assoc, add-zero, mod-lt}
 use native.Mathlib.Omega.{arith}
 use borrow.Author.Tests.{eqb-true, eqb-false, ltb-true, not-true}
@@ -32,6 +32,7 @@ use Rattle.object.specs.HashCheck.{startOf, sizeOf, numbersOk, bucketOk,
 use Rattle.object.specs.SymbolCount.{highest, lastOf, pastWalk, tableCount, countOf}
 use Rattle.object.proofs.Ranges.{split, below-at, below-all}
 use Rattle.object.proofs.CountLaws.{highest-of}
+use Rattle.object.proofs.CheckLaws.{clauses, walk-clauses}
 
 -- ---- names
 
@@ -222,26 +223,14 @@ module _ (isT : ℕ → Bool) (m m′ : List ℕ) (agree : Agree isT m m′) whe
   -- ---- a table that is not refused
 
   module _ (symbols strings : ℕ) (t : HashTable) (ok : tableOk isT m symbols strings t ≡ true) (len : length m′ ≡ length m) where
-    clauses : (numbersOk t ≡ true) × (tableBytes isT (startOf t) (sizeOf t) ≡ true)
-        × (below (walkOk isT m symbols strings t) (bucketCount t) ≡ true)
-    unfolding tableOk
-    clauses =
-        let w = below (walkOk isT m symbols strings t) (bucketCount t) in
-        let h = both-true (numbersOk t) (both (tableBytes isT (startOf t) (sizeOf t)) w) ok in
-        let h′ = both-true (tableBytes isT (startOf t) (sizeOf t)) w (h .1) in
-        (h .0, h′ .0, h′ .1)
+    bytes : tableBytes isT (startOf t) (sizeOf t) ≡ true
+    bytes = clauses isT m symbols strings t ok .1
 
-    walk-clauses : (i : ℕ) → i < bucketCount t
-        → (bucketOk t (leAt 4 (mem m) (bucketAt t i)) ≡ true) × (lengthOk t (length (reached m t i)) ≡ true)
-        × (every (stepOk isT m symbols strings t) (reached m t i) ≡ true)
-    unfolding walkOk
-    walk-clauses i l =
-        let a = bucketOk t (leAt 4 (mem m) (bucketAt t i)) in
-        let b = lengthOk t (length (reached m t i)) in
-        let d = every (stepOk isT m symbols strings t) (reached m t i) in
-        let h = both-true a (both b d) (below-at (walkOk isT m symbols strings t) (bucketCount t) i (clauses .2) l) in
-        let h′ = both-true b d (h .1) in
-        (h .0, h′ .0, h′ .1)
+    numbers : numbersOk t ≡ true
+    numbers = clauses isT m symbols strings t ok .0
+
+    passes : (i : ℕ) → i < bucketCount t → every (stepOk isT m symbols strings t) (reached m t i) ≡ true
+    passes i l = walk-clauses isT m symbols strings t ok i l .2
 
     step-parts : (s : ℕ) → stepOk isT m symbols strings t s ≡ true
         → (chainOk isT t s ≡ true) × (symbolOk isT m symbols strings s ≡ true)
@@ -259,47 +248,47 @@ module _ (isT : ℕ → Bool) (m m′ : List ℕ) (agree : Agree isT m m′) whe
             → pick z [] (walk m′ t (fuel m t) w) ≡ pick z [] (walk m t (fuel m t) w)
         go true e = refl
         go false e =
-            walk-same t (stepOk isT m symbols strings t) (λ s o. chain-word t (clauses .1) s (step-parts s o .0)) (fuel m t) w e
+            walk-same t (stepOk isT m symbols strings t) (λ s o. chain-word t bytes s (step-parts s o .0)) (fuel m t) w e
 
     -- the walk of every bucket
     pub reached-same : (i : ℕ) → i < bucketCount t → reached m′ t i ≡ reached m t i
     reached-same i l =
-        rw (bucket-word t (clauses .1) i l) (from-same (leAt 4 (mem m) (bucketAt t i)) (walk-clauses i l .2))
+        rw (bucket-word t bytes i l) (from-same (leAt 4 (mem m) (bucketAt t i)) (passes i l))
 
     -- and the check
     pub table-same : tableOk isT m′ symbols strings t ≡ true
     unfolding tableOk walkOk
     table-same =
-        rw (clauses .0, clauses .1)
+        rw (numbers, bytes)
         (below-all (walkOk isT m′ symbols strings t) (bucketCount t)
         (λ i l.
-        let c = walk-clauses i l in
-        rw (bucket-word t (clauses .1) i l, c .0, reached-same′ i l, c .1)
+        let c = walk-clauses isT m symbols strings t ok i l in
+        rw (bucket-word t bytes i l, c .0, reached-same′ i l, c .1)
         (every-more (stepOk isT m symbols strings t) (stepOk isT m′ symbols strings t) step-same (reached m t i) (c .2))))
       where
         reached-same′ : (i : ℕ) → i < bucketCount t → walkFrom m′ t (leAt 4 (mem m) (bucketAt t i)) ≡ reached m t i
-        reached-same′ i l = from-same (leAt 4 (mem m) (bucketAt t i)) (walk-clauses i l .2)
+        reached-same′ i l = from-same (leAt 4 (mem m) (bucketAt t i)) (passes i l)
 
     hit-same : (name : List ℕ) (g s : ℕ) → stepOk isT m symbols strings t s ≡ true
         → isHit m′ symbols strings t name g s ≡ isHit m symbols strings t name g s
     unfolding isHit
     hit-same name g s o =
         let h = step-parts s o in
-        rw (chain-word t (clauses .1) s (h .0), symbol-name-same symbols strings s (h .1))
+        rw (chain-word t bytes s (h .0), symbol-name-same symbols strings s (h .1))
 
     bucket-same : (name : List ℕ) (g i : ℕ) → i < bucketCount t
         → firstIn (isHit m′ symbols strings t name g) (reached m′ t i) ≡ firstIn (isHit m symbols strings t name g) (reached m t i)
     bucket-same name g i l =
         rw (reached-same i l)
         (first-cong (isHit m symbols strings t name g) (isHit m′ symbols strings t name g) (stepOk isT m symbols strings t)
-        (λ s o. hit-same name g s o) (reached m t i) (walk-clauses i l .2))
+        (λ s o. hit-same name g s o) (reached m t i) (passes i l))
 
     -- the lookup of every name
     pub find-same : (name : List ℕ) (g e : ℕ) → findBy m′ symbols strings t name g e ≡ findBy m symbols strings t name g e
     unfolding findBy
     find-same name g e =
-        rw (may-same t (clauses .0) (clauses .1) g)
-        (go (mayHold m t g) (λ h. bucket-same name g (bucketOf t g e) (bucket-in t (clauses .0) g e h)))
+        rw (may-same t numbers bytes g)
+        (go (mayHold m t g) (λ h. bucket-same name g (bucketOf t g e) (bucket-in t numbers g e h)))
       where
         go : (b : Bool) {x y : Found} → (b ≡ true → x ≡ y) → pick b x Miss ≡ pick b y Miss
         go true h = h refl
@@ -312,7 +301,7 @@ module _ (isT : ℕ → Bool) (m m′ : List ℕ) (agree : Agree isT m m′) whe
         go (mayHold m t g) f
         (λ h f′.
         step-parts s (first-ok (isHit m symbols strings t name g) (stepOk isT m symbols strings t) (reached m t (bucketOf t g e)) s
-        (walk-clauses (bucketOf t g e) (bucket-in t (clauses .0) g e h) .2) f′) .1)
+        (passes (bucketOf t g e) (bucket-in t numbers g e h)) f′) .1)
       where
         go : (b : Bool) {x : Found} {A : Type 0} → pick b x Miss ≡ Hit s → (b ≡ true → x ≡ Hit s → A) → A
         go true f h = h refl f
@@ -341,18 +330,18 @@ module _ (isT : ℕ → Bool) (m m′ : List ℕ) (agree : Agree isT m m′) whe
         go true e = refl
         go false e =
             ap (λ (l : List ℕ). Known (lastOf l w + 1))
-            (walk-same t (stepOk isT m symbols strings t) (λ s o. chain-word t (clauses .1) s (step-parts s o .0)) (fuel m t) w e)
+            (walk-same t (stepOk isT m symbols strings t) (λ s o. chain-word t bytes s (step-parts s o .0)) (fuel m t) w e)
 
     highest-same : (n : ℕ) → n ≤ bucketCount t → highest m′ t n ≡ highest m t n
     unfolding highest
     highest-same zero l = refl
-    highest-same (suc n) l = rw (highest-same n (omega arith), bucket-word t (clauses .1) n (omega arith))
+    highest-same (suc n) l = rw (highest-same n (omega arith), bucket-word t bytes n (omega arith))
 
     pub highest-past : pastWalk m′ t (highest m′ t (bucketCount t)) ≡ pastWalk m t (highest m t (bucketCount t))
     highest-past =
         rw (highest-same (bucketCount t) (omega arith))
         (highest-of m t (λ w. pastWalk m′ t w ≡ pastWalk m t w) refl (bucketCount t)
-        (λ i l. past-same (leAt 4 (mem m) (bucketAt t i)) (walk-clauses i l .2)))
+        (λ i l. past-same (leAt 4 (mem m) (bucketAt t i)) (passes i l)))
 
   count-of : (symbols strings : ℕ) (t : HashTable) → tableOk isT m symbols strings t ≡ true → length m′ ≡ length m
       → tableCount m′ t ≡ tableCount m t
