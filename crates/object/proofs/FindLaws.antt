@@ -1,17 +1,16 @@
 -- The turns of a lookup, for any table. No contract cites this file. Assumes nothing.
-use mathlib.Core.Path.{_≡_, refl, sym, ap, _∙_}
-use mathlib.Core.Bool.{Bool, true, false, not}
-use mathlib.Core.List.{List, [], _∷_}
-use Prim.Native.Nat.{ℕ, zero, suc, _+_, _-_, _*_, _/_, _%_, _^_, _≤_, _<_}
+use mathlib.Core.Path.{_≡_, refl}
+use mathlib.Core.Bool.{Bool, true, false}
+use mathlib.Core.List.{List}
+use Prim.Native.Nat.{ℕ, zero, suc, _/_, _^_, _≤_, _<_}
 use native.Mathlib.Nat.{not-suc-le-zero, pow-le-pow-right, div-eq-of-lt}
 use native.Mathlib.Omega.{arith}
-use borrow.Author.Tests.{eq-eqb, ne-eqb}
-use lib.Dec.{eqb, lit<}
-use Rattle.object.specs.declared.hash_tables.HashTable.{HashTable}
-use Rattle.object.specs.declared.hash_tables.Found.{Found}
-use Rattle.object.specs.declared.hash_tables.Found.the-variants.{Hit, Miss}
+use borrow.Author.Tests.{ne-eqb}
+use lib.Dec.{lit<}
 use Rattle.words.specs.Memory.{mem}
 use Rattle.words.specs.Words.{leAt}
+use Rattle.object.specs.declared.hash_tables.HashTable.{HashTable}
+use Rattle.object.specs.declared.hash_tables.Found.the-variants.{Hit, Miss}
 use Rattle.object.specs.HashTable.{bucketAt, chainAt, isLast, next, fuel, walk, walkFrom, mayHold, bucketOf, isHit, firstIn, findBy}
 
 -- a shift by 32 or more leaves nothing of a 32-bit number

@@ -1,21 +1,20 @@
--- A walk from a known symbol is fine. No contract cites this file. Assumes nothing.
-use mathlib.Core.Path.{_≡_, refl, sym, ap, _∙_}
-use mathlib.Core.Bool.{Bool, true, false, not}
-use mathlib.Core.List.{List, [], _∷_}
+-- A walk from a symbol of a known range passes. No contract cites this file. Assumes nothing.
+use mathlib.Core.Path.{_≡_, refl}
+use mathlib.Core.Bool.{Bool, true, false}
+use mathlib.Core.List.{List, []}
 use mathlib.Core.Logic.{⊎-elim}
-use Prim.Native.Nat.{ℕ, zero, suc, _+_, _-_, _*_, _≤_, _<_}
+use Prim.Native.Nat.{ℕ, zero, suc, _+_, _≤_, _<_}
 use native.Mathlib.Nat.{eq-or-lt-of-le}
 use native.Mathlib.Omega.{arith}
-use Rattle.object.specs.declared.hash_tables.HashTable.{HashTable}
-use Rattle.object.specs.declared.hash_tables.HashTable.the-variants.{Gnu}
 use Rattle.words.specs.Choice.{pick, every}
 use Rattle.words.specs.Memory.{mem}
 use Rattle.words.specs.Words.{leAt}
-use Rattle.object.proofs.Ranges.{split}
+use Rattle.object.specs.declared.hash_tables.HashTable.the-variants.{Gnu}
 use Rattle.object.specs.HashTable.{chainAt, isLast, walk}
+use Rattle.object.proofs.Ranges.{split}
 
 module _ (m : List ℕ) (at n first blooms shift : ℕ) (p : ℕ → Bool) (low high : ℕ) where
-  -- every walk from a symbol in a range of fine symbols at whose end walks end
+  -- every walk from a symbol of a range whose symbols pass and at whose end walks end
   pub known-walk : ((s : ℕ) → low ≤ s → s ≤ high → p s ≡ true)
       → isLast (Gnu at n first blooms shift) (leAt 4 (mem m) (chainAt (Gnu at n first blooms shift) high)) ≡ true
       → (k s : ℕ) → low ≤ s → s ≤ high → every p (walk m (Gnu at n first blooms shift) k s) ≡ true

@@ -11,6 +11,7 @@ pub mod Ranges
 pub mod SymbolLaws
 pub mod FindLaws
 pub mod WalkLaws
+pub mod CheckLaws
 pub mod WalkEnds
 pub mod KnownLaws
 pub mod CountLaws

@@ -1,35 +1,38 @@
--- The invariance law: if a hash table is not refused in an image, a lookup gives the same in every image that has the same table bytes.
--- No contract cites this file. Assumes nothing.
+-- The invariance law (`view-same`): if a hash table is not refused in an image, a lookup gives the same in every image of the same length
+-- that has the same table bytes. No contract cites this file. Assumes nothing.
 use mathlib.Core.Path.{_≡_, refl, sym, ap, _∙_}
 use mathlib.Core.Bool.{Bool, true, false, not}
 use mathlib.Core.List.{List, [], _∷_}
-use mathlib.Core.Logic.{_⊎_, inl, inr, ⊎-elim}
-use Prim.Native.Nat.{ℕ, zero, suc, _+_, _-_, _*_, _/_, _%_, _≤_, _<_}
-use native.Mathlib.Nat.{eq-or-lt-of-le, le-of-suc-le-suc, not-suc-le-zero, add-assoc, add-zero, mod-lt}
-use native.Mathlib.Numerals.{add-one}
+use mathlib.Core.Logic.{⊎-elim}
+use Prim.Native.Nat.{ℕ, zero, suc, _+_, _*_, _/_, _%_, _≤_, _<_}
+use native.Mathlib.Nat.{not-suc-le-zero, add-assoc, add-zero, mod-lt}
 use native.Mathlib.Omega.{arith}
-use borrow.Author.Tests.{eq-eqb, ne-eqb, eqb-true, eqb-false, ltb-true, ltb-false, not-true}
-use lib.Dec.{eqb, ltb, leb}
+use borrow.Author.Tests.{eqb-true, eqb-false, ltb-true, not-true}
+use lib.Dec.{eqb, leb}
 use lib.ListN.{length}
-use Rattle.object.specs.declared.hash_tables.HashTable.{HashTable}
-use Rattle.object.specs.declared.hash_tables.HashTable.the-variants.{Without, SysV, Gnu}
-use Rattle.object.specs.declared.hash_tables.View.{View}
-use Rattle.object.specs.declared.hash_tables.Found.{Found}
-use Rattle.object.specs.declared.hash_tables.Found.the-variants.{Hit, Miss}
 use Rattle.words.specs.Choice.{both, pick, below, every}
 use Rattle.words.specs.Memory.{mem}
 use Rattle.words.specs.Words.{leAt}
 use Rattle.words.specs.Names.{nameAt}
 use Rattle.words.specs.Hash.{gnuHash, elfHash}
-use Rattle.object.specs.HashCheck.{numbersOk, bucketOk, lengthOk, chainOk, symbolOk, stepOk, walkOk, tableOk}
-use Rattle.object.specs.HashTable.{sysvAt, gnuAt, bucketCount, bucketAt, chainAt, isLast, next, fuel, walk, walkFrom, reached, bloomAt, hasBits, mayHold, isHit, firstIn, findBy, lookupBy, lookupIn, answerOf, answerBy, answerIn}
-use Rattle.object.specs.Symbol.{symbolFrom, symbolAt, symbolName}
-use Rattle.object.specs.TableBytes.{tableBytes, tableName, Agree}
 use Rattle.words.proofs.Choice.{both-true}
-use Rattle.words.proofs.NameLaws.{name-more, name-stop, name-none}
 use Rattle.words.proofs.Slices.{mem-past}
 use Rattle.words.proofs.Words.{leAt-same}
-use Rattle.object.proofs.Ranges.{split, below-at}
+use Rattle.words.proofs.NameLaws.{name-more, name-stop, name-none}
+use Rattle.object.specs.declared.hash_tables.HashTable.{HashTable}
+use Rattle.object.specs.declared.hash_tables.HashTable.the-variants.{Without, SysV, Gnu}
+use Rattle.object.specs.declared.hash_tables.View.{View}
+use Rattle.object.specs.declared.hash_tables.Found.{Found}
+use Rattle.object.specs.declared.hash_tables.Found.the-variants.{Hit, Miss}
+use Rattle.object.specs.declared.hash_tables.SymbolCount.the-variants.{Unknown, Known}
+use Rattle.object.specs.TableBytes.{tableBytes, tableName, Agree}
+use Rattle.object.specs.Symbol.{symbolFrom, symbolAt, symbolName}
+use Rattle.object.specs.HashTable.{sysvAt, gnuAt, bucketCount, bucketAt, chainAt, isLast, next, fuel, walk, walkFrom, reached, mayHold, bucketOf, isHit, firstIn, findBy, lookupBy, lookupIn, answerOf, answerBy, answerIn}
+use Rattle.object.specs.HashCheck.{startOf, sizeOf, numbersOk, bucketOk, lengthOk, chainOk, symbolOk, stepOk, walkOk, tableOk}
+use Rattle.object.specs.SymbolCount.{highest, lastOf, pastWalk, tableCount, countOf}
+use Rattle.object.proofs.Ranges.{split, below-at, below-all}
+use Rattle.object.proofs.CountLaws.{highest-of}
+use Rattle.object.proofs.CheckLaws.{clauses, walk-clauses}
 
 -- ---- names
 
@@ -94,6 +97,19 @@ first-ok p ok (x ∷ l) s e f =
     go true f o ih = let q : x ≡ s = cc in rw q at o
     go false f o ih = ih f
 
+pub every-more : (p q : ℕ → Bool) → ((s : ℕ) → p s ≡ true → q s ≡ true) → (l : List ℕ) → every p l ≡ true → every q l ≡ true
+unfolding every
+every-more p q h [] e = refl
+every-more p q h (s ∷ l) e =
+    let b = both-true (p s) (every p l) e in
+    rw (h s (b .0)) (every-more p q h l (b .1))
+
+not-zero : (n : ℕ) → not (eqb n 0) ≡ true → 0 < n
+not-zero n e = let nz = eqb-false n 0 (not-true (eqb n 0) e) in go n nz
+  where
+    go : (n : ℕ) → (n ≡ 0 → ⊥) → 0 < n
+    go n nz = omega arith
+
 -- ---- two images with the same table bytes
 
 module _ (isT : ℕ → Bool) (m m′ : List ℕ) (agree : Agree isT m m′) where
@@ -144,6 +160,12 @@ module _ (isT : ℕ → Bool) (m m′ : List ℕ) (agree : Agree isT m m′) whe
           field 8 16 (omega arith),
         )
 
+    pub symbol-ok-same : symbolOk isT m′ symbols strings s ≡ true
+    unfolding symbolOk tableName
+    symbol-ok-same =
+        let at = strings + leAt 4 (mem m) (symbols + 24 * s) in
+        rw (parts .0, number-here 4 (symbols + 24 * s) 24 (parts .0) (omega arith), name-same at (parts .1)) (parts .1)
+
   -- the walk, where the chain words of its symbols are the same
   pub walk-same : (t : HashTable) (ok : ℕ → Bool)
       → ((s : ℕ) → ok s ≡ true → leAt 4 (mem m′) (chainAt t s) ≡ leAt 4 (mem m) (chainAt t s))
@@ -165,147 +187,168 @@ module _ (isT : ℕ → Bool) (m m′ : List ℕ) (agree : Agree isT m m′) whe
   fuel-same (SysV at n c) e = refl
   fuel-same (Gnu at n first b shift) e = rw e
 
-  from-same : (t : HashTable) (ok : ℕ → Bool) → length m′ ≡ length m
-      → ((s : ℕ) → ok s ≡ true → leAt 4 (mem m′) (chainAt t s) ≡ leAt 4 (mem m) (chainAt t s))
-      → (b : ℕ) → every ok (walkFrom m t b) ≡ true → walkFrom m′ t b ≡ walkFrom m t b
-  unfolding walkFrom every
-  from-same t ok len same b e = rw (fuel-same t len) (go (eqb b 0) e)
-    where
-      go : (z : Bool) → every ok (pick z [] (walk m t (fuel m t) b)) ≡ true
-          → pick z [] (walk m′ t (fuel m t) b) ≡ pick z [] (walk m t (fuel m t) b)
-      go true e = refl
-      go false e = walk-same t ok same (fuel m t) b e
+  -- the words of a bucket, and those of a chain that a walk may read
+  bucket-word : (t : HashTable) → tableBytes isT (startOf t) (sizeOf t) ≡ true → (i : ℕ) → i < bucketCount t
+      → leAt 4 (mem m′) (bucketAt t i) ≡ leAt 4 (mem m) (bucketAt t i)
+  bucket-word Without b i l = absurd (not-suc-le-zero l)
+  bucket-word (SysV at n c) b i l = number-same 4 at (8 + 4 * n + 4 * c) (8 + 4 * i) b (omega arith)
+  bucket-word (Gnu at n first w shift) b i l = number-same 4 at (16 + 8 * w + 4 * n) (16 + 8 * w + 4 * i) b (omega arith)
 
-  steps : (symbols strings : ℕ) (t : HashTable) (i : ℕ) → walkOk isT m symbols strings t i ≡ true
-      → every (stepOk isT m symbols strings t) (reached m t i) ≡ true
-  unfolding walkOk
-  steps symbols strings t i ok =
-      let a = bucketOk t (leAt 4 (mem m) (bucketAt t i)) in
-      let b = lengthOk t (length (reached m t i)) in
-      let d = every (stepOk isT m symbols strings t) (reached m t i) in
-      both-true b d (both-true a (both b d) ok .1) .1
+  chain-word : (t : HashTable) → tableBytes isT (startOf t) (sizeOf t) ≡ true → (s : ℕ) → chainOk isT t s ≡ true
+      → leAt 4 (mem m′) (chainAt t s) ≡ leAt 4 (mem m) (chainAt t s)
+  unfolding chainOk
+  chain-word Without b s o = let z : _≡_ {A = ℕ} 0 1 = cc in absurd (omega arith)
+  chain-word (SysV at n c) b s o =
+      let k : s < c = ltb-true s c o in
+      number-same 4 at (8 + 4 * n + 4 * c) (8 + 4 * n + 4 * s) b (omega arith)
+  chain-word (Gnu at n first w shift) b s o = number-here 4 (chainAt (Gnu at n first w shift) s) 4 o (omega arith)
 
-  -- the find in a bucket
-  module _ (symbols strings : ℕ) (t : HashTable) (len : length m′ ≡ length m)
-      (chain-same : (s : ℕ) → chainOk isT t s ≡ true → leAt 4 (mem m′) (chainAt t s) ≡ leAt 4 (mem m) (chainAt t s)) where
+  -- the bucket of a name is one of the table's, and the bloom test reads table bytes
+  bucket-in : (t : HashTable) → numbersOk t ≡ true → (g e : ℕ) → mayHold m t g ≡ true → bucketOf t g e < bucketCount t
+  unfolding numbersOk mayHold
+  bucket-in Without k g e h = let z : _≡_ {A = ℕ} 0 1 = cc in absurd (omega arith)
+  bucket-in (SysV at n c) k g e h = mod-lt e (not-zero n k)
+  bucket-in (Gnu at n first w shift) k g e h =
+      mod-lt g (not-zero n (both-true (not (eqb n 0)) (both (not (eqb w 0)) (leb shift 31)) k .0))
+
+  may-same : (t : HashTable) → numbersOk t ≡ true → tableBytes isT (startOf t) (sizeOf t) ≡ true → (g : ℕ) → mayHold m′ t g ≡ mayHold m t g
+  unfolding numbersOk mayHold
+  may-same Without k b g = refl
+  may-same (SysV at n c) k b g = refl
+  may-same (Gnu at n first w shift) k b g =
+      let z = both-true (not (eqb n 0)) (both (not (eqb w 0)) (leb shift 31)) k in
+      let l : g / 64 % w < w = mod-lt (g / 64) (not-zero w (both-true (not (eqb w 0)) (leb shift 31) (z .1) .0)) in
+      rw (number-same 8 at (16 + 8 * w + 4 * n) (16 + 8 * (g / 64 % w)) b (omega arith))
+
+  -- ---- a table that is not refused
+
+  module _ (symbols strings : ℕ) (t : HashTable) (ok : tableOk isT m symbols strings t ≡ true) (len : length m′ ≡ length m) where
+    bytes : tableBytes isT (startOf t) (sizeOf t) ≡ true
+    bytes = clauses isT m symbols strings t ok .1
+
+    numbers : numbersOk t ≡ true
+    numbers = clauses isT m symbols strings t ok .0
+
+    passes : (i : ℕ) → i < bucketCount t → every (stepOk isT m symbols strings t) (reached m t i) ≡ true
+    passes i l = walk-clauses isT m symbols strings t ok i l .2
+
+    step-parts : (s : ℕ) → stepOk isT m symbols strings t s ≡ true
+        → (chainOk isT t s ≡ true) × (symbolOk isT m symbols strings s ≡ true)
+    step-parts s o = both-true (chainOk isT t s) (symbolOk isT m symbols strings s) o
+
+    step-same : (s : ℕ) → stepOk isT m symbols strings t s ≡ true → stepOk isT m′ symbols strings t s ≡ true
+    step-same s o = rw (step-parts s o .0) (symbol-ok-same symbols strings s (step-parts s o .1))
+
+    -- the walk from a bucket's word
+    from-same : (w : ℕ) → every (stepOk isT m symbols strings t) (walkFrom m t w) ≡ true → walkFrom m′ t w ≡ walkFrom m t w
+    unfolding walkFrom every
+    from-same w e = rw (fuel-same t len) (go (eqb w 0) e)
+      where
+        go : (z : Bool) → every (stepOk isT m symbols strings t) (pick z [] (walk m t (fuel m t) w)) ≡ true
+            → pick z [] (walk m′ t (fuel m t) w) ≡ pick z [] (walk m t (fuel m t) w)
+        go true e = refl
+        go false e =
+            walk-same t (stepOk isT m symbols strings t) (λ s o. chain-word t bytes s (step-parts s o .0)) (fuel m t) w e
+
+    -- the walk of every bucket
+    pub reached-same : (i : ℕ) → i < bucketCount t → reached m′ t i ≡ reached m t i
+    reached-same i l =
+        rw (bucket-word t bytes i l) (from-same (leAt 4 (mem m) (bucketAt t i)) (passes i l))
+
+    -- and the check
+    pub table-same : tableOk isT m′ symbols strings t ≡ true
+    unfolding tableOk walkOk
+    table-same =
+        rw (numbers, bytes)
+        (below-all (walkOk isT m′ symbols strings t) (bucketCount t)
+        (λ i l.
+        let c = walk-clauses isT m symbols strings t ok i l in
+        rw (bucket-word t bytes i l, c .0, reached-same′ i l, c .1)
+        (every-more (stepOk isT m symbols strings t) (stepOk isT m′ symbols strings t) step-same (reached m t i) (c .2))))
+      where
+        reached-same′ : (i : ℕ) → i < bucketCount t → walkFrom m′ t (leAt 4 (mem m) (bucketAt t i)) ≡ reached m t i
+        reached-same′ i l = from-same (leAt 4 (mem m) (bucketAt t i)) (passes i l)
+
     hit-same : (name : List ℕ) (g s : ℕ) → stepOk isT m symbols strings t s ≡ true
         → isHit m′ symbols strings t name g s ≡ isHit m symbols strings t name g s
     unfolding isHit
-    hit-same name g s ok =
-        let h = both-true (chainOk isT t s) (symbolOk isT m symbols strings s) ok in
-        rw (chain-same s (h .0), symbol-name-same symbols strings s (h .1))
+    hit-same name g s o =
+        let h = step-parts s o in
+        rw (chain-word t bytes s (h .0), symbol-name-same symbols strings s (h .1))
 
-    bucket-same : (name : List ℕ) (g i : ℕ) → leAt 4 (mem m′) (bucketAt t i) ≡ leAt 4 (mem m) (bucketAt t i)
-        → walkOk isT m symbols strings t i ≡ true
+    bucket-same : (name : List ℕ) (g i : ℕ) → i < bucketCount t
         → firstIn (isHit m′ symbols strings t name g) (reached m′ t i) ≡ firstIn (isHit m symbols strings t name g) (reached m t i)
-    bucket-same name g i word ok =
-        let ok′ = steps symbols strings t i ok in
-        let h : walkFrom m′ t (leAt 4 (mem m) (bucketAt t i)) ≡ reached m t i =
-        from-same t (stepOk isT m symbols strings t) len
-        (λ s o. chain-same s (both-true (chainOk isT t s) (symbolOk isT m symbols strings s) o .0))
-        (leAt 4 (mem m) (bucketAt t i)) ok′ in
-        rw (word, h)
+    bucket-same name g i l =
+        rw (reached-same i l)
         (first-cong (isHit m symbols strings t name g) (isHit m′ symbols strings t name g) (stepOk isT m symbols strings t)
-        (λ s o. hit-same name g s o) (reached m t i) ok′)
+        (λ s o. hit-same name g s o) (reached m t i) (passes i l))
 
-  not-zero : (n : ℕ) → not (eqb n 0) ≡ true → 0 < n
-  not-zero n e = let nz = eqb-false n 0 (not-true (eqb n 0) e) in go n nz
-    where
-      go : (n : ℕ) → (n ≡ 0 → ⊥) → 0 < n
-      go n nz = omega arith
+    -- the lookup of every name
+    pub find-same : (name : List ℕ) (g e : ℕ) → findBy m′ symbols strings t name g e ≡ findBy m symbols strings t name g e
+    unfolding findBy
+    find-same name g e =
+        rw (may-same t numbers bytes g)
+        (go (mayHold m t g) (λ h. bucket-same name g (bucketOf t g e) (bucket-in t numbers g e h)))
+      where
+        go : (b : Bool) {x y : Found} → (b ≡ true → x ≡ y) → pick b x Miss ≡ pick b y Miss
+        go true h = h refl
+        go false h = refl
 
-  bloom-same : (at n b g : ℕ) → 0 < b → tableBytes isT at (16 + 8 * b + 4 * n) ≡ true
-      → leAt 8 (mem m′) (bloomAt at b g) ≡ leAt 8 (mem m) (bloomAt at b g)
-  bloom-same at n b g pos bytes =
-      let l : g / 64 % b < b = mod-lt (g / 64) pos in
-      number-same 8 at (16 + 8 * b + 4 * n) (16 + 8 * (g / 64 % b)) bytes (omega arith)
+    -- a hit passes the check
+    pub found-ok : (name : List ℕ) (g e s : ℕ) → findBy m symbols strings t name g e ≡ Hit s → symbolOk isT m symbols strings s ≡ true
+    unfolding findBy
+    found-ok name g e s f =
+        go (mayHold m t g) f
+        (λ h f′.
+        step-parts s (first-ok (isHit m symbols strings t name g) (stepOk isT m symbols strings t) (reached m t (bucketOf t g e)) s
+        (passes (bucketOf t g e) (bucket-in t numbers g e h)) f′) .1)
+      where
+        go : (b : Bool) {x : Found} {A : Type 0} → pick b x Miss ≡ Hit s → (b ≡ true → x ≡ Hit s → A) → A
+        go true f h = h refl f
+        go false f h = let z : _≡_ {A = ℕ} 0 1 = cc in absurd (omega arith)
 
-  -- THE LAW, over the parts of a view
-  pub find-same : (symbols strings : ℕ) (t : HashTable) → tableOk isT m symbols strings t ≡ true → length m′ ≡ length m
-      → (name : List ℕ) (g e : ℕ) → findBy m′ symbols strings t name g e ≡ findBy m symbols strings t name g e
-  unfolding findBy mayHold tableOk numbersOk chainOk
-  find-same symbols strings Without ok len name g e = refl
-  find-same symbols strings (SysV at n c) ok len name g e =
-      let t = SysV at n c in
-      let h = both-true (not (eqb n 0)) _ ok in
-      let h′ = both-true (tableBytes isT at (8 + 4 * n + 4 * c)) (below (walkOk isT m symbols strings t) n) (h .1) in
-      let l : e % n < n = mod-lt e (not-zero n (h .0)) in
-      rw (bucket-same symbols strings t len
-      (λ s o. let k : s < c = ltb-true s c o in number-same 4 at (8 + 4 * n + 4 * c) (8 + 4 * n + 4 * s) (h′ .0) (omega arith))
-      name g (e % n)
-      (number-same 4 at (8 + 4 * n + 4 * c) (8 + 4 * (e % n)) (h′ .0) (omega arith))
-      (below-at (walkOk isT m symbols strings t) n (e % n) (h′ .1) l))
-  find-same symbols strings (Gnu at n first b shift) ok len name g e =
-      let t = Gnu at n first b shift in
-      let h = both-true (both (not (eqb n 0)) (both (not (eqb b 0)) (leb shift 31))) _ ok in
-      let h′ = both-true (tableBytes isT at (16 + 8 * b + 4 * n)) (below (walkOk isT m symbols strings t) n) (h .1) in
-      let z = both-true (not (eqb n 0)) (both (not (eqb b 0)) (leb shift 31)) (h .0) in
-      let z′ = both-true (not (eqb b 0)) (leb shift 31) (z .1) in
-      let l : g % n < n = mod-lt g (not-zero n (z .0)) in
-      rw (
-        bloom-same at n b g (not-zero b (z′ .0)) (h′ .0),
-        bucket-same symbols strings t len
-            (λ s o. number-here 4 (chainAt t s) 4 o (omega arith))
-            name g (g % n)
-            (number-same 4 at (16 + 8 * b + 4 * n) (16 + 8 * b + 4 * (g % n)) (h′ .0) (omega arith))
-            (below-at (walkOk isT m symbols strings t) n (g % n) (h′ .1) l),
-      )
+    -- the object's answer
+    answer-of : (f : Found) → ((s : ℕ) → f ≡ Hit s → symbolOk isT m symbols strings s ≡ true)
+        → answerOf m′ symbols f ≡ answerOf m symbols f
+    unfolding answerOf
+    answer-of Miss o = refl
+    answer-of (Hit s) o = rw (symbol-same symbols strings s (o s refl))
 
-  -- a hit is fine
-  pick-hit : (b : Bool) (x : Found) (s : ℕ) → pick b x Miss ≡ Hit s → x ≡ Hit s
-  pick-hit true x s e = e
-  pick-hit false x s e = let z : _≡_ {A = ℕ} 0 1 = cc in absurd (omega arith)
+    pub answer-same : (name : List ℕ) (g e : ℕ)
+        → answerOf m′ symbols (findBy m′ symbols strings t name g e) ≡ answerOf m symbols (findBy m symbols strings t name g e)
+    answer-same name g e =
+        ap (answerOf m′ symbols) (find-same name g e)
+        ∙ answer-of (findBy m symbols strings t name g e) (λ s f. found-ok name g e s f)
 
-  hit-ok : (symbols strings : ℕ) (t : HashTable) (name : List ℕ) (g i : ℕ) (b : Bool) (s : ℕ)
-      → below (walkOk isT m symbols strings t) (bucketCount t) ≡ true → i < bucketCount t
-      → pick b (firstIn (isHit m symbols strings t name g) (reached m t i)) Miss ≡ Hit s
-      → symbolOk isT m symbols strings s ≡ true
-  hit-ok symbols strings t name g i b s ok l e =
-      both-true (chainOk isT t s) (symbolOk isT m symbols strings s)
-      (first-ok (isHit m symbols strings t name g) (stepOk isT m symbols strings t) (reached m t i) s
-      (steps symbols strings t i (below-at (walkOk isT m symbols strings t) (bucketCount t) i ok l))
-      (pick-hit b (firstIn (isHit m symbols strings t name g) (reached m t i)) s e)) .1
+    -- the symbol count
+    past-same : (w : ℕ) → every (stepOk isT m symbols strings t) (walkFrom m t w) ≡ true → pastWalk m′ t w ≡ pastWalk m t w
+    unfolding walkFrom
+    past-same w e = rw (fuel-same t len) (go (eqb w 0) e)
+      where
+        go : (z : Bool) → every (stepOk isT m symbols strings t) (pick z [] (walk m t (fuel m t) w)) ≡ true
+            → pick z Unknown (Known (lastOf (walk m′ t (fuel m t) w) w + 1)) ≡ pick z Unknown (Known (lastOf (walk m t (fuel m t) w) w + 1))
+        go true e = refl
+        go false e =
+            ap (λ (l : List ℕ). Known (lastOf l w + 1))
+            (walk-same t (stepOk isT m symbols strings t) (λ s o. chain-word t bytes s (step-parts s o .0)) (fuel m t) w e)
 
-  pub found-ok : (symbols strings : ℕ) (t : HashTable) → tableOk isT m symbols strings t ≡ true
-      → (name : List ℕ) (g e s : ℕ) → findBy m symbols strings t name g e ≡ Hit s → symbolOk isT m symbols strings s ≡ true
-  unfolding findBy mayHold tableOk numbersOk
-  found-ok symbols strings Without ok name g e s f = let z : _≡_ {A = ℕ} 0 1 = cc in absurd (omega arith)
-  found-ok symbols strings (SysV at n c) ok name g e s f =
-      let t = SysV at n c in
-      let h = both-true (not (eqb n 0)) _ ok in
-      let h′ = both-true (tableBytes isT at (8 + 4 * n + 4 * c)) (below (walkOk isT m symbols strings t) n) (h .1) in
-      hit-ok symbols strings t name g (e % n) (not (eqb n 0)) s (h′ .1) (mod-lt e (not-zero n (h .0))) f
-  found-ok symbols strings (Gnu at n first b shift) ok name g e s f =
-      let t = Gnu at n first b shift in
-      let h = both-true (both (not (eqb n 0)) (both (not (eqb b 0)) (leb shift 31))) _ ok in
-      let h′ = both-true (tableBytes isT at (16 + 8 * b + 4 * n)) (below (walkOk isT m symbols strings t) n) (h .1) in
-      let z = both-true (not (eqb n 0)) (both (not (eqb b 0)) (leb shift 31)) (h .0) in
-      hit-ok symbols strings t name g (g % n)
-      (both (not (eqb n 0)) (both (not (eqb b 0)) (hasBits (leAt 8 (mem m) (bloomAt at b g)) shift g)))
-      s (h′ .1) (mod-lt g (not-zero n (z .0))) f
+    highest-same : (n : ℕ) → n ≤ bucketCount t → highest m′ t n ≡ highest m t n
+    unfolding highest
+    highest-same zero l = refl
+    highest-same (suc n) l = rw (highest-same n (omega arith), bucket-word t bytes n (omega arith))
 
-  -- the same of the object's answer
-  answer-by : (symbols strings : ℕ) (f : Found) → ((s : ℕ) → f ≡ Hit s → symbolOk isT m symbols strings s ≡ true)
-      → answerOf m′ symbols f ≡ answerOf m symbols f
-  unfolding answerOf
-  answer-by symbols strings Miss ok = refl
-  answer-by symbols strings (Hit s) ok = rw (symbol-same symbols strings s (ok s refl))
+    pub highest-past : pastWalk m′ t (highest m′ t (bucketCount t)) ≡ pastWalk m t (highest m t (bucketCount t))
+    highest-past =
+        rw (highest-same (bucketCount t) (omega arith))
+        (highest-of m t (λ w. pastWalk m′ t w ≡ pastWalk m t w) refl (bucketCount t)
+        (λ i l. past-same (leAt 4 (mem m) (bucketAt t i)) (passes i l)))
 
-  module _ (v : View) (ok : tableOk isT m (v .symbols) (v .strings) (v .table) ≡ true) (len : length m′ ≡ length m) where
-    pub lookup-by-same : (name : List ℕ) (g e : ℕ) → lookupBy m′ v name g e ≡ lookupBy m v name g e
-    lookup-by-same name g e = find-same (v .symbols) (v .strings) (v .table) ok len name g e
-
-    pub answer-by-same : (name : List ℕ) (g e : ℕ) → answerBy m′ v name g e ≡ answerBy m v name g e
-    answer-by-same name g e =
-        ap (answerOf m′ (v .symbols)) (lookup-by-same name g e)
-        ∙ answer-by (v .symbols) (v .strings) (lookupBy m v name g e)
-        (λ s f. found-ok (v .symbols) (v .strings) (v .table) ok name g e s f)
-
-    pub lookup-same : (name : List ℕ) → lookupIn m′ v name ≡ lookupIn m v name
-    lookup-same name = lookup-by-same name (gnuHash name) (elfHash name)
-
-    pub answer-same : (name : List ℕ) → answerIn m′ v name ≡ answerIn m v name
-    answer-same name = answer-by-same name (gnuHash name) (elfHash name)
+  count-of : (symbols strings : ℕ) (t : HashTable) → tableOk isT m symbols strings t ≡ true → length m′ ≡ length m
+      → tableCount m′ t ≡ tableCount m t
+  unfolding tableCount
+  count-of symbols strings Without ok len = refl
+  count-of symbols strings (SysV at n c) ok len = refl
+  count-of symbols strings (Gnu at n first w shift) ok len = highest-past symbols strings (Gnu at n first w shift) ok len
 
   -- the headers, should they be read again
   pub sysv-header : (at size : ℕ) → tableBytes isT at size ≡ true → 8 ≤ size → sysvAt m′ at ≡ sysvAt m at
@@ -319,3 +362,36 @@ module _ (isT : ℕ → Bool) (m m′ : List ℕ) (agree : Agree isT m m′) whe
         number-same 4 at size 8 b (omega arith),
         number-same 4 at size 12 b (omega arith),
       )
+
+-- ---- the law
+
+-- Where a view's hash table is not refused in an image, every image of the same length with the same table bytes gives the same lookup and
+-- the same answer for every name (with any hashes), the same walk of every bucket and the same symbol count, and the table is not refused
+-- in it either.
+pub view-same :
+    (isT : ℕ → Bool) (m m′ : List ℕ) (v : View)
+    → tableOk isT m (v .symbols) (v .strings) (v .table) ≡ true
+    → Agree isT m m′
+    → length m′ ≡ length m
+    → ((name : List ℕ) (g e : ℕ) → lookupBy m′ v name g e ≡ lookupBy m v name g e)
+    × ((name : List ℕ) (g e : ℕ) → answerBy m′ v name g e ≡ answerBy m v name g e)
+    × ((i : ℕ) → i < bucketCount (v .table) → reached m′ (v .table) i ≡ reached m (v .table) i)
+    × (countOf m′ v ≡ countOf m v)
+    × (tableOk isT m′ (v .symbols) (v .strings) (v .table) ≡ true)
+unfolding countOf
+view-same isT m m′ v ok agree len = (
+  λ name g e. find-same isT m m′ agree (v .symbols) (v .strings) (v .table) ok len name g e,
+  λ name g e. answer-same isT m m′ agree (v .symbols) (v .strings) (v .table) ok len name g e,
+  λ i l. reached-same isT m m′ agree (v .symbols) (v .strings) (v .table) ok len i l,
+  rw (count-of isT m m′ agree (v .symbols) (v .strings) (v .table) ok len),
+  table-same isT m m′ agree (v .symbols) (v .strings) (v .table) ok len,
+)
+
+-- with the name's own hashes
+pub lookup-same : (isT : ℕ → Bool) (m m′ : List ℕ) (v : View) → tableOk isT m (v .symbols) (v .strings) (v .table) ≡ true
+    → Agree isT m m′ → length m′ ≡ length m → (name : List ℕ) → lookupIn m′ v name ≡ lookupIn m v name
+lookup-same isT m m′ v ok agree len name = view-same isT m m′ v ok agree len .0 name (gnuHash name) (elfHash name)
+
+pub answer-in-same : (isT : ℕ → Bool) (m m′ : List ℕ) (v : View) → tableOk isT m (v .symbols) (v .strings) (v .table) ≡ true
+    → Agree isT m m′ → length m′ ≡ length m → (name : List ℕ) → answerIn m′ v name ≡ answerIn m v name
+answer-in-same isT m m′ v ok agree len name = view-same isT m m′ v ok agree len .1 name (gnuHash name) (elfHash name)

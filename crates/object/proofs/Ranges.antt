@@ -1,9 +1,9 @@
 -- The laws of `below`, of table bytes and of writable segments. No contract cites this file. Assumes nothing.
-use mathlib.Core.Path.{_≡_, refl, sym, ap, _∙_}
+use mathlib.Core.Path.{_≡_, refl, sym, _∙_}
 use mathlib.Core.Bool.{Bool, true, false, not}
-use mathlib.Core.List.{List, [], _∷_, map}
+use mathlib.Core.List.{List, _∷_, map}
 use mathlib.Core.Logic.{_⊎_, inl, inr, ⊎-elim}
-use Prim.Native.Nat.{ℕ, zero, suc, _+_, _-_, _*_, _/_, _%_, _≤_, _<_}
+use Prim.Native.Nat.{ℕ, zero, suc, _+_, _-_, _/_, _%_, _≤_, _<_}
 use native.Mathlib.Nat.{eq-or-lt-of-le, le-of-suc-le-suc, not-suc-le-zero}
 use native.Mathlib.Numerals.{add-one}
 use native.Mathlib.Omega.{arith}
@@ -11,7 +11,7 @@ use borrow.Author.Tests.{eq-eqb, le-leb, lt-ltb, le-ltb, eqb-true, leb-true, ltb
 use lib.Dec.{eqb, leb, ltb}
 use lib.ListN.{length, getD, take, drop, drop-of-length-le, length-take, length-map}
 use lib.Seq.{drop-cons, getD-take}
-use Rattle.words.specs.Choice.{both, either, every, some, below}
+use Rattle.words.specs.Choice.{both, every, some, below}
 use Rattle.words.proofs.Choice.{both-true, both-false}
 use Rattle.object.specs.declared.program_header.Segment.{Segment}
 use Rattle.object.specs.TableBytes.{isWritable, holdsRange, isTable, tableBytes, inWritable}

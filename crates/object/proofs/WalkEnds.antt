@@ -1,24 +1,25 @@
 -- The walks of a table that is not refused end by themselves: more fuel gives the same list. So `walk` cuts off no walk of such a table.
 -- No contract cites this file. Assumes nothing.
-use mathlib.Core.Path.{_≡_, refl, sym, ap, _∙_}
-use mathlib.Core.Bool.{Bool, true, false, not}
+use mathlib.Core.Path.{_≡_, refl, ap}
+use mathlib.Core.Bool.{Bool, true, false}
 use mathlib.Core.List.{List, [], _∷_}
-use Prim.Native.Nat.{ℕ, zero, suc, _+_, _-_, _*_, _^_, _≤_, _<_, min}
-use native.Mathlib.Nat.{not-suc-le-zero, le-of-suc-le-suc}
+use Prim.Native.Nat.{ℕ, zero, suc, _+_, _-_, _*_, _^_, _≤_, _<_}
+use native.Mathlib.Nat.{not-suc-le-zero}
 use native.Mathlib.Omega.{arith}
 use borrow.Author.Tests.{leb-true}
-use lib.Dec.{leb}
+use lib.Dec.{eqb, leb}
 use lib.ListN.{length}
-use Rattle.object.specs.declared.hash_tables.HashTable.{HashTable}
-use Rattle.object.specs.declared.hash_tables.HashTable.the-variants.{Without, SysV, Gnu}
 use Rattle.words.specs.Choice.{pick, every}
 use Rattle.words.specs.Memory.{mem}
 use Rattle.words.specs.Words.{leAt}
-use Rattle.object.proofs.Ranges.{below-at}
-use Rattle.object.specs.HashCheck.{chainOk, symbolOk, stepOk}
-use Rattle.object.specs.HashTable.{chainAt, isLast, next, fuel, walk}
-use Rattle.object.specs.TableBytes.{tableBytes}
 use Rattle.words.proofs.Choice.{both-true}
+use Rattle.object.specs.declared.hash_tables.HashTable.{HashTable}
+use Rattle.object.specs.declared.hash_tables.HashTable.the-variants.{Without, SysV, Gnu}
+use Rattle.object.specs.HashCheck.{bucketOk, lengthOk, chainOk, symbolOk, stepOk, tableOk}
+use Rattle.object.specs.HashTable.{bucketCount, bucketAt, chainAt, isLast, next, fuel, walk, walkFrom, reached}
+use Rattle.object.specs.TableBytes.{tableBytes}
+use Rattle.object.proofs.Ranges.{below-at}
+use Rattle.object.proofs.CheckLaws.{clauses, walk-clauses}
 
 -- a walk that is shorter than its fuel has ended
 pub walk-ended : (m : List ℕ) (t : HashTable) (k n s : ℕ) → length (walk m t n s) < n → walk m t (n + k) s ≡ walk m t n s
@@ -36,7 +37,7 @@ walk-ended m t k (suc n) s h =
     go false l l′ h ih = ih (omega arith)
 
 module _ (isT : ℕ → Bool) (m : List ℕ) (inside : (i : ℕ) → isT i ≡ true → i < length m) (symbols strings at n first b shift : ℕ) where
-  -- the chain word of a symbol that is fine lies in the image
+  -- the chain word of a symbol that passes lies in the image
   word-in : (s : ℕ) → stepOk isT m symbols strings (Gnu at n first b shift) s ≡ true
       → at + (16 + 8 * b + 4 * n + 4 * (s - first)) + 4 ≤ length m
   unfolding chainOk tableBytes
@@ -88,3 +89,41 @@ pub sysv-ends : (m : List ℕ) (at n c s k : ℕ) → leb (length (walk m (SysV 
 sysv-ends m at n c s k e =
     let l = leb-true (length (walk m (SysV at n c) (c + 1) s)) c e in
     walk-ended m (SysV at n c) k (c + 1) s (omega arith)
+
+-- No walk of a table that is not refused is cut off: with more fuel each gives the same list. Table bytes lie in an image of at most 2^28
+-- bytes.
+pub walks-end :
+    (isT : ℕ → Bool) (m : List ℕ) → ((i : ℕ) → isT i ≡ true → i < length m) → length m ≤ 2 ^ 28
+    → (symbols strings : ℕ) (t : HashTable) → tableOk isT m symbols strings t ≡ true
+    → (i : ℕ) → i < bucketCount t
+    → (k : ℕ)
+    → pick (eqb (leAt 4 (mem m) (bucketAt t i)) 0) [] (walk m t (fuel m t + k) (leAt 4 (mem m) (bucketAt t i))) ≡ reached m t i
+unfolding walkFrom bucketOk lengthOk tableBytes
+walks-end isT m inside small symbols strings Without ok i l k = absurd (not-suc-le-zero l)
+walks-end isT m inside small symbols strings (SysV at n c) ok i l k = go (eqb w 0) refl
+  where
+    w : ℕ
+    w = leAt 4 (mem m) (bucketAt (SysV at n c) i)
+
+    go : (z : Bool) → eqb w 0 ≡ z
+        → pick (eqb w 0) [] (walk m (SysV at n c) (c + 1 + k) w) ≡ pick (eqb w 0) [] (walk m (SysV at n c) (c + 1) w)
+    go true e = rw e
+    go false e =
+        rw e (sysv-ends m at n c w k (rw e at (walk-clauses isT m symbols strings (SysV at n c) ok i l .1)))
+walks-end isT m inside small symbols strings (Gnu at n first b shift) ok i l k = go (eqb w 0) refl
+  where
+    t : HashTable
+    t = Gnu at n first b shift
+
+    w : ℕ
+    w = leAt 4 (mem m) (bucketAt t i)
+
+    start : at + 0 < length m
+    start = inside (at + 0) (below-at (λ j. isT (at + j)) (16 + 8 * b + 4 * n) 0 (clauses isT m symbols strings t ok .1) (omega arith))
+
+    go : (z : Bool) → eqb w 0 ≡ z → pick (eqb w 0) [] (walk m t (fuel m t + k) w) ≡ pick (eqb w 0) [] (walk m t (fuel m t) w)
+    go true e = rw e
+    go false e =
+        let c = walk-clauses isT m symbols strings t ok i l in
+        let f : first ≤ w = leb-true first w (rw e at (c .0)) in
+        rw e (gnu-ends isT m inside symbols strings at n first b shift small w k f (omega (arith, start)) (rw e at (c .2)))

@@ -1,22 +1,21 @@
 -- The turns of a check of a walk. No contract cites this file. Assumes nothing.
-use mathlib.Core.Path.{_≡_, refl, sym, ap, _∙_}
-use mathlib.Core.Bool.{Bool, true, false, not}
-use mathlib.Core.List.{List, [], _∷_}
-use Prim.Native.Nat.{ℕ, zero, suc, _+_, _-_, _*_, _≤_, _<_}
+use mathlib.Core.Path.{_≡_, refl}
+use mathlib.Core.Bool.{Bool, true, false}
+use mathlib.Core.List.{List, []}
+use Prim.Native.Nat.{ℕ, zero, suc, _+_, _*_, _≤_, _<_}
 use native.Mathlib.Nat.{not-suc-le-zero}
 use native.Mathlib.Numerals.{add-one}
-use native.Mathlib.Omega.{arith}
-use borrow.Author.Tests.{eq-eqb, ne-eqb, le-leb, lt-leb}
-use lib.Dec.{eqb, leb, ltb, leb·zero, leb·suc-suc, leb·suc-zero}
+use borrow.Author.Tests.{ne-eqb, le-leb, lt-leb}
+use lib.Dec.{leb, leb·zero, leb·suc-suc, leb·suc-zero}
 use lib.ListN.{length}
-use Rattle.object.specs.declared.hash_tables.HashTable.{HashTable}
-use Rattle.object.specs.declared.hash_tables.HashTable.the-variants.{Without, SysV, Gnu}
 use Rattle.words.specs.Choice.{both, pick, every}
 use Rattle.words.specs.Memory.{mem}
 use Rattle.words.specs.Words.{leAt}
+use Rattle.words.proofs.Choice.{both-false}
+use Rattle.object.specs.declared.hash_tables.HashTable.{HashTable}
+use Rattle.object.specs.declared.hash_tables.HashTable.the-variants.{SysV, Gnu}
 use Rattle.object.specs.HashCheck.{bucketOk, lengthOk, stepOk, walkOk}
 use Rattle.object.specs.HashTable.{chainAt, isLast, next, fuel, walk, walkFrom}
-use Rattle.words.proofs.Choice.{both-false}
 
 module _ (m : List ℕ) (t : HashTable) (p : ℕ → Bool) (s : ℕ) where
   pub every-no : (n : ℕ) → 0 < n → p s ≡ false → every p (walk m t n s) ≡ false

@@ -1,7 +1,9 @@
--- A name in an object's hash table. System V gABI, "Hash Table" (nbucket, nchain, bucket, chain: "hash function value x .. x%nbucket";
--- index 0, STN_UNDEF, ends a chain). DT_GNU_HASH text: header (nbuckets, symndx, maskwords, shift2), bloom filter, buckets, hash values,
--- whose lowest bit marks the end of a chain. Document 01: "The bloom test, bucket and chain go as in `HashTable::lookup`. The first hit by
--- name decides for its object"; "The address is st_value for section 0xFFF1, else base + st_value modulo 2^64". Assumes nothing.
+-- A name in an object's hash table. System V gABI, "Hash Table": nbucket, nchain, bucket, chain; "if the hashing function returns the value
+-- x for some name, bucket[x%nbucket] gives an index, y, into both the symbol table and the chain table", and "chain[y] gives the next symbol
+-- table entry", until "the chain entry contains the value STN_UNDEF" (0). DT_GNU_HASH text: header (nbuckets, symndx, maskwords, shift2),
+-- bloom filter, buckets, hash values, whose lowest bit marks the end of a chain. Document 01: "The bloom test, bucket and chain go as in
+-- `HashTable::lookup`. The first hit by name decides for its object"; "The address is st_value for section 0xFFF1, else base + st_value
+-- modulo 2^64". Assumes nothing.
 use mathlib.Core.Bool.{Bool, true, false, not}
 use mathlib.Core.List.{List, [], _∷_}
 use Prim.Native.Nat.{ℕ, zero, suc, _+_, _-_, _*_, _/_, _%_, _^_, _<_, min}

@@ -1,4 +1,4 @@
--- How many symbols an object has. System V gABI, "Hash Table": "nchain .. equals the number of symbol table entries". Document 01: "Symbol
+-- How many symbols an object has. System V gABI, "Hash Table": "The number of symbol table entries should equal nchain". Document 01: "Symbol
 -- count: where the string table lies above the symbol table, the difference divided by 24; else the SysV chain count, or one past the last
 -- index of the highest GNU bucket's chain; else unknown. A GNU table with all buckets 0 gives unknown". Assumes nothing.
 use mathlib.Core.Bool.{Bool}

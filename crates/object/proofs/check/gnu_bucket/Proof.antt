@@ -1,21 +1,17 @@
+-- `object::check::gnu_bucket` meets its contract. Assumes nothing.
+use mathlib.Core.Path.{sym, _∙_}
+use native.Mathlib.Omega.{arith}
+use borrow.Author.Needs.{needs}
+use denote.Ref.{now}
+use lib.ListN.{take}
 use Rattle.object.specs.HashTable.{fuel}
 use Rattle.object.specs.TableBytes.{isTable}
 use Rattle.object.specs.HashCheck.{stepOk}
+use Rattle.object.specs.declared.hash_tables.HashTable.the-variants.{Gnu}
 use Rattle.object.proofs.WalkLaws.{gnu-empty, gnu-low, gnu-start}
 use Rattle.object.proofs.KnownLaws.{known-walk}
-use Rattle.object.specs.declared.hash_tables.HashTable.the-variants.{Gnu}
-use mathlib.Core.Path.{_≡_, sym, _∙_}
-use Prim.Native.Nat.{_-_}
-use native.Mathlib.Omega.{arith}
-use denote.Ref.{now}
-use lib.ListN.{length, take}
-use borrow.Author.Needs.{needs}
 use Rattle.object.proofs.check.gnu_bucket.Statement.{statement}
 use Rattle.object.proofs.check.gnu_bucket.Tie as tie
-use Rattle.object.proofs.check.gnu_bucket.Reads as reads
-use Rattle.object.proofs.check.gnu_bucket.Lts as lts
-use Rattle.object.proofs.check.gnu_walk.Reads as gnu-walk-reads
-use Rattle.words.proofs.bytes.u32_off.Reads as u32-off-reads
 
 mul-u32-off : tie.Need-mul-u32-off
 mul-u32-off c = search needs

@@ -1,10 +1,4 @@
-use lib.ListN.{take}
-use Rattle.object.specs.TableBytes.{isTable}
-use Rattle.object.specs.KnownRange.{KnownRange}
-use Rattle.object.specs.HashCheck.{walkOk, tableOk, numbersOk}
-use Rattle.object.proofs.Ranges.{below-more, below-no}
-use Rattle.words.specs.Choice.{below}
-use Rattle.object.specs.declared.hash_tables.HashTable.the-variants.{Gnu}
+-- `object::check::gnu_ok` meets its contract. The invariant: the walks of the buckets before `i` pass, and the range from `low` to `high` is known. Assumes nothing.
 use mathlib.Core.Path.{_≡_, refl, sym, _∙_}
 use mathlib.Core.Bool.{true}
 use Prim.Native.Nat.{_-_, _≤_}
@@ -12,12 +6,15 @@ use native.Mathlib.Omega.{arith}
 use borrow.Author.Needs.{needs}
 use borrow.Author.Tests.{eq-eqb, ne-eqb, not-true, not-false, le-leb, lt-leb}
 use denote.Ref.{now}
+use lib.ListN.{take}
+use Rattle.words.specs.Choice.{below}
+use Rattle.object.specs.TableBytes.{isTable}
+use Rattle.object.specs.KnownRange.{KnownRange}
+use Rattle.object.specs.HashCheck.{walkOk, tableOk, numbersOk}
+use Rattle.object.specs.declared.hash_tables.HashTable.the-variants.{Gnu}
+use Rattle.object.proofs.Ranges.{below-more, below-no}
 use Rattle.object.proofs.check.gnu_ok.Statement.{statement}
 use Rattle.object.proofs.check.gnu_ok.Tie as tie
-use Rattle.object.proofs.check.gnu_ok.Reads as reads
-use Rattle.object.proofs.check.gnu_ok.Lts as lts
-use Rattle.object.proofs.check.gnu_bucket.Reads as gnu-bucket-reads
-use Rattle.object.proofs.table_bytes.table_bytes.Reads as table-bytes-reads
 
 abbrev Inv-loop : tie.InvT-loop
 Inv-loop image b symbols strings at buckets first blooms shift n low₀ high₀ i₀ low high i =

@@ -1,11 +1,4 @@
-use lib.ListN.{take}
-use Rattle.object.specs.TableBytes.{isTable}
-use Rattle.object.specs.HashTable.{walk, fuel}
-use Rattle.object.specs.HashCheck.{chainOk, stepOk}
-use Rattle.object.proofs.WalkLaws.{every-no, every-out, every-last, every-on}
-use Rattle.object.proofs.KnownLaws.{more, join, known-walk}
-use Rattle.words.specs.Choice.{every}
-use Rattle.object.specs.declared.hash_tables.HashTable.the-variants.{Gnu}
+-- `object::check::gnu_walk` meets its contract. The invariant: what is left of the walk decides, and the symbols from `word` to `s` pass. Assumes nothing.
 use mathlib.Core.Path.{_≡_, sym, ap, _∙_}
 use mathlib.Core.Bool.{true}
 use Prim.Native.Nat.{ℕ, _+_, _-_, _^_, _≤_, _<_}
@@ -13,14 +6,16 @@ use native.Mathlib.Omega.{arith}
 use borrow.Author.Needs.{needs}
 use borrow.Author.Tests.{eq-eqb, ne-eqb, not-true, not-false}
 use denote.Ref.{now}
+use lib.ListN.{take}
+use Rattle.words.specs.Choice.{every}
+use Rattle.object.specs.TableBytes.{isTable}
+use Rattle.object.specs.HashTable.{walk, fuel}
+use Rattle.object.specs.HashCheck.{chainOk, stepOk}
+use Rattle.object.specs.declared.hash_tables.HashTable.the-variants.{Gnu}
+use Rattle.object.proofs.WalkLaws.{every-no, every-out, every-last, every-on}
+use Rattle.object.proofs.KnownLaws.{more, join, known-walk}
 use Rattle.object.proofs.check.gnu_walk.Statement.{statement}
 use Rattle.object.proofs.check.gnu_walk.Tie as tie
-use Rattle.object.proofs.check.gnu_walk.Reads as reads
-use Rattle.object.proofs.check.gnu_walk.Lts as lts
-use Rattle.object.proofs.check.symbol_fits.Reads as symbol-fits-reads
-use Rattle.object.proofs.table_bytes.table_off.Reads as table-off-reads
-use Rattle.words.proofs.bytes.smaller.Reads as smaller-reads
-use Rattle.words.proofs.bytes.u32_off.Reads as u32-off-reads
 
 abbrev Inv-loop : tie.InvT-loop
 Inv-loop image b symbols strings at buckets first blooms shift word from upto chain low s₀ left₀ s left =

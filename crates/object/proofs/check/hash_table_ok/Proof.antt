@@ -1,13 +1,10 @@
+-- `object::check::hash_table_ok` meets its contract. Assumes nothing.
+use borrow.Author.Needs.{needs}
+use Rattle.words.specs.Choice.{below}
 use Rattle.object.specs.TableBytes.{tableBytes}
 use Rattle.object.specs.HashCheck.{tableOk, numbersOk}
-use Rattle.words.specs.Choice.{below}
-use borrow.Author.Needs.{needs}
 use Rattle.object.proofs.check.hash_table_ok.Statement.{statement}
 use Rattle.object.proofs.check.hash_table_ok.Tie as tie
-use Rattle.object.proofs.check.hash_table_ok.Reads as reads
-use Rattle.object.proofs.check.hash_table_ok.Lts as lts
-use Rattle.object.proofs.check.gnu_ok.Reads as gnu-ok-reads
-use Rattle.object.proofs.check.sysv_ok.Reads as sysv-ok-reads
 
 enum-told : tie.Need-enum-told
 enum-told c = search needs

@@ -1,14 +1,10 @@
-use Rattle.object.specs.HashCheck.{symbolOk}
-use borrow.Author.Tests.{not-true, not-false}
+-- `object::check::symbol_fits` meets its contract. Assumes nothing.
 use mathlib.Core.Path.{sym, _∙_}
+use borrow.Author.Tests.{not-true, not-false}
 use borrow.Author.Needs.{needs}
+use Rattle.object.specs.HashCheck.{symbolOk}
 use Rattle.object.proofs.check.symbol_fits.Statement.{statement}
 use Rattle.object.proofs.check.symbol_fits.Tie as tie
-use Rattle.object.proofs.check.symbol_fits.Reads as reads
-use Rattle.object.proofs.check.symbol_fits.Lts as lts
-use Rattle.object.proofs.table_bytes.name_ok.Reads as name-ok-reads
-use Rattle.object.proofs.table_bytes.table_off.Reads as table-off-reads
-use Rattle.words.proofs.bytes.u32_off.Reads as u32-off-reads
 
 mul-table-off : tie.Need-mul-table-off
 mul-table-off c = search needs

@@ -1,9 +1,4 @@
-use lib.ListN.{take}
-use Rattle.object.specs.TableBytes.{isTable}
-use Rattle.object.specs.HashCheck.{walkOk, tableOk, numbersOk}
-use Rattle.object.proofs.Ranges.{below-more, below-no}
-use Rattle.words.specs.Choice.{below}
-use Rattle.object.specs.declared.hash_tables.HashTable.the-variants.{SysV}
+-- `object::check::sysv_ok` meets its contract. The invariant: the walks of the buckets before `i` pass. Assumes nothing.
 use mathlib.Core.Path.{_≡_, refl, sym, _∙_}
 use mathlib.Core.Bool.{true}
 use Prim.Native.Nat.{_-_, _≤_}
@@ -11,12 +6,14 @@ use native.Mathlib.Omega.{arith}
 use borrow.Author.Needs.{needs}
 use borrow.Author.Tests.{eq-eqb, ne-eqb, not-true, not-false}
 use denote.Ref.{now}
+use lib.ListN.{take}
+use Rattle.words.specs.Choice.{below}
+use Rattle.object.specs.TableBytes.{isTable}
+use Rattle.object.specs.HashCheck.{walkOk, tableOk, numbersOk}
+use Rattle.object.specs.declared.hash_tables.HashTable.the-variants.{SysV}
+use Rattle.object.proofs.Ranges.{below-more, below-no}
 use Rattle.object.proofs.check.sysv_ok.Statement.{statement}
 use Rattle.object.proofs.check.sysv_ok.Tie as tie
-use Rattle.object.proofs.check.sysv_ok.Reads as reads
-use Rattle.object.proofs.check.sysv_ok.Lts as lts
-use Rattle.object.proofs.check.sysv_walk_ok.Reads as sysv-walk-ok-reads
-use Rattle.object.proofs.table_bytes.table_bytes.Reads as table-bytes-reads
 
 abbrev Inv-loop : tie.InvT-loop
 Inv-loop image b symbols strings at buckets chains n i₀ i =

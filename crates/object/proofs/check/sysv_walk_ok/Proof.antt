@@ -1,20 +1,17 @@
-use lib.ListN.{take}
-use Rattle.object.specs.TableBytes.{isTable}
-use Rattle.object.specs.HashCheck.{chainOk, stepOk, walkOk}
-use Rattle.object.proofs.WalkLaws.{within, within-no, within-out, within-last, within-on, sysv-empty, sysv-start}
-use Rattle.object.specs.declared.hash_tables.HashTable.the-variants.{SysV}
+-- `object::check::sysv_walk_ok` meets its contract. The invariant: what is left of the walk decides. Assumes nothing.
 use mathlib.Core.Path.{_≡_, sym, _∙_}
 use Prim.Native.Nat.{_-_, _^_, _≤_, _<_}
 use native.Mathlib.Omega.{arith}
 use borrow.Author.Needs.{needs}
 use borrow.Author.Tests.{eq-eqb, ne-eqb, not-true, not-false, lt-ltb, le-ltb}
 use denote.Ref.{now}
+use lib.ListN.{take}
+use Rattle.object.specs.TableBytes.{isTable}
+use Rattle.object.specs.HashCheck.{chainOk, stepOk, walkOk}
+use Rattle.object.specs.declared.hash_tables.HashTable.the-variants.{SysV}
+use Rattle.object.proofs.WalkLaws.{within, within-no, within-out, within-last, within-on, sysv-empty, sysv-start}
 use Rattle.object.proofs.check.sysv_walk_ok.Statement.{statement}
 use Rattle.object.proofs.check.sysv_walk_ok.Tie as tie
-use Rattle.object.proofs.check.sysv_walk_ok.Reads as reads
-use Rattle.object.proofs.check.sysv_walk_ok.Lts as lts
-use Rattle.object.proofs.check.symbol_fits.Reads as symbol-fits-reads
-use Rattle.words.proofs.bytes.u32_off.Reads as u32-off-reads
 
 abbrev Inv-loop : tie.InvT-loop
 Inv-loop image b symbols strings at buckets chains i word n most s₀ left₀ s left =

@@ -1,9 +1,7 @@
+-- `object::hash_tables::address_of` meets its contract. Assumes nothing.
 use borrow.Author.Needs.{needs}
 use Rattle.object.proofs.hash_tables.address_of.Statement.{statement}
 use Rattle.object.proofs.hash_tables.address_of.Tie as tie
-use Rattle.object.proofs.hash_tables.address_of.Reads as reads
-use Rattle.object.proofs.hash_tables.address_of.Lts as lts
-use Rattle.words.proofs.bytes.sum_u64.Reads as sum-u64-reads
 
 returns : tie.Need-returns
 returns c =

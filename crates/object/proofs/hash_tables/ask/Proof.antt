@@ -1,15 +1,11 @@
-use native.Mathlib.Omega.{arith}
-use Rattle.object.specs.HashTable.{answerOf, definition}
-use borrow.Author.Tests.{not-true, not-false}
+-- `object::hash_tables::ask` meets its contract. Assumes nothing.
 use mathlib.Core.Path.{sym, _∙_}
+use native.Mathlib.Omega.{arith}
+use borrow.Author.Tests.{not-true, not-false}
 use borrow.Author.Needs.{needs}
+use Rattle.object.specs.HashTable.{answerOf, definition}
 use Rattle.object.proofs.hash_tables.ask.Statement.{statement}
 use Rattle.object.proofs.hash_tables.ask.Tie as tie
-use Rattle.object.proofs.hash_tables.ask.Reads as reads
-use Rattle.object.proofs.hash_tables.ask.Lts as lts
-use Rattle.object.proofs.hash_tables.lookup.Reads as lookup-reads
-use Rattle.object.proofs.symbol.is_exported.Reads as is-exported-reads
-use Rattle.object.proofs.symbol.symbol_off.Reads as symbol-off-reads
 
 lookup-requires : tie.Need-lookup-requires
 lookup-requires c κs = search needs

@@ -1,12 +1,8 @@
+-- `object::hash_tables::bloom_has` meets its contract. Assumes nothing.
 use borrow.Author.Tests.{eq-eqb, ne-eqb}
 use borrow.Author.Needs.{needs}
 use Rattle.object.proofs.hash_tables.bloom_has.Statement.{statement}
 use Rattle.object.proofs.hash_tables.bloom_has.Tie as tie
-use Rattle.object.proofs.hash_tables.bloom_has.Reads as reads
-use Rattle.object.proofs.hash_tables.bloom_has.Lts as lts
-use Rattle.object.proofs.hash_tables.shr.Reads as shr-reads
-use Rattle.object.proofs.hash_tables.slot.Reads as slot-reads
-use Rattle.words.proofs.bytes.u64_off.Reads as u64-off-reads
 
 slot-requires : tie.Need-slot-requires
 slot-requires c κs = search needs

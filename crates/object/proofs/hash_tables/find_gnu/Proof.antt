@@ -1,22 +1,15 @@
-use Rattle.object.specs.HashTable.{findBy, firstIn, isHit, walk, mayHold}
-use Rattle.object.proofs.FindLaws.{find-here, find-last, find-on, find-out, find-not, find-empty, find-start}
-use Rattle.object.specs.declared.hash_tables.HashTable.the-variants.{Gnu}
-use denote.Ref.{now}
+-- `object::hash_tables::find_gnu` meets its contract. The invariant: the answer is the first hit of what is left of the walk. Assumes nothing.
+use mathlib.Core.Path.{_≡_, sym, _∙_}
+use Prim.Native.Nat.{_+_, _-_, _^_, _≤_}
+use native.Mathlib.Omega.{arith}
 use borrow.Author.Tests.{eq-eqb, ne-eqb, not-true, not-false}
 use borrow.Author.Needs.{needs}
-use native.Mathlib.Omega.{arith}
-use Prim.Native.Nat.{_+_, _-_, _%_, _^_, _≤_}
-use mathlib.Core.Path.{_≡_, sym, _∙_}
+use denote.Ref.{now}
+use Rattle.object.specs.HashTable.{findBy, firstIn, isHit, walk, mayHold}
+use Rattle.object.specs.declared.hash_tables.HashTable.the-variants.{Gnu}
+use Rattle.object.proofs.FindLaws.{find-here, find-last, find-on, find-out, find-not, find-empty, find-start}
 use Rattle.object.proofs.hash_tables.find_gnu.Statement.{statement}
 use Rattle.object.proofs.hash_tables.find_gnu.Tie as tie
-use Rattle.object.proofs.hash_tables.find_gnu.Reads as reads
-use Rattle.object.proofs.hash_tables.find_gnu.Lts as lts
-use Rattle.object.proofs.hash_tables.bloom_has.Reads as bloom-has-reads
-use Rattle.object.proofs.hash_tables.hit_gnu.Reads as hit-gnu-reads
-use Rattle.object.proofs.hash_tables.slot.Reads as slot-reads
-use Rattle.words.proofs.bytes.monus.Reads as monus-reads
-use Rattle.words.proofs.bytes.smaller.Reads as smaller-reads
-use Rattle.words.proofs.bytes.u32_off.Reads as u32-off-reads
 
 abbrev Inv-loop : tie.InvT-loop
 Inv-loop image symbols strings at buckets first blooms shift name gnu elf i start b chain low s₀ left₀ s left =

@@ -1,19 +1,15 @@
-use Rattle.object.specs.HashTable.{findBy, firstIn, isHit, walk, mayHold}
-use Rattle.object.proofs.FindLaws.{find-here, find-last, find-on, find-out, find-not, find-empty, find-start}
-use Rattle.object.specs.declared.hash_tables.HashTable.the-variants.{SysV}
-use denote.Ref.{now}
+-- `object::hash_tables::find_sysv` meets its contract. The invariant: the answer is the first hit of what is left of the walk. Assumes nothing.
+use mathlib.Core.Path.{_≡_, refl, sym, _∙_}
+use Prim.Native.Nat.{_-_, _^_, _<_}
+use native.Mathlib.Omega.{arith}
 use borrow.Author.Tests.{eq-eqb, ne-eqb}
 use borrow.Author.Needs.{needs}
-use native.Mathlib.Omega.{arith}
-use Prim.Native.Nat.{_-_, _%_, _^_, _<_}
-use mathlib.Core.Path.{_≡_, refl, sym, _∙_}
+use denote.Ref.{now}
+use Rattle.object.specs.HashTable.{findBy, firstIn, isHit, walk, mayHold}
+use Rattle.object.specs.declared.hash_tables.HashTable.the-variants.{SysV}
+use Rattle.object.proofs.FindLaws.{find-here, find-last, find-on, find-out, find-not, find-empty, find-start}
 use Rattle.object.proofs.hash_tables.find_sysv.Statement.{statement}
 use Rattle.object.proofs.hash_tables.find_sysv.Tie as tie
-use Rattle.object.proofs.hash_tables.find_sysv.Reads as reads
-use Rattle.object.proofs.hash_tables.find_sysv.Lts as lts
-use Rattle.object.proofs.hash_tables.named.Reads as named-reads
-use Rattle.object.proofs.hash_tables.slot.Reads as slot-reads
-use Rattle.words.proofs.bytes.u32_off.Reads as u32-off-reads
 
 abbrev Inv-loop : tie.InvT-loop
 Inv-loop image symbols strings at buckets chains name gnu elf n i b s₀ left₀ s left =

@@ -1,13 +1,9 @@
-use Rattle.object.specs.SymbolCount.{tableCount}
-use mathlib.Core.Path.{_≡_}
+-- `object::hash_tables::gnu_count` meets its contract. Assumes nothing.
 use borrow.Author.Tests.{eq-eqb, ne-eqb}
 use borrow.Author.Needs.{needs}
+use Rattle.object.specs.SymbolCount.{tableCount}
 use Rattle.object.proofs.hash_tables.gnu_count.Statement.{statement}
 use Rattle.object.proofs.hash_tables.gnu_count.Tie as tie
-use Rattle.object.proofs.hash_tables.gnu_count.Reads as reads
-use Rattle.object.proofs.hash_tables.gnu_count.Lts as lts
-use Rattle.object.proofs.hash_tables.highest_bucket.Reads as highest-bucket-reads
-use Rattle.object.proofs.hash_tables.walk_last.Reads as walk-last-reads
 
 highest-bucket-requires : tie.Need-highest-bucket-requires
 highest-bucket-requires c κs = search needs

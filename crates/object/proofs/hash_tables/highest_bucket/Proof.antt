@@ -1,18 +1,14 @@
-use Prim.Native.Nat.{_-_, _^_, _≤_, _<_}
-use Rattle.object.specs.SymbolCount.{highest}
-use Rattle.object.proofs.CountLaws.{highest-more}
-use Rattle.object.specs.declared.hash_tables.HashTable.the-variants.{Gnu}
+-- `object::hash_tables::highest_bucket` meets its contract. The invariant: `best` is the largest word so far. Assumes nothing.
 use mathlib.Core.Path.{_≡_, refl}
-use Prim.Native.Nat.{_-_}
+use Prim.Native.Nat.{_-_, _^_, _≤_, _<_}
 use native.Mathlib.Omega.{arith}
 use borrow.Author.Needs.{needs}
 use denote.Ref.{now}
+use Rattle.object.specs.SymbolCount.{highest}
+use Rattle.object.specs.declared.hash_tables.HashTable.the-variants.{Gnu}
+use Rattle.object.proofs.CountLaws.{highest-more}
 use Rattle.object.proofs.hash_tables.highest_bucket.Statement.{statement}
 use Rattle.object.proofs.hash_tables.highest_bucket.Tie as tie
-use Rattle.object.proofs.hash_tables.highest_bucket.Reads as reads
-use Rattle.object.proofs.hash_tables.highest_bucket.Lts as lts
-use Rattle.object.proofs.hash_tables.larger.Reads as larger-reads
-use Rattle.words.proofs.bytes.u32_off.Reads as u32-off-reads
 
 abbrev Inv-loop : tie.InvT-loop
 Inv-loop image at buckets first blooms shift start n best₀ i₀ best i =

@@ -1,12 +1,8 @@
+-- `object::hash_tables::hit_gnu` meets its contract. Assumes nothing.
 use borrow.Author.Tests.{eq-eqb, ne-eqb}
-use Prim.Native.Nat.{_-_, _%_}
-use mathlib.Core.Path.{_≡_}
 use borrow.Author.Needs.{needs}
 use Rattle.object.proofs.hash_tables.hit_gnu.Statement.{statement}
 use Rattle.object.proofs.hash_tables.hit_gnu.Tie as tie
-use Rattle.object.proofs.hash_tables.hit_gnu.Reads as reads
-use Rattle.object.proofs.hash_tables.hit_gnu.Lts as lts
-use Rattle.object.proofs.hash_tables.named.Reads as named-reads
 
 returns : tie.Need-returns
 returns c =

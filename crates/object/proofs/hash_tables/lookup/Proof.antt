@@ -1,11 +1,8 @@
-use Rattle.object.specs.HashTable.{findBy, mayHold}
+-- `object::hash_tables::lookup` meets its contract. Assumes nothing.
 use borrow.Author.Needs.{needs}
+use Rattle.object.specs.HashTable.{findBy, mayHold}
 use Rattle.object.proofs.hash_tables.lookup.Statement.{statement}
 use Rattle.object.proofs.hash_tables.lookup.Tie as tie
-use Rattle.object.proofs.hash_tables.lookup.Reads as reads
-use Rattle.object.proofs.hash_tables.lookup.Lts as lts
-use Rattle.object.proofs.hash_tables.find_gnu.Reads as find-gnu-reads
-use Rattle.object.proofs.hash_tables.find_sysv.Reads as find-sysv-reads
 
 enum-told : tie.Need-enum-told
 enum-told c = search needs

@@ -1,11 +1,7 @@
+-- `object::hash_tables::named` meets its contract. Assumes nothing.
 use borrow.Author.Needs.{needs}
 use Rattle.object.proofs.hash_tables.named.Statement.{statement}
 use Rattle.object.proofs.hash_tables.named.Tie as tie
-use Rattle.object.proofs.hash_tables.named.Reads as reads
-use Rattle.object.proofs.hash_tables.named.Lts as lts
-use Rattle.words.proofs.bytes.u32_off.Reads as u32-off-reads
-use Rattle.words.proofs.names.name_off.Reads as name-off-reads
-use Rattle.words.proofs.names.same.Reads as same-reads
 
 mul-u32-off : tie.Need-mul-u32-off
 mul-u32-off c = search needs

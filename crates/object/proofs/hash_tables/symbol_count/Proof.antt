@@ -1,14 +1,11 @@
-use Rattle.object.specs.SymbolCount.{tableCount, countOf}
-use mathlib.Core.Path.{_≡_}
-use native.Mathlib.Omega.{arith}
+-- `object::hash_tables::symbol_count` meets its contract. Assumes nothing.
 use Prim.Native.Nat.{_≤_}
+use native.Mathlib.Omega.{arith}
 use borrow.Author.Tests.{lt-ltb, le-ltb}
 use borrow.Author.Needs.{needs}
+use Rattle.object.specs.SymbolCount.{tableCount, countOf}
 use Rattle.object.proofs.hash_tables.symbol_count.Statement.{statement}
 use Rattle.object.proofs.hash_tables.symbol_count.Tie as tie
-use Rattle.object.proofs.hash_tables.symbol_count.Reads as reads
-use Rattle.object.proofs.hash_tables.symbol_count.Lts as lts
-use Rattle.object.proofs.hash_tables.gnu_count.Reads as gnu-count-reads
 
 sub-t13 : tie.Need-sub-t13
 sub-t13 c = search needs

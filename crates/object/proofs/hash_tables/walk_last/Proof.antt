@@ -1,20 +1,16 @@
-use Rattle.object.specs.SymbolCount.{lastOf}
-use Rattle.object.specs.HashTable.{walk, fuel}
-use Rattle.object.proofs.CountLaws.{last-stop, last-on, last-out}
-use Rattle.object.specs.declared.hash_tables.HashTable.the-variants.{Gnu}
+-- `object::hash_tables::walk_last` meets its contract. The invariant: the last symbol is that of what is left of the walk. Assumes nothing.
 use mathlib.Core.Path.{_≡_, sym, ap, _∙_}
 use Prim.Native.Nat.{ℕ, _+_, _-_, _^_, _≤_}
 use native.Mathlib.Omega.{arith}
 use borrow.Author.Needs.{needs}
 use borrow.Author.Tests.{eq-eqb, ne-eqb}
 use denote.Ref.{now}
+use Rattle.object.specs.SymbolCount.{lastOf}
+use Rattle.object.specs.HashTable.{walk, fuel}
+use Rattle.object.specs.declared.hash_tables.HashTable.the-variants.{Gnu}
+use Rattle.object.proofs.CountLaws.{last-stop, last-on, last-out}
 use Rattle.object.proofs.hash_tables.walk_last.Statement.{statement}
 use Rattle.object.proofs.hash_tables.walk_last.Tie as tie
-use Rattle.object.proofs.hash_tables.walk_last.Reads as reads
-use Rattle.object.proofs.hash_tables.walk_last.Lts as lts
-use Rattle.words.proofs.bytes.monus.Reads as monus-reads
-use Rattle.words.proofs.bytes.smaller.Reads as smaller-reads
-use Rattle.words.proofs.bytes.u32_off.Reads as u32-off-reads
 
 abbrev Inv-loop : tie.InvT-loop
 Inv-loop image at buckets first blooms shift word chain low last₀ s₀ left₀ last s left =

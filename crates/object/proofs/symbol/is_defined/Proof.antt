@@ -1,9 +1,7 @@
-use borrow.Author.Needs.{needs}
+-- `object::symbol::is_defined` meets its contract. Assumes nothing.
 use borrow.Author.Tests.{eq-eqb, ne-eqb}
 use Rattle.object.proofs.symbol.is_defined.Statement.{statement}
 use Rattle.object.proofs.symbol.is_defined.Tie as tie
-use Rattle.object.proofs.symbol.is_defined.Reads as reads
-use Rattle.object.proofs.symbol.is_defined.Lts as lts
 
 returns : tie.Need-returns
 returns c =

@@ -1,14 +1,10 @@
-use Rattle.object.specs.Symbol.{isExported}
-use borrow.Author.Tests.{not-true, not-false}
+-- `object::symbol::is_exported` meets its contract. Assumes nothing.
 use mathlib.Core.Path.{sym, _∙_}
+use borrow.Author.Tests.{not-true, not-false}
 use borrow.Author.Needs.{needs}
+use Rattle.object.specs.Symbol.{isExported}
 use Rattle.object.proofs.symbol.is_exported.Statement.{statement}
 use Rattle.object.proofs.symbol.is_exported.Tie as tie
-use Rattle.object.proofs.symbol.is_exported.Reads as reads
-use Rattle.object.proofs.symbol.is_exported.Lts as lts
-use Rattle.object.proofs.symbol.is_defined.Reads as is-defined-reads
-use Rattle.object.proofs.symbol.is_public.Reads as is-public-reads
-use Rattle.object.proofs.symbol.is_visible.Reads as is-visible-reads
 
 is-defined-requires : tie.Need-is-defined-requires
 is-defined-requires c κs = search needs

@@ -1,9 +1,7 @@
-use borrow.Author.Needs.{needs}
+-- `object::symbol::is_public` meets its contract. Assumes nothing.
 use borrow.Author.Tests.{eq-eqb, ne-eqb}
 use Rattle.object.proofs.symbol.is_public.Statement.{statement}
 use Rattle.object.proofs.symbol.is_public.Tie as tie
-use Rattle.object.proofs.symbol.is_public.Reads as reads
-use Rattle.object.proofs.symbol.is_public.Lts as lts
 
 returns : tie.Need-returns
 returns c =

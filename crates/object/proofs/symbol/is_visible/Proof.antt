@@ -1,9 +1,7 @@
-use borrow.Author.Needs.{needs}
+-- `object::symbol::is_visible` meets its contract. Assumes nothing.
 use borrow.Author.Tests.{eq-eqb, ne-eqb}
 use Rattle.object.proofs.symbol.is_visible.Statement.{statement}
 use Rattle.object.proofs.symbol.is_visible.Tie as tie
-use Rattle.object.proofs.symbol.is_visible.Reads as reads
-use Rattle.object.proofs.symbol.is_visible.Lts as lts
 
 returns : tie.Need-returns
 returns c =

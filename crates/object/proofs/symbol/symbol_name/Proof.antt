@@ -1,10 +1,7 @@
+-- `object::symbol::symbol_name` meets its contract. Assumes nothing.
 use borrow.Author.Needs.{needs}
 use Rattle.object.proofs.symbol.symbol_name.Statement.{statement}
 use Rattle.object.proofs.symbol.symbol_name.Tie as tie
-use Rattle.object.proofs.symbol.symbol_name.Reads as reads
-use Rattle.object.proofs.symbol.symbol_name.Lts as lts
-use Rattle.words.proofs.bytes.u32_off.Reads as u32-off-reads
-use Rattle.words.proofs.names.name_off.Reads as name-off-reads
 
 mul-u32-off : tie.Need-mul-u32-off
 mul-u32-off c = search needs

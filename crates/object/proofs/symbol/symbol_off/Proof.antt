@@ -1,18 +1,12 @@
-use Rattle.object.proofs.SymbolLaws.{symbol-end-at}
-use Rattle.object.specs.Symbol.{symbolFrom}
-use denote.Ref.{now}
-use Prim.Native.Nat.{_+_}
+-- `object::symbol::symbol_off` meets its contract. Assumes nothing.
 use mathlib.Core.Path.{_∙_}
+use Prim.Native.Nat.{_+_}
 use borrow.Author.Needs.{needs}
+use denote.Ref.{now}
+use Rattle.object.specs.Symbol.{symbolFrom}
+use Rattle.object.proofs.SymbolLaws.{symbol-end-at}
 use Rattle.object.proofs.symbol.symbol_off.Statement.{statement}
 use Rattle.object.proofs.symbol.symbol_off.Tie as tie
-use Rattle.object.proofs.symbol.symbol_off.Reads as reads
-use Rattle.object.proofs.symbol.symbol_off.Lts as lts
-use Rattle.words.proofs.bytes.byte_at.Reads as byte-at-reads
-use Rattle.words.proofs.bytes.place.Reads as place-reads
-use Rattle.words.proofs.bytes.u16_off.Reads as u16-off-reads
-use Rattle.words.proofs.bytes.u32_off.Reads as u32-off-reads
-use Rattle.words.proofs.bytes.u64_off.Reads as u64-off-reads
 
 place-requires : tie.Need-place-requires
 place-requires c κs = search needs

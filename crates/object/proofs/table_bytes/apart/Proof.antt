@@ -1,12 +1,11 @@
-use Rattle.object.proofs.Ranges.{spares, below-all, below-no, seg-in, seg-out}
-use mathlib.Core.Path.{_≡_, sym}
+-- `object::table_bytes::apart` meets its contract. Assumes nothing.
+use mathlib.Core.Path.{sym}
 use Prim.Native.Nat.{_+_, _-_}
 use native.Mathlib.Omega.{arith}
 use borrow.Author.Needs.{needs}
+use Rattle.object.proofs.Ranges.{spares, below-all, below-no, seg-in, seg-out}
 use Rattle.object.proofs.table_bytes.apart.Statement.{statement}
 use Rattle.object.proofs.table_bytes.apart.Tie as tie
-use Rattle.object.proofs.table_bytes.apart.Reads as reads
-use Rattle.object.proofs.table_bytes.apart.Lts as lts
 
 returns : tie.Need-returns
 returns c =

@@ -1,11 +1,9 @@
-use borrow.Author.Needs.{needs}
-use borrow.Author.Tests.{eq-eqb, ne-eqb, le-leb, lt-leb}
-use native.Mathlib.Omega.{arith}
+-- `object::table_bytes::holds` meets its contract. Assumes nothing.
 use Prim.Native.Nat.{_+_, _≤_, _<_}
+use native.Mathlib.Omega.{arith}
+use borrow.Author.Tests.{eq-eqb, ne-eqb, le-leb, lt-leb}
 use Rattle.object.proofs.table_bytes.holds.Statement.{statement}
 use Rattle.object.proofs.table_bytes.holds.Tie as tie
-use Rattle.object.proofs.table_bytes.holds.Reads as reads
-use Rattle.object.proofs.table_bytes.holds.Lts as lts
 
 returns : tie.Need-returns
 returns c =

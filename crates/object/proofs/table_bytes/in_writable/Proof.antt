@@ -1,15 +1,13 @@
-use borrow.Author.Needs.{needs}
-use Rattle.object.proofs.Ranges.{length-mapped, some-end, some-yes, some-on}
-use Rattle.object.specs.TableBytes.{inWritable}
-use lib.ListN.{length, take, drop, length-take}
-use native.Mathlib.Omega.{arith}
-use Prim.Native.Nat.{_-_, _≤_}
+-- `object::table_bytes::in_writable` meets its contract. The invariant: the segments from the `i`th on decide. Assumes nothing.
 use mathlib.Core.Path.{_≡_, refl, sym, _∙_}
+use Prim.Native.Nat.{_-_, _≤_}
+use native.Mathlib.Omega.{arith}
+use borrow.Author.Needs.{needs}
+use lib.ListN.{length, take, drop, length-take}
+use Rattle.object.specs.TableBytes.{inWritable}
+use Rattle.object.proofs.Ranges.{length-mapped, some-end, some-yes, some-on}
 use Rattle.object.proofs.table_bytes.in_writable.Statement.{statement}
 use Rattle.object.proofs.table_bytes.in_writable.Tie as tie
-use Rattle.object.proofs.table_bytes.in_writable.Reads as reads
-use Rattle.object.proofs.table_bytes.in_writable.Lts as lts
-use Rattle.object.proofs.table_bytes.holds.Reads as holds-reads
 
 abbrev Inv-loop : tie.InvT-loop
 Inv-loop at n b count i₀ i =

@@ -1,18 +1,15 @@
-use Rattle.object.proofs.Ranges.{span-out}
-use Rattle.object.specs.TableBytes.{tableName}
-use Rattle.words.specs.Names.{nameAt}
-use lib.ListN.{length, take}
-use denote.Ref.{now}
-use native.Mathlib.Omega.{arith}
+-- `object::table_bytes::name_ok` meets its contract. Assumes nothing.
+use mathlib.Core.Path.{sym, ap}
 use Prim.Native.Nat.{_+_}
-use mathlib.Core.Path.{_≡_, sym, ap}
+use native.Mathlib.Omega.{arith}
 use borrow.Author.Needs.{needs}
+use denote.Ref.{now}
+use lib.ListN.{length, take}
+use Rattle.words.specs.Names.{nameAt}
+use Rattle.object.specs.TableBytes.{tableName}
+use Rattle.object.proofs.Ranges.{span-out}
 use Rattle.object.proofs.table_bytes.name_ok.Statement.{statement}
 use Rattle.object.proofs.table_bytes.name_ok.Tie as tie
-use Rattle.object.proofs.table_bytes.name_ok.Reads as reads
-use Rattle.object.proofs.table_bytes.name_ok.Lts as lts
-use Rattle.object.proofs.table_bytes.table_off.Reads as table-off-reads
-use Rattle.words.proofs.names.name_off.Reads as name-off-reads
 
 name-off-requires : tie.Need-name-off-requires
 name-off-requires c κs = search needs

@@ -1,17 +1,15 @@
-use Rattle.object.specs.TableBytes.{tableBytes, isTable}
-use Rattle.object.proofs.Ranges.{length-mapped, span-in, span-out, rest-end, rest-no, rest-on, spares}
-use Rattle.words.specs.Choice.{below, every}
+-- `object::table_bytes::table_bytes` meets its contract. The invariant: the segments from the `i`th on decide. Assumes nothing.
 use mathlib.Core.Path.{_≡_, sym, _∙_}
 use Prim.Native.Nat.{_+_, _-_, _≤_}
 use native.Mathlib.Omega.{arith}
 use borrow.Author.Needs.{needs}
 use borrow.Author.Tests.{not-true, not-false}
 use lib.ListN.{length, take, drop, length-take}
+use Rattle.words.specs.Choice.{below, every}
+use Rattle.object.specs.TableBytes.{tableBytes, isTable}
+use Rattle.object.proofs.Ranges.{length-mapped, span-in, span-out, rest-end, rest-no, rest-on, spares}
 use Rattle.object.proofs.table_bytes.table_bytes.Statement.{statement}
 use Rattle.object.proofs.table_bytes.table_bytes.Tie as tie
-use Rattle.object.proofs.table_bytes.table_bytes.Reads as reads
-use Rattle.object.proofs.table_bytes.table_bytes.Lts as lts
-use Rattle.object.proofs.table_bytes.apart.Reads as apart-reads
 
 abbrev Inv-loop : tie.InvT-loop
 Inv-loop at n b count i₀ i =

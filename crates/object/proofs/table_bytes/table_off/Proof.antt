@@ -1,17 +1,14 @@
+-- `object::table_bytes::table_off` meets its contract. Assumes nothing.
+use mathlib.Core.Path.{sym}
+use Prim.Native.Nat.{_+_}
+use native.Mathlib.Omega.{arith}
+use borrow.Author.Needs.{needs}
+use lib.ListN.{take}
+use Rattle.words.specs.Choice.{below}
 use Rattle.object.specs.TableBytes.{tableBytes}
 use Rattle.object.proofs.Ranges.{span-out}
-use Rattle.words.specs.Choice.{below}
-use mathlib.Core.Path.{_≡_, sym}
-use Prim.Native.Nat.{_+_, _-_}
-use native.Mathlib.Omega.{arith}
-use lib.ListN.{take}
-use lib.ListN.{take}
-use borrow.Author.Needs.{needs}
 use Rattle.object.proofs.table_bytes.table_off.Statement.{statement}
 use Rattle.object.proofs.table_bytes.table_off.Tie as tie
-use Rattle.object.proofs.table_bytes.table_off.Reads as reads
-use Rattle.object.proofs.table_bytes.table_off.Lts as lts
-use Rattle.object.proofs.table_bytes.table_bytes.Reads as table-bytes-reads
 
 returns : tie.Need-returns
 unfolding tableBytes below
