@@ -1,0 +1,42 @@
+-- Loading the objects of a set, one after another: what the loop does, in its own order. Document 01, "Placed bytes": "Host at arena offset 0,
+-- then each object at the next free offset". `Bind` has what it comes to. Assumes nothing.
+use mathlib.Core.Bool.{Bool, true, false}
+use mathlib.Core.List.{List, [], _∷_}
+use mathlib.Core.Path.{_≡_}
+use Prim.Native.Nat.{ℕ, _+_, _*_, _≤_, _<_}
+use lib.Dec.{eqb}
+use lib.ListN.{length, getD}
+use Rattle.words.specs.Choice.{pick}
+use Rattle.words.specs.Memory.{Mem, mem, write}
+use Rattle.object.specs.Placed.{objectSpan, objectBytes}
+use Rattle.object.specs.Record.{viewOf}
+use Rattle.binder.specs.Instance.{File, recordOf}
+use Rattle.binder.specs.Verdict.{Verdict, loadVerdict, verdict}
+use Rattle.binder.specs.Seats.{seatAt}
+use Rattle.binder.specs.declared.seats.Seat.{Seat}
+use Rattle.binder.specs.declared.prepare.Met.{Met}
+
+-- the refusal that the code met; number 0 is none
+abbrev pub metBy : Met → Verdict
+metBy r = verdict (r .number) (r .object)
+
+-- the seat of a file at an offset
+abbrev pub seatOf : File → ℕ → Seat
+seatOf f off = record { offset = off; span = objectSpan (f .host) (f .bytes); view = viewOf (recordOf f) }
+
+-- the files placed one after another from `off` on
+unfoldable pub placeFiles : List File → ℕ → Mem → Mem
+placeFiles [] off m = m
+placeFiles (f ∷ fs) off m =
+    placeFiles fs (off + objectSpan (f .host) (f .bytes)) (write m off (objectSpan (f .host) (f .bytes)) (objectBytes (f .host) (f .bytes)))
+
+-- the table has the seats of the files from object `k` on, the first at `off`
+unfoldable pub Seated : List ℕ → ℕ → ℕ → List File → Type 0
+Seated table k off [] = Unit {0}
+Seated table k off (f ∷ fs) = (seatAt table k ≡ seatOf f off) × Seated table (k + 1) (off + objectSpan (f .host) (f .bytes)) fs
+
+-- what loading a list of files leaves
+pub record Prepared (files : List File) (arena arena′ table′ : List ℕ) (r : Met) : Type 0 where
+  pub met : metBy r ≡ loadVerdict (length arena) 0 0 files
+  pub arena : r .number ≡ 0 → mem arena′ ≡ placeFiles files 0 (mem arena)
+  pub table : r .number ≡ 0 → Seated table′ 0 0 files
