@@ -12,10 +12,7 @@ pub enum Policy {
 // The answer of a call that binds: refusals have a number and an object.
 pub enum Answer {
     Bound,
-    Refused {
-        number: u32,
-        object: u32,
-    },
+    Refused { number: u32, object: u32 },
 }
 
 // The answer of a query.

@@ -1,15 +1,18 @@
 -- The largest bucket word and the last symbol of a walk, turn by turn. No contract cites this file. Assumes nothing.
-use mathlib.Core.Path.{_≡_, refl, sym, _∙_, subst}
-use mathlib.Core.Logic.{⊎-elim}
+use mathlib.Core.Path.{_≡_, refl, sym, ap, _∙_, subst}
+use mathlib.Core.Logic.{_⊎_, inl, inr, ⊎-elim}
 use mathlib.Core.Bool.{true, false}
 use mathlib.Core.List.{List}
-use Prim.Native.Nat.{ℕ, zero, suc, _+_, _≤_, _<_, max}
-use native.Mathlib.Nat.{not-suc-le-zero}
+use Prim.Native.Nat.{ℕ, zero, suc, _+_, _-_, _*_, _/_, _≤_, _<_, max, min}
+use native.Mathlib.Nat.{not-suc-le-zero, add-zero, add-suc}
 use native.Mathlib.Numerals.{add-one}
 use native.Mathlib.Omega.{arith}
 use Rattle.words.specs.Memory.{mem}
 use Rattle.words.specs.Words.{leAt}
+use Rattle.words.proofs.Words.{leAt-past}
+use lib.ListN.{length}
 use Rattle.object.specs.declared.hash_tables.HashTable.{HashTable}
+use Rattle.object.specs.declared.hash_tables.HashTable.the-variants.{Gnu}
 use Rattle.object.specs.HashTable.{bucketAt, chainAt, isLast, next, walk}
 use Rattle.object.specs.declared.hash_tables.SymbolCount.the-variants.{Known}
 use Rattle.object.specs.SymbolCount.{highest, lastOf, countOf}
@@ -19,6 +22,27 @@ pub highest-more : (m : List ℕ) (t : HashTable) (i b w r : ℕ) → b ≡ high
     → r ≡ highest m t (i + 1)
 unfolding highest
 highest-more m t i b w r e f g = g ∙ rw (e, f, add-one)
+
+-- buckets past the image's end have the word 0, and do not count
+highest-past : (m : List ℕ) (t : HashTable) (n k : ℕ) → ((i : ℕ) → n ≤ i → leAt 4 (mem m) (bucketAt t i) ≡ 0) → highest m t (n + k) ≡ highest m t n
+unfolding highest
+highest-past m t n zero past = rw add-zero
+highest-past m t n (suc k) past =
+    let z : max (highest m t (n + k)) 0 ≡ highest m t (n + k) = omega arith in
+    rw (add-suc n k, past (n + k) (omega arith)) (z ∙ highest-past m t n k past)
+
+pub highest-cut :
+    (m : List ℕ) (at n first b shift k : ℕ) → k ≡ min n (length m / 4 + 1)
+    → highest m (Gnu at n first b shift) k ≡ highest m (Gnu at n first b shift) n
+highest-cut m at n first b shift k e =
+    let s : k + (n - k) ≡ n = omega arith in
+    let c : (length m / 4 + 1 ≤ k) ⊎ (n ≤ k) = ⊎-elim (λ (l : length m / 4 + 1 < n). inl (omega arith)) (λ (l : n ≤ length m / 4 + 1). inr (omega arith)) (split (length m / 4 + 1) n) in
+    ⊎-elim
+    (λ (h : length m / 4 + 1 ≤ k).
+    sym (ap (highest m (Gnu at n first b shift)) (sym s)
+    ∙ highest-past m (Gnu at n first b shift) k (n - k) (λ i g. leAt-past 4 m (at + (16 + 8 * b + 4 * i)) (omega arith))))
+    (λ (h : n ≤ k). ap (highest m (Gnu at n first b shift)) (omega arith))
+    c
 
 -- what holds of 0 and of the word of each bucket holds of the largest
 pub highest-of : (m : List ℕ) (t : HashTable) (P : ℕ → Type 0) → P 0 → (n : ℕ)

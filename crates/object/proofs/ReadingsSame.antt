@@ -17,7 +17,7 @@ use Rattle.object.specs.Entries.{relaAt, relasFrom, relrAt, relrsFrom}
 use Rattle.object.specs.Record.{Record, viewOf, isTableOf, needsOk, relocationsOk, tablesOk, indexOk, checkedSymbol, needName}
 use Rattle.object.specs.Invariant.{SameReadings, Invariance}
 use Rattle.object.specs.declared.dynamic_fields.CheckedSymbol.the-variants.{Refused, Checked}
-use Rattle.object.proofs.LookupSame.{number-same, number-here, name-same, symbol-same, symbol-name-same, answer-by-same}
+use Rattle.object.proofs.LookupSame.{number-same, number-here, name-same, symbol-same, symbol-name-same, view-same}
 
 -- a test of every element, at an element
 every-in : {A : Type 0} (p : A → Bool) (xs : List A) (x : A) → every p xs ≡ true → List·Memᴰ x xs → p x ≡ true
@@ -110,7 +110,7 @@ pub invariance : Invariance
 unfolding checkedSymbol needsOk
 invariance host r m m′ ok len agree =
     record {
-      answers = λ name g e. answer-by-same isT m m′ agree (viewOf r) (whole .2) len name g e;
+      answers = view-same isT m m′ (viewOf r) (whole .2) agree len .1;
       needs = λ n h. name-same isT m m′ agree (r .strings + n) (every-in (λ k. tableName isT m (r .strings + k)) (r .needed) n (whole .0) h);
       symbols = λ index.
           rw (symbol-ok-same isT m m′ agree (r .symbols) (r .strings) index) (symbol index (symbolOk isT m (r .symbols) (r .strings) index) refl);

@@ -321,7 +321,8 @@ fn highest_bucket(
     ensures { λ r. ⌜ (r ≡ highest (now (image .entry)) (HashTable.Gnu at buckets first blooms shift) buckets) × (r < 2 ^ 32) ⌝ }
 {
     let start = 16 + 8 * (blooms as usize);
-    let n = buckets as usize;
+    // a bucket past the image's end has the word 0
+    let n = words::bytes::smaller(buckets as usize, image.len() / 4 + 1);
     let mut best: u32 = 0;
     let mut i = 0;
     while i < n {

@@ -1,18 +1,23 @@
--- `object::hash_tables::highest_bucket` meets its contract. The invariant: `best` is the largest word so far. Assumes nothing.
-use mathlib.Core.Path.{_≡_, refl}
-use Prim.Native.Nat.{_-_, _^_, _≤_, _<_}
-use native.Mathlib.Omega.{arith}
 use borrow.Author.Needs.{needs}
-use denote.Ref.{now}
-use Rattle.object.specs.SymbolCount.{highest}
+use Rattle.object.proofs.CountLaws.{highest-more, highest-cut}
 use Rattle.object.specs.declared.hash_tables.HashTable.the-variants.{Gnu}
-use Rattle.object.proofs.CountLaws.{highest-more}
+use Rattle.object.specs.SymbolCount.{highest}
+use lib.ListN.{length}
+use denote.Ref.{now}
+use native.Mathlib.Omega.{arith}
+use Prim.Native.Nat.{ℕ, _-_, _+_, _/_, _^_, _≤_, _<_, min}
+use mathlib.Core.Path.{_≡_, refl, sym, ap, _∙_}
 use Rattle.object.proofs.hash_tables.highest_bucket.Statement.{statement}
 use Rattle.object.proofs.hash_tables.highest_bucket.Tie as tie
+use Rattle.object.proofs.hash_tables.highest_bucket.Reads as reads
+use Rattle.object.proofs.hash_tables.highest_bucket.Lts as lts
+use Rattle.object.proofs.hash_tables.larger.Reads as larger-reads
+use Rattle.words.proofs.bytes.smaller.Reads as smaller-reads
+use Rattle.words.proofs.bytes.u32_off.Reads as u32-off-reads
 
 abbrev Inv-loop : tie.InvT-loop
 Inv-loop image at buckets first blooms shift start n best₀ i₀ best i =
-    (i ≤ n) × (best < 2 ^ 32) × (best ≡ highest image (Gnu at buckets first blooms shift) i)
+    (n ≤ buckets) × (i ≤ n) × (best < 2 ^ 32) × (best ≡ highest image (Gnu at buckets first blooms shift) i)
 
 abbrev μ-loop : tie.MeasureT-loop
 μ-loop image at buckets first blooms shift start n best₀ i₀ best i =
@@ -24,10 +29,16 @@ mul-start c = search needs
 add-start : tie.Need-add-start Inv-loop μ-loop
 add-start c = search needs
 
+add-smaller : tie.Need-add-smaller Inv-loop μ-loop
+add-smaller c = search needs
+
+smaller-requires : tie.Need-smaller-requires Inv-loop μ-loop
+smaller-requires c κs = search needs
+
 loop-holds : tie.Need-loop-holds Inv-loop μ-loop
 unfolding highest
 loop-holds c =
-    (search needs, search needs, refl)
+    (omega (arith, c .smaller .ensures), search needs, search needs, refl)
 
 mul-u32-off : tie.Need-mul-u32-off Inv-loop μ-loop
 mul-u32-off c = search needs
@@ -49,21 +60,24 @@ loop-less c = search needs
 
 loop-again : tie.Need-loop-again Inv-loop μ-loop
 loop-again c =
-    let a = c .before .before .before .before .before .args in
+    let a = c .before .before .before .before .before .before .args in
     let l = c .before .before .before .loop in
     let m = now (a .image) in
     let t = Gnu (a .at) (a .buckets) (a .first) (a .blooms) (a .shift) in
-    (search needs, search needs, highest-more m t (l .i) (l .best) (c .before .u32-off .result) (c .larger .result) (l .inv .2) (c .before .u32-off .ensures) (c .larger .ensures))
+    (l .inv .0, omega arith, search needs, highest-more m t (l .i) (l .best) _ _ (l .inv .3) (c .before .u32-off .ensures) (c .larger .ensures))
 
 cast-result : tie.Need-cast-result Inv-loop μ-loop
 cast-result c = search needs
 
 returns : tie.Need-returns Inv-loop μ-loop
 returns c =
-    let a = c .before .before .before .args in
+    let a = c .before .before .before .before .args in
     let l = c .before .loop in
-    let e : l .i ≡ a .buckets = omega arith in
-    (rw e at (l .inv .2), search needs)
+    let e : l .i ≡ c .before .before .smaller .result = omega arith in (
+      l .inv .3 ∙ (ap (highest (now (a .image)) (Gnu (a .at) (a .buckets) (a .first) (a .blooms) (a .shift))) e
+          ∙ highest-cut (now (a .image)) (a .at) (a .buckets) (a .first) (a .blooms) (a .shift) _ (c .before .before .smaller .ensures)),
+      search needs,
+    )
 
 pub highest-bucket-spec : {M : Type 1} → statement M
 highest-bucket-spec =
@@ -73,6 +87,8 @@ highest-bucket-spec =
     μ-loop
     mul-start
     add-start
+    add-smaller
+    smaller-requires
     loop-holds
     mul-u32-off
     add-u32-off
