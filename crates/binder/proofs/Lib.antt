@@ -6,6 +6,8 @@ pub mod SheetLaws
 pub mod PartLaws
 pub mod SheetCases
 pub mod WipeLaws
+pub mod SeatLaws
+pub mod PrepareLaws
 pub mod OutcomeLaws
 pub mod SheetLonger
 pub mod InsideLaws

@@ -73,8 +73,19 @@ module _ (t : List ℕ) (k : ℕ) (s : Seat) (h : 16 * k + 16 ≤ length t) wher
   pub splice-get : narrow (s .view .table) → seatAt (spliced t (16 * k) (wordsOf s)) k ≡ s
   unfolding seatAt wordsOf
   splice-get f =
-      rw (one 0 (omega arith), one 1 (omega arith), one 2 (omega arith), one 3 (omega arith), one 4 (omega arith), one 5 (omega arith),
-      one 6 (omega arith), one 7 (omega arith), one 8 (omega arith), one 9 (omega arith), hash-back (s .view .table) f)
+      rw (
+        one 0 (omega arith),
+        one 1 (omega arith),
+        one 2 (omega arith),
+        one 3 (omega arith),
+        one 4 (omega arith),
+        one 5 (omega arith),
+        one 6 (omega arith),
+        one 7 (omega arith),
+        one 8 (omega arith),
+        one 9 (omega arith),
+        hash-back (s .view .table) f,
+      )
 
   -- a word of another object
   beside : (i : ℕ) → (i ≡ k → ⊥) → (j : ℕ) → j < 16 → getD (spliced t (16 * k) (wordsOf s)) (16 * i + j) 0 ≡ getD t (16 * i + j) 0
@@ -93,9 +104,18 @@ module _ (t : List ℕ) (k : ℕ) (s : Seat) (h : 16 * k + 16 ≤ length t) wher
   pub splice-other : (i : ℕ) → (i ≡ k → ⊥) → seatAt (spliced t (16 * k) (wordsOf s)) i ≡ seatAt t i
   unfolding seatAt
   splice-other i ne =
-      rw (beside i ne 0 (omega arith), beside i ne 1 (omega arith), beside i ne 2 (omega arith), beside i ne 3 (omega arith),
-      beside i ne 4 (omega arith), beside i ne 5 (omega arith), beside i ne 6 (omega arith), beside i ne 7 (omega arith),
-      beside i ne 8 (omega arith), beside i ne 9 (omega arith))
+      rw (
+        beside i ne 0 (omega arith),
+        beside i ne 1 (omega arith),
+        beside i ne 2 (omega arith),
+        beside i ne 3 (omega arith),
+        beside i ne 4 (omega arith),
+        beside i ne 5 (omega arith),
+        beside i ne 6 (omega arith),
+        beside i ne 7 (omega arith),
+        beside i ne 8 (omega arith),
+        beside i ne 9 (omega arith),
+      )
 
 -- ---- a table with a seat put
 
@@ -117,3 +137,12 @@ module _ (t : List ℕ) (k : ℕ) (s : Seat) where
       go : (length t < 16 * k + 16) ⊎ (16 * k + 16 ≤ length t) → seatAt (withSeat t k s) i ≡ seatAt t i
       go (inl h) = ap (λ (x : List ℕ). seatAt x i) (with-none h)
       go (inr h) = ap (λ (x : List ℕ). seatAt x i) (with-room h) ∙ splice-other t k s h i ne
+
+  -- what `put_seat` promises
+  pub put-all :
+      {x : List ℕ} → narrow (s .view .table) → x ≡ withSeat t k s
+      → (x ≡ withSeat t k s) × ((16 * k + 16 ≤ length t → seatAt x k ≡ s) × ((j : ℕ) → (j ≡ k → ⊥) → seatAt x j ≡ seatAt t j))
+  put-all {x} f e = (
+    e,
+    ((λ h. ap (λ (y : List ℕ). seatAt y k) e ∙ put-get f h), (λ j ne. ap (λ (y : List ℕ). seatAt y j) e ∙ put-other j ne)),
+  )

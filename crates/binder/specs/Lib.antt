@@ -1,5 +1,6 @@
 pub mod Sheet
 pub mod Parts
+pub mod Seats
 pub mod Table
 pub mod OrderState
 pub mod Instance
@@ -9,3 +10,4 @@ pub mod SetOrder
 pub mod Bind
 pub mod LongerSet
 pub mod OrderReport
+pub mod Prepared

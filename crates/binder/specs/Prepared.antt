@@ -3,18 +3,20 @@
 use mathlib.Core.Bool.{Bool, true, false}
 use mathlib.Core.List.{List, [], _∷_}
 use mathlib.Core.Path.{_≡_}
-use Prim.Native.Nat.{ℕ, _+_, _*_, _≤_, _<_}
+use Prim.Native.Nat.{ℕ, _+_, _-_, _≤_}
 use lib.Dec.{eqb}
 use lib.ListN.{length, getD}
 use Rattle.words.specs.Choice.{pick}
 use Rattle.words.specs.Memory.{Mem, mem, write}
 use Rattle.object.specs.Placed.{objectSpan, objectBytes}
 use Rattle.object.specs.Record.{viewOf}
+use Rattle.object.specs.Loaded.{objectRefusal}
 use Rattle.binder.specs.Instance.{File, recordOf}
 use Rattle.binder.specs.Verdict.{Verdict, loadVerdict, verdict}
 use Rattle.binder.specs.Seats.{seatAt}
 use Rattle.binder.specs.declared.seats.Seat.{Seat}
 use Rattle.binder.specs.declared.prepare.Met.{Met}
+use Rattle.binder.specs.declared.prepare.Placed.{Placed}
 
 -- the refusal that the code met; number 0 is none
 abbrev pub metBy : Met → Verdict
@@ -35,8 +37,15 @@ unfoldable pub Seated : List ℕ → ℕ → ℕ → List File → Type 0
 Seated table k off [] = Unit {0}
 Seated table k off (f ∷ fs) = (seatAt table k ≡ seatOf f off) × Seated table (k + 1) (off + objectSpan (f .host) (f .bytes)) fs
 
+-- what loading a file at an offset answers and leaves
+pub record LoadedAt (host : Bool) (file : List ℕ) (off : ℕ) (before after : List ℕ) (r : Placed) : Type 0 where
+  pub refusal : r .refusal ≡ objectRefusal host (length before - off) file
+  pub seat : r .refusal ≡ 0 → r .seat ≡ seatOf (record { host = host; bytes = file }) off
+  pub arena : r .refusal ≡ 0 → mem after ≡ write (mem before) off (objectSpan host file) (objectBytes host file)
+  pub fits : r .refusal ≡ 0 → off + objectSpan host file ≤ length before
+
 -- what loading a list of files leaves
-pub record Prepared (files : List File) (arena arena′ table′ : List ℕ) (r : Met) : Type 0 where
-  pub met : metBy r ≡ loadVerdict (length arena) 0 0 files
-  pub arena : r .number ≡ 0 → mem arena′ ≡ placeFiles files 0 (mem arena)
-  pub table : r .number ≡ 0 → Seated table′ 0 0 files
+pub record Prepared (files : List File) (before after seats : List ℕ) (r : Met) : Type 0 where
+  pub met : metBy r ≡ loadVerdict (length before) 0 0 files
+  pub arena : r .number ≡ 0 → mem after ≡ placeFiles files 0 (mem before)
+  pub table : r .number ≡ 0 → Seated seats 0 0 files

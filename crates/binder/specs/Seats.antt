@@ -32,11 +32,11 @@ seatAt table k =
       offset = wordAt table k 0;
       span = wordAt table k 1;
       view =
-        record {
-          symbols = wordAt table k 2;
-          strings = wordAt table k 3;
-          table = hashOf (wordAt table k 4) (wordAt table k 5) (wordAt table k 6) (wordAt table k 7) (wordAt table k 8) (wordAt table k 9)
-        }
+          record {
+            symbols = wordAt table k 2;
+            strings = wordAt table k 3;
+            table = hashOf (wordAt table k 4) (wordAt table k 5) (wordAt table k 6) (wordAt table k 7) (wordAt table k 8) (wordAt table k 9);
+          };
     }
 
 -- the `n` seats from object `k` on

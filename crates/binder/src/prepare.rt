@@ -1,10 +1,10 @@
 // Loading the objects of a set into the arena: refusals 4 to 12, object by object.
 ghost use mathlib.Core.Path.{_≡_};
-ghost use Prim.Native.Nat.{_+_, _*_, _≤_};
+ghost use Prim.Native.Nat.{_≤_};
 ghost use lib.ListN.{length};
 ghost use Rattle.binder.specs.Parts.{inputsIn};
 ghost use Rattle.binder.specs.Bind.{filesOf};
-ghost use Rattle.binder.specs.Prepared.{Prepared};
+ghost use Rattle.binder.specs.Prepared.{LoadedAt, Prepared};
 use crate::seats::Seat;
 use crate::sheet::Parts;
 
@@ -15,39 +15,45 @@ pub struct Met {
 }
 
 // One object: its refusal, or 0 with its seat.
-struct Placed {
-    refusal: u32,
-    seat: Seat,
+pub struct Placed {
+    pub refusal: u32,
+    pub seat: Seat,
 }
 
-// Loads object `k` at the offset `off`.
+// Loads an object at the offset `off`, in the part of the arena from there to its end.
 fn load_at(arena: &mut [u8], off: usize, file: &[u8], host: bool) -> Placed
     requires { ⌜ off ≤ length (now arena) ⌝ }
+    ensures { λ r. ⌜ LoadedAt host (now (file .entry)) off (now (arena .entry)) (now (arena .exit)) r ⌝ }
 {
     let r = object::object_data::load(&mut arena[off..], file, host);
     let o = r.object;
     let view = object::dynamic_fields::view_of(o);
+    let seat = Seat {
+        offset: off,
+        span: o.span,
+        view: view,
+    };
     Placed {
         refusal: r.refusal,
-        seat: Seat {
-            offset: off,
-            span: o.span,
-            view: view,
-        },
+        seat: seat,
     }
 }
 
 // Loads the objects that the table of parts names, one after another, and fills the table of seats.
-pub fn load_all(bytes: &[u8], parts: Parts, arena: &mut [u8], table: &mut [u64]) -> Met
+pub(crate) fn load_all(bytes: &[u8], parts: Parts, arena: &mut [u8], table: &mut [u64]) -> Met
+    requires { ⌜ (parts .count ≤ 64) × (length (inputsIn (now bytes) parts) ≡ parts .count) × (1024 ≤ length (now table)) ⌝ }
+    ensures { λ r. ⌜ Prepared (filesOf (inputsIn (now (bytes .entry)) parts)) (now (arena .entry)) (now (arena .exit)) (now (table .exit)) r ⌝ }
 {
+    let count = parts.count;
     let mut off = 0;
     let mut k = 0;
-    while k < parts.count {
+    while k < count {
         let file = crate::sheet::file_of(bytes, parts, k);
         let p = load_at(arena, off, file, k == 0);
-        if p.refusal != 0 {
+        let number = p.refusal;
+        if number != 0 {
             return Met {
-                number: p.refusal,
+                number: number,
                 object: k as u32,
             };
         }

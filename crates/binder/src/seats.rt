@@ -70,7 +70,14 @@ fn hash_words(h: HashTable) -> [u64; 6]
             first,
             blooms,
             shift,
-        } => [2, at as u64, buckets as u64, first as u64, blooms as u64, shift as u64],
+        } => [
+            2,
+            at as u64,
+            buckets as u64,
+            first as u64,
+            blooms as u64,
+            shift as u64,
+        ],
     }
 }
 
@@ -82,7 +89,22 @@ fn words_of(s: Seat) -> [u64; 16]
     let h = v.table;
     let w = hash_words(h);
     [
-        s.offset as u64, s.span as u64, v.symbols as u64, v.strings as u64, w[0], w[1], w[2], w[3], w[4], w[5], 0, 0, 0, 0, 0, 0,
+        s.offset as u64,
+        s.span as u64,
+        v.symbols as u64,
+        v.strings as u64,
+        w[0],
+        w[1],
+        w[2],
+        w[3],
+        w[4],
+        w[5],
+        0,
+        0,
+        0,
+        0,
+        0,
+        0,
     ]
 }
 

@@ -1,46 +1,43 @@
+-- `binder::seats::put_words` meets its contract. The invariant: the first `i` words are in place. Assumes nothing.
+use Prim.Native.Nat.{_≤_, _-_}
+use mathlib.Core.Path.{_≡_, refl}
+use native.Mathlib.Omega.{arith}
+use native.Mathlib.Numerals.{add-one}
+use borrow.Author.Needs.{needs}
+use lib.Seq.{paste, paste-zero, paste-suc}
+use lib.ListN.{length, length-set}
+use Rattle.binder.specs.Seats.{spliced}
 use Rattle.binder.proofs.seats.put_words.Statement.{statement}
 use Rattle.binder.proofs.seats.put_words.Tie as tie
-use Rattle.binder.proofs.seats.put_words.Reads as reads
-use Rattle.binder.proofs.seats.put_words.Lts as lts
 
 abbrev Inv-loop : tie.InvT-loop
-Inv-loop table₀ p w i₀ table i = ?
+Inv-loop table₀ p w i₀ table i =
+    (i ≤ 16) × ((length table ≡ length table₀) × (table ≡ paste table₀ p w i))
 
 abbrev μ-loop : tie.MeasureT-loop
-μ-loop table₀ p w i₀ table i = ?
+μ-loop table₀ p w i₀ table i =
+    16 - i
 
 loop-holds : tie.Need-loop-holds Inv-loop μ-loop
-loop-holds c = ?
-
-mul-table : tie.Need-mul-table Inv-loop μ-loop
-mul-table c = ?
-
-array-read-table : tie.Need-array-read-table Inv-loop μ-loop
-array-read-table c = ?
-
-add-table : tie.Need-add-table Inv-loop μ-loop
-add-table c = ?
-
-mul-table-2 : tie.Need-mul-table-2 Inv-loop μ-loop
-mul-table-2 c = ?
-
-slice-write-table : tie.Need-slice-write-table Inv-loop μ-loop
-slice-write-table c = ?
-
-add-i : tie.Need-add-i Inv-loop μ-loop
-add-i c = ?
-
-loop-less : tie.Need-loop-less Inv-loop μ-loop
-loop-less c = ?
+loop-holds c =
+    (search needs, (refl, paste-zero (c .args .table .now) (c .args .p) (c .args .t3)))
 
 loop-again : tie.Need-loop-again Inv-loop μ-loop
-loop-again c = ?
-
-same-length : tie.Need-same-length Inv-loop μ-loop
-same-length c = ?
+loop-again c =
+    let s = c .before .before in
+    let l = c .before .loop in (
+      search needs,
+      (
+        simp length-set (l .inv .1 .0),
+        rw (l .inv .1 .1, add-one, ← paste-suc (s .args .table .now) (s .args .p) (s .args .t3) (l .i) 0 (omega arith) (search needs)),
+      ),
+    )
 
 returns : tie.Need-returns Inv-loop μ-loop
-returns c = ?
+unfolding spliced
+returns c =
+    let e : c .before .loop .i ≡ 16 = omega arith in
+    rw e at (c .before .loop .inv .1 .1)
 
 pub put-words-spec : {M : Type 1} → statement M
 put-words-spec =
@@ -49,13 +46,13 @@ put-words-spec =
     Inv-loop
     μ-loop
     loop-holds
-    mul-table
-    array-read-table
-    add-table
-    mul-table-2
-    slice-write-table
-    add-i
-    loop-less
+    (λ c. search needs)
+    (λ c. search needs)
+    (λ c. search needs)
+    (λ c. search needs)
+    (λ c. search needs)
+    (λ c. search needs)
+    (λ c. search needs)
     loop-again
-    same-length
+    (λ c. search needs)
     returns)

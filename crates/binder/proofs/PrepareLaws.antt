@@ -1,0 +1,164 @@
+-- Loading the objects of a set, one after another: the turn of the loop and its ends. Assumes nothing.
+use mathlib.Core.Path.{_≡_, refl, sym, ap, _∙_}
+use mathlib.Core.Bool.{Bool, true, false}
+use mathlib.Core.List.{List, [], _∷_, map}
+use Prim.Native.Nat.{ℕ, zero, suc, _+_, _-_, _*_, _≤_, _<_}
+use native.Mathlib.Omega.{arith}
+use native.Mathlib.Numerals.{add-one}
+use native.Mathlib.Nat.{add-zero}
+use borrow.Author.Tests.{eq-eqb, ne-eqb}
+use borrow.Rule.Slice.PartMut.{putMid}
+use lib.Dec.{eqb}
+use lib.ListN.{length, getD, take, drop, length-take, length-drop, length-map, List·getD-map}
+use lib.Seq.{drop-cons, drop-length}
+use Rattle.words.specs.Memory.{Mem, mem, write, patch}
+use Rattle.words.proofs.Slices.{put-tail, mem-patch, length-tab}
+use Rattle.object.specs.declared.dynamic_fields.Read.{Read}
+use Rattle.object.specs.declared.hash_tables.View.{View}
+use Rattle.object.specs.declared.program_header.Dynamic.{Dynamic}
+use Rattle.object.specs.declared.program_header.Dynamic.the-variants.{Missing, At}
+use Rattle.object.specs.ProgramHeader.{dynamicOf}
+use Rattle.object.specs.Placed.{segmentsOf, objectSpan, objectBytes, objectImage}
+use Rattle.object.specs.Record as recordIs
+use Rattle.object.specs.Record.{Record, heldBy, viewOf}
+use Rattle.object.specs.Loaded.{objectRecord, objectRefusal, LoadedBy}
+use Rattle.binder.specs.Sheet.{Input, noInput}
+use Rattle.binder.specs.Instance.{File, recordOf}
+use Rattle.binder.specs.Verdict.{passed, refused, first, verdict, loadVerdict, noFile}
+use Rattle.binder.specs.Bind.{filesOf}
+use Rattle.binder.specs.Seats.{seatAt}
+use Rattle.binder.specs.Prepared.{metBy, seatOf, placeFiles, Seated, LoadedAt, Prepared}
+use Rattle.binder.specs.declared.seats.Seat.{Seat}
+use Rattle.binder.specs.declared.prepare.Met.{Met}
+use Rattle.binder.specs.declared.prepare.Placed.{Placed}
+
+-- ---- one object
+
+-- the files of a set, by number: the host's first
+pub file-at : (os : List Input) (k : ℕ) → k < length os → getD (filesOf os) k noFile ≡ record { host = eqb k 0; bytes = getD os k noInput .file }
+unfolding filesOf
+file-at [] k h = absurd (omega arith)
+file-at (o ∷ os) zero h = refl
+file-at (o ∷ os) (suc k) h =
+    rw (ne-eqb (suc k) 0 (λ e. omega arith)) (go os k (omega arith))
+  where
+    go :
+        (l : List Input) (j : ℕ) → j < length l
+        → getD (map (λ (x : Input). record { host = false; bytes = x .file }) l) j noFile ≡ record { host = false; bytes = getD l j noInput .file }
+    go [] j g = absurd (omega arith)
+    go (x ∷ l) zero g = refl
+    go (x ∷ l) (suc j) g = go l j (omega arith)
+
+pub files-length : (os : List Input) → length (filesOf os) ≡ length os
+unfolding filesOf
+files-length [] = refl
+files-length (o ∷ os) = ap suc (length-map os (λ (x : Input). record { host = false; bytes = x .file }))
+
+-- the record of a file has the file's span
+record-span : (host : Bool) (file : List ℕ) → objectRecord host file .span ≡ objectSpan host file
+unfolding objectRecord recordIs.recordOf recordIs.recordIn
+record-span host file = go (dynamicOf file)
+  where
+    go : (d : Dynamic) → recordIs.recordOf (objectImage host file) (segmentsOf host file) d .span ≡ objectSpan host file
+    go Missing = length-tab (objectSpan host file) (objectBytes host file)
+    go (At at) = length-tab (objectSpan host file) (objectBytes host file)
+
+part-length : (a : List ℕ) (off : ℕ) → length (take (length a - off) (drop off a)) ≡ length a - off
+part-length a off = simp (length-take, length-drop) (omega arith)
+
+-- an object loaded into the part of the arena from `off` on
+pub loaded-at :
+    (host : Bool) (file : List ℕ) (off : ℕ) (a ys : List ℕ) (r : Read) (v : View) → off ≤ length a
+    → LoadedBy host file (take (length a - off) (drop off a)) ys r → v ≡ viewOf (heldBy (r .object))
+    → LoadedAt host file off a (putMid off (length a - off) a ys)
+    (record { refusal = r .refusal; seat = record { offset = off; span = r .object .span; view = v } })
+loaded-at host file off a ys r v l h e =
+    record {
+      refusal = h .refusal ∙ ap (λ (n : ℕ). objectRefusal host n file) (part-length a off);
+      seat = λ z. seat (h .object z);
+      arena = λ z.
+          ap mem (put-tail a off 0 (objectSpan host file) (objectBytes host file) l (h .part z))
+          ∙ (mem-patch a (off + 0) (objectSpan host file) (objectBytes host file) (omega (arith, room z))
+          ∙ ap (λ (n : ℕ). write (mem a) n (objectSpan host file) (objectBytes host file)) (add-zero off));
+      fits = λ z. omega (arith, room z);
+    }
+  where
+    room : r .refusal ≡ 0 → objectSpan host file ≤ length a - off
+    room z = omega (arith, h .fits z, part-length a off)
+
+    seat :
+        heldBy (r .object) ≡ objectRecord host file
+        → _≡_ {A = Seat} (record { offset = off; span = r .object .span; view = v }) (seatOf (record { host = host; bytes = file }) off)
+    seat q =
+        let s : r .object .span ≡ objectSpan host file = ap (λ (x : Record). x .span) q ∙ record-span host file in
+        let w : v ≡ viewOf (objectRecord host file) = e ∙ ap viewOf q in
+        rw (s, w)
+
+-- ---- the loop: what is left to load gives, after what was loaded, the whole
+
+pub record Loading (os : List Input) (a₀ a table : List ℕ) (off k : ℕ) : Type 0 where
+  pub same : length a ≡ length a₀
+  pub offset : off ≤ length a
+  pub number : k ≤ length os
+  pub met : loadVerdict (length a₀) 0 0 (filesOf os) ≡ loadVerdict (length a₀) k off (drop k (filesOf os))
+  pub placed : placeFiles (filesOf os) 0 (mem a₀) ≡ placeFiles (drop k (filesOf os)) off (mem a)
+  pub seated :
+      (t : List ℕ) → ((j : ℕ) → j < k → seatAt t j ≡ seatAt table j) → Seated t k off (drop k (filesOf os)) → Seated t 0 0 (filesOf os)
+
+pub load-begin : (os : List Input) (a table : List ℕ) → Loading os a a table 0 0
+load-begin os a table =
+    record { same = refl; offset = omega arith; number = omega arith; met = refl; placed = refl; seated = λ t h s. s }
+
+module _ (os : List Input) (a₀ a table : List ℕ) (off k : ℕ) (h : Loading os a₀ a table off k) where
+  module _ (l : k < length os) where
+    host : Bool
+    host = eqb k 0
+
+    file : List ℕ
+    file = getD os k noInput .file
+
+    -- the object at `k` is the first of what is left
+    left : drop k (filesOf os) ≡ record { host = eqb k 0; bytes = getD os k noInput .file } ∷ drop (suc k) (filesOf os)
+    left =
+        drop-cons (filesOf os) k noFile (omega (arith, files-length os))
+        ∙ ap (λ (f : File). f ∷ drop (suc k) (filesOf os)) (file-at os k l)
+
+    module _ (a′ : List ℕ) (p : Placed) (r : LoadedAt (eqb k 0) (getD os k noInput .file) off a a′ p) where
+      pub load-fail : (p .refusal ≡ 0 → ⊥) → (t : List ℕ) → Prepared (filesOf os) a₀ a′ t (record { number = p .refusal; object = k })
+      unfolding loadVerdict verdict
+      load-fail ne t =
+          record {
+            met =
+                rw (ne-eqb (p .refusal) 0 ne)
+                (sym (h .met ∙ rw (left, ← h .same, ← r .refusal, ne-eqb (p .refusal) 0 ne)));
+            arena = λ z. absurd (ne z);
+            table = λ z. absurd (ne z);
+          }
+
+      pub load-turn :
+          p .refusal ≡ 0 → length a′ ≡ length a → (t : List ℕ) → seatAt t k ≡ p .seat → ((j : ℕ) → (j ≡ k → ⊥) → seatAt t j ≡ seatAt table j)
+          → Loading os a₀ a′ t (off + p .seat .span) (k + 1)
+      unfolding loadVerdict verdict placeFiles Seated
+      load-turn z len t here others =
+          let span : p .seat .span ≡ objectSpan (eqb k 0) (getD os k noInput .file) = ap (λ (s : Seat). s .span) (r .seat z) in
+          let rest : drop (k + 1) (filesOf os) ≡ drop (suc k) (filesOf os) = ap (λ (n : ℕ). drop n (filesOf os)) (add-one k) in
+          record {
+            same = len ∙ h .same;
+            offset = omega (arith, r .fits z);
+            number = omega arith;
+            met = h .met ∙ rw (left, ← h .same, ← r .refusal, z, ← span, add-one k);
+            placed = h .placed ∙ rw (left, r .arena z, span, add-one k);
+            seated = λ u same s.
+                h .seated u (λ j g. same j (omega arith) ∙ others j (λ e. omega arith))
+                (rw left (same k (omega arith) ∙ (here ∙ r .seat z), rw (rest, span) at s));
+          }
+
+  pub load-finish : k ≡ length os → Prepared (filesOf os) a₀ a table (record { number = 0; object = 0 })
+  unfolding loadVerdict verdict placeFiles Seated
+  load-finish e =
+      let n : drop k (filesOf os) ≡ [] = rw (e, ← files-length os) (drop-length (filesOf os)) in
+      record {
+        met = sym (h .met ∙ rw n);
+        arena = λ z. sym (h .placed ∙ rw n);
+        table = λ z. h .seated table (λ j g. refl) (rw n tt);
+      }

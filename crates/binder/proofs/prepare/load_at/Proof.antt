@@ -1,0 +1,44 @@
+use Rattle.binder.proofs.PrepareLaws.{loaded-at}
+use denote.Ref.{now}
+use borrow.Author.Needs.{needs}
+use Rattle.binder.proofs.prepare.load_at.Statement.{statement}
+use Rattle.binder.proofs.prepare.load_at.Tie as tie
+use Rattle.binder.proofs.prepare.load_at.Reads as reads
+use Rattle.binder.proofs.prepare.load_at.Lts as lts
+use Rattle.object.proofs.dynamic_fields.view_of.Reads as view-of-reads
+use Rattle.object.proofs.object_data.load.Reads as load-reads
+
+sub-load : tie.Need-sub-load
+sub-load c = search needs
+
+part-load-start : tie.Need-part-load-start
+part-load-start c = search needs
+
+part-load-end : tie.Need-part-load-end
+part-load-end c = search needs
+
+load-requires : tie.Need-load-requires
+load-requires c κs = search needs
+
+view-of-requires : tie.Need-view-of-requires
+view-of-requires c κs = search needs
+
+same-length : tie.Need-same-length
+same-length c = search needs
+
+returns : tie.Need-returns
+returns c =
+    let a = c .before .before .before .before .before .before .before .before .args in
+    loaded-at (a .host) (now (a .file)) (a .off) (now (a .arena)) (c .before .before .before .before .load .last .0) (c .before .before .before .before .load .result) (c .view-of .result) (c .before .before .before .before .before .before .before .before .pre) (c .before .before .before .before .load .ensures) (c .view-of .ensures)
+
+pub load-at-spec : {M : Type 1} → statement M
+load-at-spec =
+    tie.close
+    (tie.spec
+    sub-load
+    part-load-start
+    part-load-end
+    load-requires
+    view-of-requires
+    same-length
+    returns)
