@@ -6,3 +6,6 @@ pub mod SheetLaws
 pub mod PartLaws
 pub mod SheetCases
 pub mod WipeLaws
+pub mod SeatLaws
+pub mod ScopeLaws
+pub mod ScopeIs
