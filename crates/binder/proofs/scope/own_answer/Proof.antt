@@ -1,36 +1,13 @@
-use Rattle.binder.specs.ScopeCode.{ownAnswer, guardedBy}
+-- `binder::scope::own_answer` meets its contract. Assumes nothing.
 use borrow.Author.Needs.{needs}
+use Rattle.binder.specs.ScopeCode.{ownAnswer, guardedBy}
 use Rattle.binder.proofs.scope.own_answer.Statement.{statement}
 use Rattle.binder.proofs.scope.own_answer.Tie as tie
-use Rattle.binder.proofs.scope.own_answer.Reads as reads
-use Rattle.binder.proofs.scope.own_answer.Lts as lts
-use Rattle.binder.proofs.scope.answer_at.Reads as answer-at-reads
-use Rattle.binder.proofs.seats.seat_at.Reads as seat-at-reads
-use Rattle.object.proofs.hash_tables.address_of.Reads as address-of-reads
-use Rattle.words.proofs.bytes.sum_u64.Reads as sum-u64-reads
-
-seat-at-requires : tie.Need-seat-at-requires
-seat-at-requires c κs = search needs
-
-answer-at-requires : tie.Need-answer-at-requires
-answer-at-requires c κs = search needs
-
-enum-known-a : tie.Need-enum-known-a
-enum-known-a c = search needs
-
-enum-told : tie.Need-enum-told
-enum-told c = search needs
 
 returns : tie.Need-returns
 unfolding ownAnswer guardedBy
 returns c =
     rw (← c .before .before .before .seat-at .ensures, ← c .before .before .answer-at .ensures, c .enum-told .given .1)
-
-sum-u64-requires : tie.Need-sum-u64-requires
-sum-u64-requires c κs = search needs
-
-address-of-requires : tie.Need-address-of-requires
-address-of-requires c κs = search needs
 
 returns-2 : tie.Need-returns-2
 unfolding ownAnswer guardedBy
@@ -46,12 +23,12 @@ pub own-answer-spec : {M : Type 1} → statement M
 own-answer-spec =
     tie.close
     (tie.spec
-    seat-at-requires
-    answer-at-requires
-    enum-known-a
-    enum-told
+    (λ c κs. search needs)
+    (λ c κs. search needs)
+    (λ c. search needs)
+    (λ c. search needs)
     returns
-    sum-u64-requires
-    address-of-requires
+    (λ c κs. search needs)
+    (λ c κs. search needs)
     returns-2
     returns-3)

@@ -1,13 +1,11 @@
-use borrow.Author.Needs.{needs}
-use Rattle.binder.proofs.ScopeLaws.{rest, scan-hit, scan-miss, scan-end}
-use denote.Ref.{now}
-use mathlib.Core.Path.{_≡_, refl}
+-- `binder::scope::scan` meets its contract. The invariant: the search from object `k` on gives what the whole one gives. Assumes nothing.
 use Prim.Native.Nat.{_-_}
+use mathlib.Core.Path.{_≡_, refl}
+use borrow.Author.Needs.{needs}
+use denote.Ref.{now}
+use Rattle.binder.proofs.ScopeLaws.{rest, scan-hit, scan-miss, scan-end}
 use Rattle.binder.proofs.scope.scan.Statement.{statement}
 use Rattle.binder.proofs.scope.scan.Tie as tie
-use Rattle.binder.proofs.scope.scan.Reads as reads
-use Rattle.binder.proofs.scope.scan.Lts as lts
-use Rattle.binder.proofs.scope.seat_answer.Reads as seat-answer-reads
 
 abbrev Inv-loop : tie.InvT-loop
 Inv-loop arena table start count address name gnu elf k₀ k =
@@ -21,25 +19,10 @@ loop-holds : tie.Need-loop-holds Inv-loop μ-loop
 loop-holds c =
     refl
 
-seat-answer-requires : tie.Need-seat-answer-requires Inv-loop μ-loop
-seat-answer-requires c κs = search needs
-
-enum-told : tie.Need-enum-told Inv-loop μ-loop
-enum-told c = search needs
-
-enum-told-2 : tie.Need-enum-told-2 Inv-loop μ-loop
-enum-told-2 c = search needs
-
 returns : tie.Need-returns Inv-loop μ-loop
 returns c =
     let a = c .before .before .before .before .before .before .before .before .args in
     scan-hit (a .address) (now (a .arena)) (now (a .table)) (now (a .name)) (a .gnu) (a .elf) (c .before .before .before .before .loop .k) (a .count) (c .before .before .before .loop-test .taken) (c .before .before .seat-answer .ensures) (c .enum-told2 .given .1) (c .before .before .before .before .loop .inv)
-
-add-k : tie.Need-add-k Inv-loop μ-loop
-add-k c = search needs
-
-loop-less : tie.Need-loop-less Inv-loop μ-loop
-loop-less c = search needs
 
 loop-again : tie.Need-loop-again Inv-loop μ-loop
 loop-again c =
@@ -58,11 +41,11 @@ scan-spec =
     Inv-loop
     μ-loop
     loop-holds
-    seat-answer-requires
-    enum-told
-    enum-told-2
+    (λ c κs. search needs)
+    (λ c. search needs)
+    (λ c. search needs)
     returns
-    add-k
-    loop-less
+    (λ c. search needs)
+    (λ c. search needs)
     loop-again
     returns-2)

@@ -1,28 +1,8 @@
+-- `binder::seats::hash_of` meets its contract, kind by kind. Assumes nothing.
 use borrow.Author.Tests.{ne-eqb}
 use borrow.Author.Needs.{needs}
 use Rattle.binder.proofs.seats.hash_of.Statement.{statement}
 use Rattle.binder.proofs.seats.hash_of.Tie as tie
-use Rattle.binder.proofs.seats.hash_of.Reads as reads
-use Rattle.binder.proofs.seats.hash_of.Lts as lts
-use Rattle.binder.proofs.seats.low.Reads as low-reads
-
-low-requires : tie.Need-low-requires
-low-requires c κs = search needs
-
-low-requires-2 : tie.Need-low-requires-2
-low-requires-2 c κs = search needs
-
-low-requires-3 : tie.Need-low-requires-3
-low-requires-3 c κs = search needs
-
-low-requires-4 : tie.Need-low-requires-4
-low-requires-4 c κs = search needs
-
-low-requires-5 : tie.Need-low-requires-5
-low-requires-5 c κs = search needs
-
-low-requires-6 : tie.Need-low-requires-6
-low-requires-6 c κs = search needs
 
 returns : tie.Need-returns
 returns c =
@@ -40,12 +20,12 @@ pub hash-of-spec : {M : Type 1} → statement M
 hash-of-spec =
     tie.close
     (tie.spec
-    low-requires
-    low-requires-2
-    low-requires-3
-    low-requires-4
-    low-requires-5
-    low-requires-6
+    (λ c κs. search needs)
+    (λ c κs. search needs)
+    (λ c κs. search needs)
+    (λ c κs. search needs)
+    (λ c κs. search needs)
+    (λ c κs. search needs)
     returns
     returns-2
     returns-3)

@@ -1,35 +1,7 @@
+-- `binder::seats::hash_words` meets its contract, case by case. Assumes nothing.
 use borrow.Author.Needs.{needs}
 use Rattle.binder.proofs.seats.hash_words.Statement.{statement}
 use Rattle.binder.proofs.seats.hash_words.Tie as tie
-use Rattle.binder.proofs.seats.hash_words.Reads as reads
-use Rattle.binder.proofs.seats.hash_words.Lts as lts
-
-enum-told : tie.Need-enum-told
-enum-told c = search needs
-
-enum-known-h : tie.Need-enum-known-h
-enum-known-h c = search needs
-
-cast-t12 : tie.Need-cast-t12
-cast-t12 c = search needs
-
-cast-t13 : tie.Need-cast-t13
-cast-t13 c = search needs
-
-enum-known-h-2 : tie.Need-enum-known-h-2
-enum-known-h-2 c = search needs
-
-cast-t15 : tie.Need-cast-t15
-cast-t15 c = search needs
-
-cast-t16 : tie.Need-cast-t16
-cast-t16 c = search needs
-
-cast-t17 : tie.Need-cast-t17
-cast-t17 c = search needs
-
-cast-t18 : tie.Need-cast-t18
-cast-t18 c = search needs
 
 returns : tie.Need-returns
 returns c =
@@ -47,15 +19,15 @@ pub hash-words-spec : {M : Type 1} → statement M
 hash-words-spec =
     tie.close
     (tie.spec
-    enum-told
-    enum-known-h
-    cast-t12
-    cast-t13
-    enum-known-h-2
-    cast-t15
-    cast-t16
-    cast-t17
-    cast-t18
+    (λ c. search needs)
+    (λ c. search needs)
+    (λ c. search needs)
+    (λ c. search needs)
+    (λ c. search needs)
+    (λ c. search needs)
+    (λ c. search needs)
+    (λ c. search needs)
+    (λ c. search needs)
     returns
     returns-2
     returns-3)

@@ -1,30 +1,15 @@
-use Rattle.binder.proofs.SeatLaws.{with-room, with-none, put-all}
-use Rattle.binder.specs.Seats.{spliced}
-use lib.ListN.{length}
-use denote.Ref.{now}
+-- `binder::seats::put_seat` meets its contract. Assumes nothing.
 use Prim.Native.Nat.{ℕ, _+_, _*_, _≤_, _<_}
 use mathlib.Core.List.{List}
-use mathlib.Core.Path.{_≡_, refl, sym, ap, _∙_}
+use mathlib.Core.Path.{sym, ap, _∙_}
 use native.Mathlib.Omega.{arith}
 use borrow.Author.Needs.{needs}
+use denote.Ref.{now}
+use lib.ListN.{length}
+use Rattle.binder.specs.Seats.{spliced}
+use Rattle.binder.proofs.SeatLaws.{with-room, with-none, put-all}
 use Rattle.binder.proofs.seats.put_seat.Statement.{statement}
 use Rattle.binder.proofs.seats.put_seat.Tie as tie
-use Rattle.binder.proofs.seats.put_seat.Reads as reads
-use Rattle.binder.proofs.seats.put_seat.Lts as lts
-use Rattle.binder.proofs.seats.put_words.Reads as put-words-reads
-use Rattle.binder.proofs.seats.words_of.Reads as words-of-reads
-
-words-of-requires : tie.Need-words-of-requires
-words-of-requires c κs = search needs
-
-mul-put-words : tie.Need-mul-put-words
-mul-put-words c = search needs
-
-put-words-requires : tie.Need-put-words-requires
-put-words-requires c κs = search needs
-
-same-length : tie.Need-same-length
-same-length c = search needs
 
 returns : tie.Need-returns
 returns c =
@@ -43,4 +28,4 @@ returns-2 c =
 pub put-seat-spec : {M : Type 1} → statement M
 put-seat-spec =
     tie.close
-    (tie.spec words-of-requires mul-put-words put-words-requires same-length returns returns-2)
+    (tie.spec (λ c κs. search needs) (λ c. search needs) (λ c κs. search needs) (λ c. search needs) returns returns-2)
