@@ -15,3 +15,5 @@ pub mod SoundLaws
 pub mod OrderIs
 pub mod LongerSetLaw
 pub mod OrderReported
+pub mod ScopeLaws
+pub mod ScopeIs

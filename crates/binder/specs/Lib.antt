@@ -11,3 +11,4 @@ pub mod Bind
 pub mod LongerSet
 pub mod OrderReport
 pub mod Prepared
+pub mod ScopeCode

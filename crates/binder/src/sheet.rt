@@ -176,7 +176,7 @@ pub fn parts_of(sheet: &[u32], n: usize) -> Parts
 }
 
 // The `len` bytes from `at`, as far as there are any.
-fn part_of<'a>(bytes: &'a [u8], at: usize, len: usize) -> &'a [u8]
+pub fn part_of<'a>(bytes: &'a [u8], at: usize, len: usize) -> &'a [u8]
     ensures { λ r. ⌜ now r ≡ take len (drop at (now (bytes .entry))) ⌝ }
 {
     let n = bytes.len();
