@@ -17,3 +17,5 @@ pub mod LongerSetLaw
 pub mod OrderReported
 pub mod ScopeLaws
 pub mod ScopeIs
+pub mod QueryLaws
+pub mod QueryIs

@@ -31,7 +31,7 @@ use Rattle.binder.proofs.InsideLaws.{writable-inside, words-inside, ent
 -- ---- where an object stands
 
 -- refusal 8 passed
-load-fits : (f : File) (room : ℕ) → objectRefusal (f .host) room (f .bytes) ≡ 0 → objectSpan (f .host) (f .bytes) ≤ room
+pub load-fits : (f : File) (room : ℕ) → objectRefusal (f .host) room (f .bytes) ≡ 0 → objectSpan (f .host) (f .bytes) ≤ room
 unfolding loading.objectRefusal
 load-fits f room e = place-fits (f .host) (f .bytes) room (after-zero (placeRefusal (f .host) room (f .bytes)) _ e .0)
 

@@ -12,3 +12,4 @@ pub mod LongerSet
 pub mod OrderReport
 pub mod Prepared
 pub mod ScopeCode
+pub mod Asked

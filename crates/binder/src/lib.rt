@@ -1,6 +1,7 @@
 // Ordering the objects of a set, and binding them.
 pub mod order;
 pub mod prepare;
+pub mod query;
 pub mod scope;
 pub mod seats;
 pub mod sheet;
@@ -21,8 +22,8 @@ pub enum Answer {
 // The answer of a query.
 pub enum Reply {
     Found {
-        object: u32,
-        symbol: u32,
+        object: usize,
+        symbol: usize,
         address: u64,
     },
     Absent,

@@ -1,3 +1,4 @@
+-- `binder::prepare::load_all` meets its contract. Assumes nothing.
 use Rattle.binder.specs.declared.seats.Seat.{Seat}
 use Prim.Native.Nat.{_^_}
 use borrow.Author.Needs.{needs}

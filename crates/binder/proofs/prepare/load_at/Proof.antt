@@ -1,3 +1,4 @@
+-- `binder::prepare::load_at` meets its contract. Assumes nothing.
 use Rattle.binder.proofs.PrepareLaws.{loaded-at}
 use denote.Ref.{now}
 use borrow.Author.Needs.{needs}

@@ -1,0 +1,105 @@
+-- `binder::query::ask_set` meets its contract. Assumes nothing.
+use Rattle.binder.proofs.QueryIs.{ask-refused, ask-thirteen, asked}
+use Rattle.binder.specs.declared.scope.Scoped.{Scoped}
+use Rattle.binder.specs.declared.Reply.the-variants.{Refused}
+use Rattle.binder.specs.Bind.{replied, replyOf}
+use Rattle.binder.specs.ScopeCode.{scopedOf}
+use Rattle.binder.specs.Parts.{inputsIn}
+use lib.ListN.{length, replicate}
+use denote.Ref.{now}
+use native.Mathlib.Omega.{arith}
+use Prim.Native.Nat.{ℕ}
+use mathlib.Core.Path.{_≡_, sym, ap, _∙_}
+use borrow.Author.Needs.{needs}
+use Rattle.binder.proofs.query.ask_set.Statement.{statement}
+use Rattle.binder.proofs.query.ask_set.Tie as tie
+use Rattle.binder.proofs.query.ask_set.Reads as reads
+use Rattle.binder.proofs.query.ask_set.Lts as lts
+use Rattle.binder.proofs.prepare.load_all.Reads as load-all-reads
+use Rattle.binder.proofs.query.reply_of.Reads as reply-of-reads
+use Rattle.binder.proofs.scope.resolve.Reads as resolve-reads
+use Rattle.binder.proofs.wipe.clear.Reads as clear-reads
+use Rattle.words.proofs.hash.elf_hash.Reads as elf-hash-reads
+use Rattle.words.proofs.hash.gnu_hash.Reads as gnu-hash-reads
+
+slice-aggregate-load-all : tie.Need-slice-aggregate-load-all
+slice-aggregate-load-all c = search needs
+
+load-all-requires : tie.Need-load-all-requires
+load-all-requires c κs = search needs
+
+clear-requires : tie.Need-clear-requires
+clear-requires c κs = search needs
+
+same-length : tie.Need-same-length
+same-length c = search needs
+
+returns : tie.Need-returns
+returns c =
+    let a = c .before .before .before .before .before .before .before .before .before .before .before .before .before .before .args in
+    let os = inputsIn (now (a .bytes)) (a .parts) in
+    let n : length (c .before .before .before .before .before .before .before .before .load-all .last .1 .1 .0) ≡ length (now (a .arena)) = c .before .before .before .before .before .before .before .before .load-all .kept .1 .1 .0 in
+    ap (replied (Refused (c .before .before .before .before .before .before .before .before .load-all .result .number) (c .before .before .before .before .before .before .before .before .load-all .result .object))) (c .before .before .clear .ensures ∙ ap (λ (k : ℕ). replicate k 0) n)
+    ∙ sym (ask-refused os (length (now (a .arena))) (a .address) (a .requester) (now (a .name)) (c .before .before .before .before .before .before .before .before .load-all .result) (c .before .before .before .before .before .before .before .before .load-all .ensures .met) (c .before .before .before .before .if1 .taken))
+
+clear-requires-2 : tie.Need-clear-requires-2
+clear-requires-2 c κs = search needs
+
+same-length-2 : tie.Need-same-length-2
+same-length-2 c = search needs
+
+returns-2 : tie.Need-returns-2
+returns-2 c =
+    let a = c .before .before .before .before .before .before .before .before .before .before .before .before .before .before .before .args in
+    let os = inputsIn (now (a .bytes)) (a .parts) in
+    let n : length (c .before .before .before .before .before .before .before .before .before .load-all .last .1 .1 .0) ≡ length (now (a .arena)) = c .before .before .before .before .before .before .before .before .before .load-all .kept .1 .1 .0 in
+    ap (replied (Refused 13 0)) (c .before .before .clear2 .ensures ∙ ap (λ (k : ℕ). replicate k 0) n)
+    ∙ sym (ask-thirteen os (length (now (a .arena))) (a .address) (a .requester) (now (a .name)) (c .before .before .before .before .before .before .before .before .before .load-all .result) (c .before .before .before .before .before .before .before .before .before .load-all .ensures .met) (c .before .before .before .before .before .if1 .left)
+    (omega (arith, c .before .before .before .before .before .before .before .before .before .before .before .before .before .before .before .pre .many, c .before .before .before .before .if2 .taken)))
+
+gnu-hash-requires : tie.Need-gnu-hash-requires
+gnu-hash-requires c κs = search needs
+
+elf-hash-requires : tie.Need-elf-hash-requires
+elf-hash-requires c κs = search needs
+
+slice-aggregate-resolve : tie.Need-slice-aggregate-resolve
+slice-aggregate-resolve c = search needs
+
+resolve-requires : tie.Need-resolve-requires
+resolve-requires c κs = search needs
+
+reply-of-requires : tie.Need-reply-of-requires
+reply-of-requires c κs = search needs
+
+same-length-3 : tie.Need-same-length-3
+same-length-3 c = search needs
+
+returns-3 : tie.Need-returns-3
+returns-3 c =
+    let a = c .before .before .before .before .before .before .before .before .before .before .before .before .before .before .before .before .before .args in
+    let os = inputsIn (now (a .bytes)) (a .parts) in
+    let n : length (c .before .before .before .before .before .before .before .before .before .before .before .load-all .last .1 .1 .0) ≡ length (now (a .arena)) = c .before .before .before .before .before .before .before .before .before .before .before .load-all .kept .1 .1 .0 in
+    asked os (a .parts .count) (now (a .arena)) (c .before .before .before .before .before .before .before .before .before .before .before .load-all .last .1 .1 .0) (c .before .before .before .before .before .before .before .before .before .before .before .load-all .last .1 .1 .1 .0) (a .address) (a .requester) (now (a .name))
+    (c .before .before .before .before .before .before .before .before .before .before .before .load-all .result) (c .before .before .before .before .before .before .before .before .before .before .before .before .before .before .before .before .before .pre) (c .before .before .before .before .before .before .before .before .before .before .before .load-all .ensures) (c .before .before .before .before .before .before .before .if1 .left) (omega (arith, c .before .before .before .before .before .before .if2 .left)) n (c .reply-of .result)
+    (c .reply-of .ensures ∙ ap (λ (s : Scoped). replyOf (scopedOf s)) (rw (c .before .before .before .before .before .gnu-hash .ensures, c .before .before .before .before .elf-hash .ensures) at (c .before .resolve .ensures)))
+
+pub ask-set-spec : {M : Type 1} → statement M
+ask-set-spec =
+    tie.close
+    (tie.spec
+    slice-aggregate-load-all
+    load-all-requires
+    clear-requires
+    same-length
+    returns
+    clear-requires-2
+    same-length-2
+    returns-2
+    gnu-hash-requires
+    elf-hash-requires
+    slice-aggregate-resolve
+    resolve-requires
+    reply-of-requires
+    same-length-3
+    returns-3)
