@@ -7,6 +7,8 @@ anything if its own hashes differ from them. usage: tests/words_vectors.py (from
 import random
 import struct
 
+from hashes import elf, gnu
+
 M64 = 1 << 64
 PUBLISHED = {  # name: (DT_GNU_HASH, System V)
     b"": (0x00001505, 0x00000000),
@@ -18,25 +20,6 @@ PUBLISHED = {  # name: (DT_GNU_HASH, System V)
     b"ab": (5863208, 0x672),
     b"aaaaaaa": (None, 0x07777711),
 }
-
-
-def gnu(name):
-    h = 5381
-    for b in name:
-        h = (h * 33 + b) % (1 << 32)
-    return h
-
-
-def elf(name):
-    h = 0
-    for b in name:
-        h = ((h << 4) + b) & 0xFFFFFFFF
-        g = h & 0xF0000000
-        if g:
-            h ^= g >> 24
-        h &= ~g & 0xFFFFFFFF
-    return h
-
 
 for published, (g, e) in PUBLISHED.items():
     assert g in (None, gnu(published)) and e == elf(published), published
