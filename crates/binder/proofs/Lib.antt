@@ -2,14 +2,10 @@
 pub mod VisitSteps
 pub mod ArrangeSteps
 pub mod ArrangeUses
-pub mod SheetLaws
-pub mod PartLaws
-pub mod SheetCases
-pub mod WipeLaws
 pub mod SeatLaws
 pub mod PrepareLaws
 pub mod OutcomeLaws
-pub mod SheetLonger
+pub mod FileLaws
 pub mod InsideLaws
 pub mod SoundLaws
 pub mod OrderIs

@@ -8,14 +8,15 @@ use Rattle.words.specs.Memory.{mem, tab}
 use Rattle.model.specs.Relocation.{bound}
 use Rattle.model.specs.Longer.{OnlyProgramCopies, Kept}
 use Rattle.model.proofs.Files.{longer-files}
-use Rattle.binder.specs.Sheet.{Input, setOf}
+use Rattle.sheet.specs.Sheet.{Input, setOf}
 use Rattle.binder.specs.Instance.{File, objectAt}
 use Rattle.binder.specs.Verdict.{passed, loadVerdict, orderVerdict}
 use Rattle.binder.specs.SetOrder.{setOrder}
 use Rattle.binder.specs.Bind.{filesOf, namesOf, objectsOf}
 use Rattle.binder.specs.LongerSet.{LongerSet}
 use Rattle.binder.proofs.OutcomeLaws.{objectsIn, bound-passed}
-use Rattle.binder.proofs.SheetLonger.{Longer, sheet-longer, hostFile, fileOf, files-are, files-longer}
+use Rattle.sheet.proofs.SheetLonger.{Longer, sheet-longer}
+use Rattle.binder.proofs.FileLaws.{hostFile, fileOf, files-are, files-longer}
 use Rattle.binder.proofs.SoundLaws.{set-sound, set-fits}
 use Rattle.binder.proofs.OrderIs.{names-length, order-is}
 

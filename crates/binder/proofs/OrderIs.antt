@@ -8,7 +8,7 @@ use Rattle.model.specs.Objects.{count}
 use Rattle.model.specs.Order.{OnceEach}
 use Rattle.model.specs.Layout.{objsOf}
 use Rattle.model.proofs.OrderLaws.{once-each}
-use Rattle.binder.specs.Sheet.{Input}
+use Rattle.sheet.specs.Sheet.{Input}
 use Rattle.binder.specs.Instance.{File, objectAt}
 use Rattle.binder.specs.Verdict.{noFile}
 use Rattle.binder.specs.SetOrder.{needsOf, setOrder}

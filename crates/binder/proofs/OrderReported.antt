@@ -15,7 +15,7 @@ use Rattle.model.proofs.OrderLaws.{has-head, has-cons, nothing-else, needed-fir
 use Rattle.object.specs.Entries.{actionOf}
 use Rattle.object.specs.Record.{Record}
 use Rattle.object.specs.declared.relocate.Rela.{Rela}
-use Rattle.binder.specs.Sheet.{Input, setOf}
+use Rattle.sheet.specs.Sheet.{Input, setOf}
 use Rattle.binder.specs.Instance.{File, imageOf, recordOf, relasOf}
 use Rattle.binder.specs.Verdict.{noFile}
 use Rattle.binder.specs.Report.{reportWord, isUndefined, isPassed, entryWords, objectWords, orderWords}
@@ -23,7 +23,7 @@ use Rattle.binder.specs.SetOrder.{needsOf, setOrder}
 use Rattle.binder.specs.Bind.{filesOf, namesOf}
 use Rattle.binder.specs.OrderReport.{numbersOf, needsIn, OrderReport}
 use Rattle.binder.proofs.OutcomeLaws.{objectsIn, orderIn, bound-passed}
-use Rattle.binder.proofs.SheetLonger.{sheet-shape}
+use Rattle.sheet.proofs.SheetLonger.{sheet-shape}
 use Rattle.binder.proofs.OrderIs.{set-order, names-length}
 
 -- ---- words of kind 5, and others

@@ -13,7 +13,7 @@ use Rattle.model.specs.Objects.{Objs}
 use Rattle.model.specs.Relocation.{bound}
 use Rattle.binder.specs.declared.Policy.{Policy}
 use Rattle.binder.specs.declared.Answer.the-variants.{Bound}
-use Rattle.binder.specs.Sheet.{Input, sheetOk, setOf, arenaOk, twinOf}
+use Rattle.sheet.specs.Sheet.{Input, sheetOk, setOf, arenaOk, twinOf}
 use Rattle.binder.specs.Verdict.{Verdict, passed, refused, first, verdict, loadVerdict, orderVerdict}
 use Rattle.binder.specs.Report.{orderWords}
 use Rattle.binder.specs.SetOrder.{setOrder}

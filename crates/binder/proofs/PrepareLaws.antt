@@ -22,7 +22,7 @@ use Rattle.object.specs.Placed.{segmentsOf, objectSpan, objectBytes, objectImag
 use Rattle.object.specs.Record as recordIs
 use Rattle.object.specs.Record.{Record, heldBy, viewOf}
 use Rattle.object.specs.Loaded.{objectRecord, objectRefusal, LoadedBy}
-use Rattle.binder.specs.Sheet.{Input, noInput}
+use Rattle.sheet.specs.Sheet.{Input, noInput}
 use Rattle.binder.specs.Instance.{File, recordOf}
 use Rattle.binder.specs.Verdict.{passed, refused, first, verdict, loadVerdict, noFile}
 use Rattle.binder.specs.Bind.{filesOf}

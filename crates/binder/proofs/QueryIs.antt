@@ -15,7 +15,8 @@ use Rattle.model.specs.Objects as objects
 use Rattle.model.specs.Relocation.{placed}
 use Rattle.model.specs.Scope.{resolve}
 use Rattle.model.specs.Layout.{objsOf}
-use Rattle.binder.specs.Sheet.{Input, sheetOk, setOf, arenaOk, twinOf}
+use Rattle.sheet.specs.Sheet.{Input, sheetOk, setOf, arenaOk, twinOf}
+use Rattle.sheet.specs.Sheet as sheets
 use Rattle.binder.specs.Instance.{File, objectAt}
 use Rattle.binder.specs.Verdict.{passed, refused, first, verdict, loadVerdict}
 use Rattle.binder.specs.Bind.{filesOf, objectsOf, unless, prepareVerdict, replied, replyOf, repliedOf, queryOf}
@@ -138,7 +139,7 @@ module _ (sheet bytes : List ℕ) (size address requester : ℕ) (name : List �
 
 -- refusal 2 passed
 pub arena-end : (size address : ℕ) → arenaOk size address ≡ true → address + size ≤ 2 ^ 63
-unfolding arenaOk
+unfolding sheets.arenaOk
 arena-end size address e =
     let a = both-true (eqb (address % 4096) 0) _ e in
     let b = both-true (leb size (2 ^ 28)) _ (a .1) in

@@ -8,7 +8,7 @@ use lib.ListN.{length, replicate}
 use Rattle.words.specs.Memory.{tab}
 use Rattle.model.specs.Scope.{resolve}
 use Rattle.model.specs.Relocation.{placed}
-use Rattle.binder.specs.Sheet.{Input}
+use Rattle.sheet.specs.Sheet.{Input}
 use Rattle.binder.specs.Verdict.{first, loadVerdict}
 use Rattle.binder.specs.Bind.{filesOf, objectsOf, unless, Replied, replyOf, repliedOf}
 

@@ -20,7 +20,7 @@ use Rattle.binder.specs.declared.Answer.{Answer}
 use Rattle.binder.specs.declared.Answer as answers
 use Rattle.binder.specs.declared.Reply.{Reply}
 use Rattle.binder.specs.declared.Reply as replies
-use Rattle.binder.specs.Sheet.{Input, sheetOk, setOf, arenaOk, twinOf}
+use Rattle.sheet.specs.Sheet.{Input, sheetOk, setOf, arenaOk, twinOf}
 use Rattle.binder.specs.Instance.{File, objectAt}
 use Rattle.binder.specs.Verdict.{Verdict, passed, refused, first, noFile, loadVerdict, orderVerdict}
 use Rattle.binder.specs.Report.{orderWords, firstUndefined}

@@ -1,5 +1,3 @@
-pub mod Sheet
-pub mod Parts
 pub mod Seats
 pub mod Table
 pub mod OrderState

@@ -9,7 +9,7 @@ use Rattle.model.specs.Objects.{Objs}
 use Rattle.model.specs.Longer.{OnlyProgramCopies, Kept}
 use Rattle.binder.specs.declared.Policy.{Policy}
 use Rattle.binder.specs.declared.Answer.the-variants.{Bound}
-use Rattle.binder.specs.Sheet.{setOf}
+use Rattle.sheet.specs.Sheet.{setOf}
 use Rattle.binder.specs.Bind.{filesOf, objectsOf, bindOf, outcome}
 
 -- the objects of a sheet and its bytes, in an arena at `address`

@@ -9,7 +9,7 @@ use lib.ListN.{length, getD}
 use Rattle.words.specs.Choice.{pick}
 use Rattle.model.specs.Order.{has, Before, Reach, OnceEach}
 use Rattle.binder.specs.declared.Policy.{Policy}
-use Rattle.binder.specs.Sheet.{Input, setOf}
+use Rattle.sheet.specs.Sheet.{Input, setOf}
 use Rattle.binder.specs.Verdict.{noFile}
 use Rattle.binder.specs.SetOrder.{needsOf, setOrder}
 use Rattle.binder.specs.Bind.{filesOf, namesOf}

@@ -4,8 +4,6 @@ pub mod prepare;
 pub mod query;
 pub mod scope;
 pub mod seats;
-pub mod sheet;
-pub mod wipe;
 
 // What happens to a set with undefined entries: it is refused, or bound with a report.
 pub enum Policy {

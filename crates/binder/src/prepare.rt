@@ -2,11 +2,11 @@
 ghost use mathlib.Core.Path.{_≡_};
 ghost use Prim.Native.Nat.{_≤_};
 ghost use lib.ListN.{length};
-ghost use Rattle.binder.specs.Parts.{inputsIn};
+ghost use Rattle.sheet.specs.Parts.{inputsIn};
 ghost use Rattle.binder.specs.Bind.{filesOf};
 ghost use Rattle.binder.specs.Prepared.{LoadedAt, Prepared};
 use crate::seats::Seat;
-use crate::sheet::Parts;
+use sheet::sheet::Parts;
 
 // A refusal that was met, with its object; number 0 is none.
 pub struct Met {
@@ -48,7 +48,7 @@ pub(crate) fn load_all(bytes: &[u8], parts: Parts, arena: &mut [u8], table: &mut
     let mut off = 0;
     let mut k = 0;
     while k < count {
-        let file = crate::sheet::file_of(bytes, parts, k);
+        let file = sheet::sheet::file_of(bytes, parts, k);
         let p = load_at(arena, off, file, k == 0);
         let number = p.refusal;
         if number != 0 {

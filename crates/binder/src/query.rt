@@ -2,13 +2,13 @@
 ghost use mathlib.Core.Path.{_≡_};
 ghost use Prim.Native.Nat.{_+_, _≤_, _^_};
 ghost use lib.ListN.{length, replicate};
-ghost use Rattle.binder.specs.Parts.{inputsIn};
+ghost use Rattle.sheet.specs.Parts.{inputsIn};
 ghost use Rattle.binder.specs.ScopeCode.{scopedOf};
 ghost use Rattle.binder.specs.Bind.{replied, replyOf, queryOf};
 ghost use Rattle.binder.specs.Asked.{askOf, Ready};
 use crate::Reply;
 use crate::scope::Scoped;
-use crate::sheet::Parts;
+use sheet::sheet::Parts;
 
 // The answer of a search, as a query gives it.
 fn reply_of(s: Scoped) -> Reply
@@ -47,14 +47,14 @@ fn ask_set(
     let number = m.number;
     let object = m.object;
     if number != 0 {
-        crate::wipe::clear(arena);
+        sheet::wipe::clear(arena);
         return Reply::Refused {
             number: number,
             object: object,
         };
     }
     if count <= requester {
-        crate::wipe::clear(arena);
+        sheet::wipe::clear(arena);
         return Reply::Refused {
             number: 13,
             object: 0,
@@ -77,22 +77,22 @@ pub fn query(
 ) -> Reply
     ensures { λ r. ⌜ replied r (now (arena .exit)) ≡ queryOf (now (sheet .entry)) (now (bytes .entry)) (length (now (arena .entry))) address requester (now (name .entry)) ⌝ }
 {
-    crate::wipe::clear(arena);
+    sheet::wipe::clear(arena);
     let n = bytes.len();
-    if !crate::sheet::sheet_ok(sheet, n) {
+    if !sheet::sheet::sheet_ok(sheet, n) {
         return Reply::Refused {
             number: 1,
             object: 0,
         };
     }
-    if !crate::sheet::arena_ok(arena.len(), address) {
+    if !sheet::sheet::arena_ok(arena.len(), address) {
         return Reply::Refused {
             number: 2,
             object: 0,
         };
     }
-    let parts = crate::sheet::parts_of(sheet, n);
-    let t = crate::sheet::twin(bytes, parts);
+    let parts = sheet::sheet::parts_of(sheet, n);
+    let t = sheet::sheet::twin(bytes, parts);
     if t != 0 {
         return Reply::Refused {
             number: 3,

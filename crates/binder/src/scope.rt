@@ -24,7 +24,7 @@ pub fn answer_at(arena: &[u8], s: Seat, name: &[u8], gnu: u32, elf: u32) -> Answ
 {
     let view = s.view;
     object::hash_tables::ask(
-        crate::sheet::part_of(arena, s.offset, s.span),
+        sheet::sheet::part_of(arena, s.offset, s.span),
         view,
         name,
         gnu,

@@ -4,8 +4,8 @@ use Prim.Native.Nat.{_^_}
 use borrow.Author.Needs.{needs}
 use Rattle.binder.proofs.PrepareLaws.{Loading, load-begin, load-fail, load-turn, load-finish}
 use Rattle.binder.specs.Prepared.{LoadedAt}
-use Rattle.binder.specs.Parts.{inputsIn}
-use Rattle.binder.specs.Sheet.{noInput}
+use Rattle.sheet.specs.Parts.{inputsIn}
+use Rattle.sheet.specs.Sheet.{noInput}
 use lib.ListN.{length, getD}
 use lib.Dec.{eqb}
 use denote.Ref.{now}
@@ -18,7 +18,7 @@ use Rattle.binder.proofs.prepare.load_all.Reads as reads
 use Rattle.binder.proofs.prepare.load_all.Lts as lts
 use Rattle.binder.proofs.prepare.load_at.Reads as load-at-reads
 use Rattle.binder.proofs.seats.put_seat.Reads as put-seat-reads
-use Rattle.binder.proofs.sheet.file_of.Reads as file-of-reads
+use Rattle.sheet.proofs.sheet.file_of.Reads as file-of-reads
 
 abbrev Inv-loop : tie.InvT-loop
 Inv-loop bytes parts arena₀ table₀ count off₀ k₀ arena table off k =

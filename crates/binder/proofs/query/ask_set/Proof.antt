@@ -4,7 +4,7 @@ use Rattle.binder.specs.declared.scope.Scoped.{Scoped}
 use Rattle.binder.specs.declared.Reply.the-variants.{Refused}
 use Rattle.binder.specs.Bind.{replied, replyOf}
 use Rattle.binder.specs.ScopeCode.{scopedOf}
-use Rattle.binder.specs.Parts.{inputsIn}
+use Rattle.sheet.specs.Parts.{inputsIn}
 use lib.ListN.{length, replicate}
 use denote.Ref.{now}
 use native.Mathlib.Omega.{arith}
@@ -18,7 +18,7 @@ use Rattle.binder.proofs.query.ask_set.Lts as lts
 use Rattle.binder.proofs.prepare.load_all.Reads as load-all-reads
 use Rattle.binder.proofs.query.reply_of.Reads as reply-of-reads
 use Rattle.binder.proofs.scope.resolve.Reads as resolve-reads
-use Rattle.binder.proofs.wipe.clear.Reads as clear-reads
+use Rattle.sheet.proofs.wipe.clear.Reads as clear-reads
 use Rattle.words.proofs.hash.elf_hash.Reads as elf-hash-reads
 use Rattle.words.proofs.hash.gnu_hash.Reads as gnu-hash-reads
 

@@ -1,10 +1,10 @@
 -- `binder::query::query` meets its contract. Assumes nothing.
 use Rattle.binder.proofs.QueryIs.{query-one, query-two, query-three, query-asks, arena-end}
-use Rattle.binder.proofs.PartLaws.{handed-in, two-parts}
+use Rattle.sheet.proofs.PartLaws.{handed-in, two-parts}
 use Rattle.binder.specs.declared.Reply.the-variants.{Refused}
 use Rattle.binder.specs.Asked.{askOf}
 use Rattle.binder.specs.Bind.{replied}
-use Rattle.binder.specs.Sheet.{Input, twinOf}
+use Rattle.sheet.specs.Sheet.{Input, twinOf}
 use lib.ListN.{length, replicate}
 use denote.Ref.{now}
 use borrow.Author.Tests.{not-true, not-false}
@@ -18,11 +18,11 @@ use Rattle.binder.proofs.query.query.Tie as tie
 use Rattle.binder.proofs.query.query.Reads as reads
 use Rattle.binder.proofs.query.query.Lts as lts
 use Rattle.binder.proofs.query.ask_set.Reads as ask-set-reads
-use Rattle.binder.proofs.sheet.arena_ok.Reads as arena-ok-reads
-use Rattle.binder.proofs.sheet.parts_of.Reads as parts-of-reads
-use Rattle.binder.proofs.sheet.sheet_ok.Reads as sheet-ok-reads
-use Rattle.binder.proofs.sheet.twin.Reads as twin-reads
-use Rattle.binder.proofs.wipe.clear.Reads as clear-reads
+use Rattle.sheet.proofs.sheet.arena_ok.Reads as arena-ok-reads
+use Rattle.sheet.proofs.sheet.parts_of.Reads as parts-of-reads
+use Rattle.sheet.proofs.sheet.sheet_ok.Reads as sheet-ok-reads
+use Rattle.sheet.proofs.sheet.twin.Reads as twin-reads
+use Rattle.sheet.proofs.wipe.clear.Reads as clear-reads
 
 clear-requires : tie.Need-clear-requires
 clear-requires c κs = search needs
