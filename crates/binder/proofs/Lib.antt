@@ -15,3 +15,4 @@ pub mod ScopeLaws
 pub mod ScopeIs
 pub mod QueryLaws
 pub mod QueryIs
+pub mod Steady

@@ -11,3 +11,6 @@ pub mod OrderReport
 pub mod Prepared
 pub mod ScopeCode
 pub mod Asked
+pub mod Relocating
+pub mod Needed
+pub mod Settled

@@ -1,9 +1,16 @@
 // Ordering the objects of a set, and binding them.
+pub mod bind;
+pub mod copy;
+pub mod needs;
 pub mod order;
 pub mod prepare;
 pub mod query;
+pub mod relocate;
+pub mod relr;
+pub mod report;
 pub mod scope;
 pub mod seats;
+pub mod turn;
 
 // What happens to a set with undefined entries: it is refused, or bound with a report.
 pub enum Policy {

@@ -1,0 +1,120 @@
+-- An arena while a loaded set is relocated: what stays in it. Definitions for the proofs; their laws are in SteadyLaws. Assumes nothing.
+use mathlib.Core.Path.{_≡_}
+use mathlib.Core.Bool.{true, false}
+use mathlib.Core.List.{List, _∷_}
+use Prim.Native.Nat.{ℕ, _+_, _*_, _^_, _≤_, _<_}
+use lib.ListN.{length, getD}
+use Rattle.words.specs.Memory.{Mem, mem, write, patch}
+use Rattle.model.specs.Objects.{Objs, count, obj}
+use Rattle.model.specs.Scope.{resolve, resolveCopy}
+use Rattle.model.specs.Layout.{objsOf}
+use Rattle.object.specs.TableBytes.{Agree, inWritable}
+use Rattle.object.specs.Record.{isTableOf}
+use Rattle.object.specs.Invariant.{SameReadings}
+use Rattle.object.specs.Placed.{objectSpan}
+use Rattle.object.specs.declared.hash_tables.Definition.{Definition}
+use Rattle.binder.specs.Instance.{File, imageOf, recordOf, symOf, objectAt}
+use Rattle.binder.specs.Verdict.{passed, loadVerdict, noFile, copyOk}
+use Rattle.binder.specs.Seats.{seatAt}
+use Rattle.binder.specs.Prepared.{seatOf, placeFiles, Seated}
+use Rattle.binder.specs.ScopeCode.{scopedOf, imageAt}
+use Rattle.binder.specs.Relocating.{turnOf, imageIn, soughtFor, soughtForCopy, againRefusal, againRecord, copyFits}
+
+module _ (address size : ℕ) (table : List ℕ) (h p : File) (fs : List File) where
+  abbrev pub files : List File
+  files = h ∷ (p ∷ fs)
+
+  abbrev pub fileAt : ℕ → File
+  fileAt k = getD files k noFile
+
+  abbrev pub set : Objs
+  set = objsOf (objectAt address) h p fs
+
+  -- refusals 2 and 4 to 12 were passed, and the table has the seats
+  pub record LoadedSet : Type 0 where
+    pub others : (k : ℕ) → 1 ≤ k → k < count set → fileAt k .host ≡ false
+    pub loads : loadVerdict size 0 0 files ≡ passed
+    pub seats : Seated table 0 0 files
+    pub end : address + size ≤ 2 ^ 63
+    pub small : size ≤ 2 ^ 28
+
+  -- the bytes of object `k` are as they were placed
+  abbrev pub PlacedAt : List ℕ → ℕ → Type 0
+  PlacedAt a k = imageAt a (seatAt table k) ≡ imageOf (fileAt k)
+
+  -- the table bytes of every object are
+  pub record Steady (a : List ℕ) : Type 0 where
+    pub size-is : length a ≡ size
+    pub tables : (k : ℕ) → k < count set → Agree (isTableOf (recordOf (fileAt k))) (imageOf (fileAt k)) (imageAt a (seatAt table k))
+
+  -- where object `k` lies
+  pub record At (k : ℕ) : Type 0 where
+    pub is : obj set k ≡ objectAt address (fileAt k) ((obj set k) .offset)
+    pub fits : (obj set k) .offset + objectSpan (fileAt k .host) (fileAt k .bytes) ≤ size
+    pub seat : seatAt table k ≡ seatOf (fileAt k) ((obj set k) .offset)
+    -- base = address + offset, without wrapping
+    pub base : turnOf address table k .base ≡ (obj set k) .base
+
+  -- a write to object `k` left the other objects' bytes
+  pub record Written (a a′ : List ℕ) (k : ℕ) : Type 0 where
+    pub steady : Steady a′
+    pub others : (j : ℕ) → j < count set → (j ≡ k → ⊥) → imageAt a′ (seatAt table j) ≡ imageAt a (seatAt table j)
+
+  -- ---- the laws, as SteadyLaws proves them
+
+  abbrev pub Lies : Type 0
+  Lies = LoadedSet → (k : ℕ) → k < count set → At k
+
+  -- the placed arena
+  abbrev pub Starts : Type 0
+  Starts = LoadedSet → (a : List ℕ) (m : Mem) → length a ≡ size → mem a ≡ placeFiles files 0 m → (k : ℕ) → k < count set → PlacedAt a k
+
+  abbrev pub PlacedSteady : Type 0
+  PlacedSteady = LoadedSet → (a : List ℕ) → length a ≡ size → ((k : ℕ) → k < count set → PlacedAt a k) → Steady a
+
+  -- all that is read is as it was
+  abbrev pub Readings : Type 0
+  Readings =
+      LoadedSet → (a : List ℕ) → Steady a → (k : ℕ) → k < count set
+      → SameReadings (fileAt k .host) (recordOf (fileAt k)) (imageOf (fileAt k)) (imageAt a (seatAt table k))
+
+  abbrev pub Searches : Type 0
+  Searches =
+      LoadedSet → (a : List ℕ) → Steady a → (k : ℕ) → k < count set → (name : List ℕ)
+      → scopedOf (soughtFor address table (count set) (turnOf address table k) a name) ≡ resolve set k name
+
+  abbrev pub CopySearches : Type 0
+  CopySearches =
+      LoadedSet → (a : List ℕ) → Steady a → (name : List ℕ) → scopedOf (soughtForCopy address table (count set) a name) ≡ resolveCopy set name
+
+  -- a range in a writable segment ends inside the span
+  abbrev pub WritableInside : Type 0
+  WritableInside =
+      (k q n : ℕ) → inWritable (recordOf (fileAt k) .segments) q n ≡ true → q + n ≤ objectSpan (fileAt k .host) (fileAt k .bytes)
+
+  -- a write there
+  abbrev pub Writes : Type 0
+  Writes =
+      LoadedSet → (a : List ℕ) → Steady a → (k : ℕ) → k < count set → (q n : ℕ) → inWritable (recordOf (fileAt k) .segments) q n ≡ true
+      → (g : ℕ → ℕ)
+      → Written a (patch a ((obj set k) .offset + q) n g) k
+      × (mem (patch a ((obj set k) .offset + q) n g) ≡ write (mem a) ((obj set k) .offset + q) n g)
+
+  -- the tests of refusal 18 in the code are the definition's
+  abbrev pub CopyTests : Type 0
+  CopyTests =
+      LoadedSet → (k d : ℕ) → k < count set → d < count set → (q n : ℕ) → q + n ≤ objectSpan (fileAt k .host) (fileAt k .bytes)
+      → (x : Definition) → copyFits size (turnOf address table k) q (seatAt table d) x n ≡ copyOk set k q d (symOf x) n
+
+  -- the counted relocation entries of program and libraries are in the span
+  abbrev pub Counts : Type 0
+  Counts =
+      LoadedSet → (k : ℕ) → 1 ≤ k → k < count set
+      → (24 * recordOf (fileAt k) .relas ≤ 2 ^ 28) × (24 * recordOf (fileAt k) .plts ≤ 2 ^ 28) × (8 * recordOf (fileAt k) .relrs ≤ 2 ^ 28)
+
+  -- the record that is read again at the object's turn
+  abbrev pub Again : Type 0
+  Again =
+      LoadedSet → (a : List ℕ) (k : ℕ) → 1 ≤ k → k < count set → PlacedAt a k
+      → (againRefusal (imageIn a (turnOf address table k)) (fileAt k .bytes) ≡ 0)
+      × (againRecord (imageIn a (turnOf address table k)) (fileAt k .bytes) ≡ recordOf (fileAt k))

@@ -1,0 +1,279 @@
+-- Relocating the objects of a set, one after another: what the code does, in its own order, over the arena as it is at each step. Document
+-- 01, "Relocated bytes and report", "Refused, in checking order" (14 to 18). `Bind` has what it comes to, from the placed bytes alone;
+-- proofs/RelocatedIs joins the two. Assumes nothing.
+use mathlib.Core.Logic.{_⊎_}
+use mathlib.Core.Bool.{Bool, true, false, not}
+use mathlib.Core.List.{List, [], _∷_}
+use Prim.Native.Nat.{ℕ, zero, suc, _+_, _-_, _*_, _/_, _%_, _^_, _≤_, min}
+use lib.Dec.{eqb, leb, ltb}
+use lib.ListN.{length, getD, set, take, drop}
+use Rattle.words.specs.Choice.{pick, both, either}
+use Rattle.words.specs.Memory.{mem, from, patch}
+use Rattle.words.specs.Words.{leAt, byteOf, sum64}
+use Rattle.words.specs.Hash.{gnuHash, elfHash}
+use Rattle.object.specs.TableBytes.{inWritable}
+use Rattle.object.specs.Symbol.{bindingOf}
+use Rattle.object.specs.ProgramHeader.{loadsOf, dynamicOf}
+use Rattle.object.specs.Entries.{relaAt, relrAt, relrOf, actionOf}
+use Rattle.object.specs.Record.{Record, checkedSymbol, nameOf, readRefusal, recordOf}
+use Rattle.object.specs.declared.program_header.Segment.{Segment}
+use Rattle.object.specs.declared.hash_tables.Definition.{Definition}
+use Rattle.object.specs.declared.symbol.Symbol.{Symbol}
+use Rattle.object.specs.declared.relocate.Rela.{Rela}
+use Rattle.object.specs.declared.relocate.Relr.{Relr}
+use Rattle.object.specs.declared.relocate.Relr.the-variants.{Address, Bitmap}
+use Rattle.object.specs.declared.relocate.Action.{Action}
+use Rattle.object.specs.declared.relocate.Action.the-variants.{Ignored, Passed, Relative, Symbolic, Copy, Irelative}
+use Rattle.object.specs.declared.dynamic_fields.CheckedSymbol.{CheckedSymbol}
+use Rattle.object.specs.declared.dynamic_fields.CheckedSymbol.the-variants.{Refused, Checked}
+use Rattle.sheet.specs.Sheet.{Input, noInput}
+use Rattle.binder.specs.Seats.{seatAt}
+use Rattle.binder.specs.ScopeCode.{resolveSeats, resolveCopySeats}
+use Rattle.binder.specs.declared.seats.Seat.{Seat}
+use Rattle.binder.specs.declared.scope.Scoped.{Scoped}
+use Rattle.binder.specs.declared.scope.Scoped.the-variants.{Absent, Found}
+use Rattle.binder.specs.declared.report.Progress.{Progress}
+use Rattle.binder.specs.declared.turn.Turn.{Turn}
+use Rattle.binder.specs.declared.relr.Moved.{Moved}
+
+-- ---- what a function of the code leaves
+
+-- how far binding has come, the arena and the report
+pub data Left : Type 0 where
+  left : (p : Progress) (arena report : List ℕ) → Left
+
+-- of a function that writes to the arena alone, and of one that writes to the report alone
+pub data Wrote : Type 0 where
+  wrote : (p : Progress) (arena : List ℕ) → Wrote
+
+pub data Noted : Type 0 where
+  noted : (p : Progress) (report : List ℕ) → Noted
+
+abbrev pub withReport : List ℕ → Wrote → Left
+withReport report (wrote p a) = left p a report
+
+abbrev pub withArena : List ℕ → Noted → Left
+withArena a (noted p report) = left p a report
+
+-- before any object's turn
+abbrev pub started : Progress
+started = record { refusal = 0; object = 0; words = 0; full = false; undefined = 0 }
+
+-- the object whose turn it is meets a refusal
+abbrev pub refusedBy : Turn → ℕ → Progress → Progress
+refusedBy t n p = record { refusal = n; object = t .number; words = p .words; full = p .full; undefined = p .undefined }
+
+-- the next step, unless a refusal was met
+abbrev pub unlessRefused : (Left → Left) → Left → Left
+unlessRefused next (left p a r) = pick (eqb (p .refusal) 0) (next (left p a r)) (left p a r)
+
+-- the part of the arena that is the object's
+abbrev pub imageIn : List ℕ → Turn → List ℕ
+imageIn a t = take (t .span) (drop (t .offset) a)
+
+-- ---- the report
+
+-- a word of 32 bits
+abbrev pub reportSum : ℕ → ℕ → ℕ
+reportSum kind n = (kind * 2 ^ 28 + n) % 2 ^ 32
+
+-- a word is added, where there is room
+unfoldable pub noteOf : ℕ → Progress → List ℕ → Noted
+noteOf w p report =
+    pick (ltb (p .words) (length report))
+    (noted
+    (record { refusal = p .refusal; object = p .object; words = p .words + 1; full = p .full; undefined = p .undefined })
+    (set report (p .words) w))
+    (noted (record { refusal = p .refusal; object = p .object; words = p .words; full = true; undefined = p .undefined }) report)
+
+-- the first object that has an undefined entry
+abbrev pub undefinedIn : ℕ → Progress → Progress
+undefinedIn k p =
+    record {
+      refusal = p .refusal;
+      object = p .object;
+      words = p .words;
+      full = p .full;
+      undefined = pick (eqb (p .undefined) 0) k (p .undefined);
+    }
+
+abbrev pub markUndefined : ℕ → Noted → Noted
+markUndefined k (noted p report) = noted (undefinedIn k p) report
+
+-- entry `i` of object `k` whose symbol was found nowhere: undefined, unless its binding is 2
+unfoldable pub unresolvedOf : Symbol → ℕ → ℕ → Progress → List ℕ → Noted
+unresolvedOf y k i p report = pick (eqb (bindingOf y) 2) (noted p report) (markUndefined k (noteOf (reportSum 6 i) p report))
+
+-- ---- RELR
+
+-- a location that is no place of any object: before any address
+abbrev pub far : ℕ
+far = 2 ^ 62
+
+-- counts and indices of the code have 32 bits
+abbrev pub cutTo32 : ℕ → ℕ
+cutTo32 n = min n (2 ^ 32 - 1)
+
+-- the refusal, 0 for none, and the arena; the same with the location after an entry
+pub data Summed : Type 0 where
+  summed : (refusal : ℕ) (arena : List ℕ) → Summed
+
+pub data Shifted : Type 0 where
+  shifted : (m : Moved) (arena : List ℕ) → Shifted
+
+-- the word at `p` gains the base
+unfoldable pub wordAdded : Turn → ℕ → List ℕ → List ℕ
+wordAdded t p a = patch a (t .offset + p) 8 (byteOf (sum64 (leAt 8 (mem a) (t .offset + p)) (t .base)))
+
+module _ (t : Turn) (segments : List Segment) where
+  -- the words of the `n` lowest bits, the first of which is at `p`
+  unfoldable pub addBits : ℕ → ℕ → ℕ → List ℕ → Summed
+  addBits zero p bits a = summed 0 a
+  addBits (suc n) p bits a =
+      pick (eqb (bits % 2) 1)
+      (pick (inWritable segments p 8) (addBits n (p + 8) (bits / 2) (wordAdded t p a)) (summed 17 a))
+      (addBits n (p + 8) (bits / 2) a)
+
+  abbrev pub bitsAdded : ℕ → Summed → Shifted
+  bitsAdded location (summed z a) = shifted (record { refusal = z; location = min (location + 504) far }) a
+
+  -- an entry
+  unfoldable pub addRelr : ℕ → Relr → List ℕ → Shifted
+  addRelr location (Address p) a =
+      pick (inWritable segments p 8) (shifted (record { refusal = 0; location = min (p + 8) far }) (wordAdded t p a))
+      (shifted (record { refusal = 17; location = location }) a)
+  addRelr location (Bitmap bits) a = bitsAdded location (addBits 63 location bits a)
+
+abbrev pub thenRelr : (ℕ → List ℕ → Summed) → Shifted → Summed
+thenRelr next (shifted m a) = pick (eqb (m .refusal) 0) (next (m .location) a) (summed (m .refusal) a)
+
+-- `n` entries from entry `i` on
+unfoldable pub addRelrs : Turn → Record → ℕ → ℕ → ℕ → List ℕ → Summed
+addRelrs t r zero i location a = summed 0 a
+addRelrs t r (suc n) i location a =
+    thenRelr (addRelrs t r n (i + 1)) (addRelr t (r .segments) location (relrOf (relrAt (imageIn a t) (r .relr) i)) a)
+
+-- ---- RELA and PLT
+
+-- 8: base + addend
+unfoldable pub relativeOf : Turn → List Segment → Rela → Progress → List ℕ → Wrote
+relativeOf t segments e p a =
+    pick (inWritable segments (e .place) 8) (wrote p (patch a (t .offset + e .place) 8 (byteOf (sum64 (t .base) (e .addend)))))
+    (wrote (refusedBy t 17 p) a)
+
+-- 14 or 15; 0 is none
+abbrev pub symbolRefusal : CheckedSymbol → ℕ
+symbolRefusal (Refused n) = n
+symbolRefusal (Checked y) = 0
+
+-- 6 and 7: the address that was found, or 0 and a report word
+unfoldable pub foundOf : Turn → Rela → ℕ → Symbol → Scoped → Progress → List ℕ → List ℕ → Left
+foundOf t e i y Absent p a report = withArena (patch a (t .offset + e .place) 8 (byteOf 0)) (unresolvedOf y (t .number) i p report)
+foundOf t e i y (Found k d x) p a report = left p (patch a (t .offset + e .place) 8 (byteOf x)) report
+
+-- the `n` bytes of the definition `d`, in the object at the seat `s`, may be copied to the place `to` of the object whose turn it is: the
+-- tests of refusal 18, and both ranges end inside an arena of `size` bytes
+unfoldable pub copyFits : ℕ → Turn → ℕ → Seat → Definition → ℕ → Bool
+copyFits size t to s d n =
+    both (not (d .absolute))
+    (both (leb (d .value + n) (s .span))
+    (both (leb (t .offset + to + n) size)
+    (both (leb (s .offset + d .value + n) size)
+    (either (leb (t .offset + to + n) (s .offset + d .value)) (leb (s .offset + d .value + n) (t .offset + to))))))
+
+-- two ranges of `n` bytes of an arena of `size` bytes that are apart
+abbrev pub CopyApart : ℕ → ℕ → ℕ → ℕ → Type 0
+CopyApart size to start n = (to + n ≤ size) × (start + n ≤ size) × ((to + n ≤ start) ⊎ (start + n ≤ to))
+
+-- 5: `n` bytes of the definition `d`, in the object at the seat `s`
+unfoldable pub copyBytes : Turn → List Segment → ℕ → Seat → Definition → ℕ → Progress → List ℕ → Wrote
+copyBytes t segments to s d n p a =
+    pick (eqb n 0) (wrote p a)
+    (pick (inWritable segments to n)
+    (pick (copyFits (length a) t to s d n) (wrote p (patch a (t .offset + to) n (from (s .offset + d .value) (mem a)))) (wrote (refusedBy t 18 p) a))
+    (wrote (refusedBy t 17 p) a))
+
+unfoldable pub copyOf : List ℕ → Turn → List Segment → Rela → ℕ → Symbol → Scoped → Progress → List ℕ → List ℕ → Left
+copyOf table t segments e i y Absent p a report = withArena a (unresolvedOf y (t .number) i p report)
+copyOf table t segments e i y (Found k d x) p a report =
+    withReport report (copyBytes t segments (e .place) (seatAt table k) d (min (y .size) (d .size)) p a)
+
+-- ---- an object's turn
+
+abbrev pub turnOf : ℕ → List ℕ → ℕ → Turn
+turnOf address table k =
+    record {
+      number = k;
+      offset = seatAt table k .offset;
+      span = seatAt table k .span;
+      base = sum64 address (seatAt table k .offset);
+    }
+
+-- the record is read again, at the object's turn; what was loaded is not refused then
+unfoldable pub againRefusal : List ℕ → List ℕ → ℕ
+againRefusal image file = pick (leb (length (loadsOf file)) 16) (readRefusal false image (loadsOf file) (dynamicOf file)) 7
+
+abbrev pub againRecord : List ℕ → List ℕ → Record
+againRecord image file = recordOf image (loadsOf file) (dynamicOf file)
+
+module _ (address : ℕ) (table : List ℕ) (count : ℕ) where
+  -- the search for a symbol's name, and COPY's
+  abbrev pub soughtFor : Turn → List ℕ → List ℕ → Scoped
+  soughtFor t a name = resolveSeats address a table count (t .number) name (gnuHash name) (elfHash name)
+
+  abbrev pub soughtForCopy : List ℕ → List ℕ → Scoped
+  soughtForCopy a name = resolveCopySeats address a table count name (gnuHash name) (elfHash name)
+
+  unfoldable pub symbolicOf : Turn → Record → Rela → ℕ → CheckedSymbol → Progress → List ℕ → List ℕ → Left
+  symbolicOf t r e i (Refused n) p a report = left (refusedBy t n p) a report
+  symbolicOf t r e i (Checked y) p a report =
+      pick (inWritable (r .segments) (e .place) 8) (foundOf t e i y (soughtFor t a (nameOf (imageIn a t) r y)) p a report)
+      (left (refusedBy t 17 p) a report)
+
+  unfoldable pub copyingOf : Turn → Record → Rela → ℕ → CheckedSymbol → Progress → List ℕ → List ℕ → Left
+  copyingOf t r e i (Refused n) p a report = left (refusedBy t n p) a report
+  copyingOf t r e i (Checked y) p a report = copyOf table t (r .segments) e i y (soughtForCopy a (nameOf (imageIn a t) r y)) p a report
+
+  unfoldable pub runAction : Turn → Record → ℕ → Rela → Action → Progress → List ℕ → List ℕ → Left
+  runAction t r i e Ignored p a report = left p a report
+  runAction t r i e Passed p a report = withArena a (noteOf (reportSum 7 i) p report)
+  runAction t r i e Irelative p a report = left (refusedBy t 16 p) a report
+  runAction t r i e Relative p a report = withReport report (relativeOf t (r .segments) e p a)
+  runAction t r i e Symbolic p a report = symbolicOf t r e i (checkedSymbol (imageIn a t) r (e .symbol)) p a report
+  runAction t r i e Copy p a report = copyingOf t r e i (checkedSymbol (imageIn a t) r (e .symbol)) p a report
+
+  -- `n` entries of the table at `at` from entry `j` on; the table's first has the number `first`
+  unfoldable pub runTable : Turn → Record → ℕ → ℕ → ℕ → ℕ → Left → Left
+  runTable t r at first zero j st = st
+  runTable t r at first (suc n) j (left p a report) =
+      unlessRefused (runTable t r at first n (j + 1))
+      (runAction t r ((first + j) % 2 ^ 32) (relaAt (imageIn a t) at j) (actionOf (relaAt (imageIn a t) at j .kind)) p a report)
+
+  -- ---- an object
+
+  -- RELA, then PLT
+  unfoldable pub runTables : Turn → Record → Left → Left
+  runTables t r st =
+      unlessRefused (runTable t r (r .plt) (cutTo32 (r .relas)) (cutTo32 (r .plts)) 0)
+      (runTable t r (r .rela) 0 (cutTo32 (r .relas)) 0 st)
+
+  abbrev pub thenTables : Turn → Record → Summed → Noted → Left
+  thenTables t r (summed z a) (noted p report) = pick (eqb z 0) (runTables t r (left p a report)) (left (refusedBy t z p) a report)
+
+  -- the report word of the object, RELR, RELA, PLT
+  unfoldable pub runObject : Turn → Record → Progress → List ℕ → List ℕ → Left
+  runObject t r p a report = thenTables t r (addRelrs t r (cutTo32 (r .relrs)) 0 far a) (noteOf (reportSum 5 (t .number)) p report)
+
+  -- ---- the objects
+
+  -- object `k`, of that file
+  unfoldable pub runAt : ℕ → List ℕ → Progress → List ℕ → List ℕ → Left
+  runAt k file p a report =
+      pick (eqb (againRefusal (imageIn a (turnOf address table k)) file) 0)
+      (runObject (turnOf address table k) (againRecord (imageIn a (turnOf address table k)) file) p a report)
+      (left (refusedBy (turnOf address table k) (againRefusal (imageIn a (turnOf address table k)) file) p) a report)
+
+  -- the objects of an order, of the set `os`
+  unfoldable pub runOrder : List Input → List ℕ → Left → Left
+  runOrder os [] st = st
+  runOrder os (k ∷ ks) (left p a report) = unlessRefused (runOrder os ks) (runAt k (getD os k noInput .file) p a report)

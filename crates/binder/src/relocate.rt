@@ -1,0 +1,376 @@
+// Relocation: port of strategies/relocate.rs. The objects one after another: RELR, RELA, PLT; refusals 14 to 18, entry by entry.
+ghost use mathlib.Core.Path.{_≡_};
+ghost use Prim.Native.Nat.{_+_, _≤_};
+ghost use lib.ListN.{take};
+ghost use Rattle.words.specs.Names.{nameAt};
+ghost use Rattle.object.specs.Entries.{relaAt};
+ghost use Rattle.object.specs.Record.{heldBy, checkedSymbol};
+ghost use Rattle.sheet.specs.Parts.{inputsIn};
+ghost use Rattle.binder.specs.Relocating.{left, wrote, started, imageIn, relativeOf, symbolRefusal, foundOf, soughtFor, soughtForCopy, symbolicOf, copyingOf, runAction, runTable, runTables, runObject, runAt, runOrder};
+use crate::order::Order;
+use crate::report::Progress;
+use crate::scope::Scoped;
+use crate::turn::Turn;
+use object::dynamic_fields::CheckedSymbol;
+use object::dynamic_fields::ObjectData;
+use object::relocate::Action;
+use object::relocate::Rela;
+use object::symbol::Symbol;
+use object::table_bytes::Bounds;
+use sheet::sheet::Parts;
+
+// ---- RELA and PLT
+
+// Type 8: base + addend.
+fn relative(arena: &mut [u8], p: Progress, t: Turn, b: Bounds, e: Rela) -> Progress
+    ensures { λ r. ⌜ wrote r (now (arena .exit)) ≡ relativeOf t (take (b .count) (b .segments)) e p (now (arena .entry)) ⌝ }
+{
+    if !object::table_bytes::in_writable(b, e.place, 8) {
+        return crate::report::refused(p, t, 17);
+    }
+    crate::turn::write_word(
+        arena,
+        t.offset,
+        e.place,
+        words::bytes::sum_u64(t.base, e.addend),
+    );
+    p
+}
+
+// The symbol of an entry, or refusal 14 or 15.
+fn symbol_of(arena: &[u8], t: Turn, o: ObjectData, index: u32) -> CheckedSymbol
+    ensures { λ r. ⌜ r ≡ checkedSymbol (imageIn (now (arena .entry)) t) (heldBy o) index ⌝ }
+{
+    object::dynamic_fields::checked_symbol(crate::turn::image_of(arena, t), o, index)
+}
+
+// The search for the name of an entry's symbol.
+fn search(
+    arena: &[u8],
+    table: &[u64],
+    count: usize,
+    address: u64,
+    t: Turn,
+    strings: usize,
+    name: u32,
+) -> Scoped
+    ensures { λ r. ⌜ r ≡ soughtFor address (now (table .entry)) count t (now (arena .entry)) (nameAt (imageIn (now (arena .entry)) t) (strings + name)) ⌝ }
+{
+    let wanted = words::names::name_off(crate::turn::image_of(arena, t), strings, name as usize);
+    let gnu = words::hash::gnu_hash(wanted);
+    let elf = words::hash::elf_hash(wanted);
+    crate::scope::resolve(
+        arena,
+        table,
+        count,
+        address,
+        t.number as usize,
+        wanted,
+        gnu,
+        elf,
+    )
+}
+
+// COPY's search.
+fn search_copy(
+    arena: &[u8],
+    table: &[u64],
+    count: usize,
+    address: u64,
+    t: Turn,
+    strings: usize,
+    name: u32,
+) -> Scoped
+    ensures { λ r. ⌜ r ≡ soughtForCopy address (now (table .entry)) count (now (arena .entry)) (nameAt (imageIn (now (arena .entry)) t) (strings + name)) ⌝ }
+{
+    let wanted = words::names::name_off(crate::turn::image_of(arena, t), strings, name as usize);
+    let gnu = words::hash::gnu_hash(wanted);
+    let elf = words::hash::elf_hash(wanted);
+    crate::scope::resolve_copy(arena, table, count, address, wanted, gnu, elf)
+}
+
+// Types 6 and 7, of the entry with number `i` and the symbol `y`: what was found, or 0 and a word of the report.
+fn write_found(
+    arena: &mut [u8],
+    report: &mut [u32],
+    p: Progress,
+    t: Turn,
+    i: u32,
+    e: Rela,
+    y: Symbol,
+    s: Scoped,
+) -> Progress
+    ensures { λ r. ⌜ left r (now (arena .exit)) (now (report .exit)) ≡ foundOf t e i y s p (now (arena .entry)) (now (report .entry)) ⌝ }
+{
+    let Scoped::Found {
+        object: _,
+        definition: _,
+        address,
+    } = s
+    else {
+        crate::turn::write_word(arena, t.offset, e.place, 0);
+        return crate::report::unresolved(report, p, y, t.number, i);
+    };
+    crate::turn::write_word(arena, t.offset, e.place, address);
+    p
+}
+
+// Refusal 14 or 15, or 0.
+fn symbol_refusal(c: CheckedSymbol) -> u32
+    ensures { λ r. ⌜ r ≡ symbolRefusal c ⌝ }
+{
+    match c {
+        CheckedSymbol::Refused(n) => n,
+        CheckedSymbol::Checked(y) => 0,
+    }
+}
+
+fn symbolic(
+    arena: &mut [u8],
+    report: &mut [u32],
+    p: Progress,
+    table: &[u64],
+    count: usize,
+    address: u64,
+    t: Turn,
+    o: ObjectData,
+    i: u32,
+    e: Rela,
+) -> Progress
+    ensures { λ r. ⌜ left r (now (arena .exit)) (now (report .exit)) ≡ symbolicOf address (now (table .entry)) count t (heldBy o) e i (checkedSymbol (imageIn (now (arena .entry)) t) (heldBy o) (e .symbol)) p (now (arena .entry)) (now (report .entry)) ⌝ }
+{
+    let c = symbol_of(arena, t, o, e.symbol);
+    let CheckedSymbol::Checked(y) = c else {
+        return crate::report::refused(p, t, symbol_refusal(c));
+    };
+    let b = object::dynamic_fields::bounds_of(o);
+    if !object::table_bytes::in_writable(b, e.place, 8) {
+        return crate::report::refused(p, t, 17);
+    }
+    let s = search(arena, table, count, address, t, o.strings, y.name);
+    write_found(arena, report, p, t, i, e, y, s)
+}
+
+fn copying(
+    arena: &mut [u8],
+    report: &mut [u32],
+    p: Progress,
+    table: &[u64],
+    count: usize,
+    address: u64,
+    t: Turn,
+    o: ObjectData,
+    i: u32,
+    e: Rela,
+) -> Progress
+    ensures { λ r. ⌜ left r (now (arena .exit)) (now (report .exit)) ≡ copyingOf address (now (table .entry)) count t (heldBy o) e i (checkedSymbol (imageIn (now (arena .entry)) t) (heldBy o) (e .symbol)) p (now (arena .entry)) (now (report .entry)) ⌝ }
+{
+    let c = symbol_of(arena, t, o, e.symbol);
+    let CheckedSymbol::Checked(y) = c else {
+        return crate::report::refused(p, t, symbol_refusal(c));
+    };
+    let b = object::dynamic_fields::bounds_of(o);
+    let s = search_copy(arena, table, count, address, t, o.strings, y.name);
+    crate::copy::copy_answer(arena, report, p, table, t, b, i, e, y, s)
+}
+
+// What the type of an entry asks for.
+fn run_action(
+    arena: &mut [u8],
+    report: &mut [u32],
+    p: Progress,
+    table: &[u64],
+    count: usize,
+    address: u64,
+    t: Turn,
+    o: ObjectData,
+    i: u32,
+    e: Rela,
+    a: Action,
+) -> Progress
+    ensures { λ r. ⌜ left r (now (arena .exit)) (now (report .exit)) ≡ runAction address (now (table .entry)) count t (heldBy o) i e a p (now (arena .entry)) (now (report .entry)) ⌝ }
+{
+    match a {
+        Action::Ignored => p,
+        Action::Passed => crate::report::note(
+            report,
+            p,
+            std::num::wrapping_add_u32(0x7000_0000, i),
+        ),
+        Action::Irelative => crate::report::refused(p, t, 16),
+        Action::Relative => relative(arena, p, t, object::dynamic_fields::bounds_of(o), e),
+        Action::Symbolic => symbolic(arena, report, p, table, count, address, t, o, i, e),
+        Action::Copy => copying(arena, report, p, table, count, address, t, o, i, e),
+    }
+}
+
+fn rela_in(arena: &[u8], t: Turn, table: usize, i: u32) -> Rela
+    ensures { λ r. ⌜ r ≡ relaAt (imageIn (now (arena .entry)) t) table i ⌝ }
+{
+    object::relocate::rela_at(crate::turn::image_of(arena, t), table, i)
+}
+
+// The `n` entries of the table at `at`; the first has the number `first`.
+fn run_table(
+    arena: &mut [u8],
+    report: &mut [u32],
+    p: Progress,
+    table: &[u64],
+    count: usize,
+    address: u64,
+    t: Turn,
+    o: ObjectData,
+    at: usize,
+    first: u32,
+    n: u32,
+) -> Progress
+    ensures { λ r. ⌜ left r (now (arena .exit)) (now (report .exit)) ≡ runTable address (now (table .entry)) count t (heldBy o) at first n 0 (left p (now (arena .entry)) (now (report .entry))) ⌝ }
+{
+    let mut q = p;
+    let mut i = 0u32;
+    while i < n {
+        let e = rela_in(arena, t, at, i);
+        let a = object::relocate::action_of(e.kind);
+        let number = std::num::wrapping_add_u32(first, i);
+        q = run_action(arena, report, q, table, count, address, t, o, number, e, a);
+        if q.refusal != 0 {
+            return q;
+        }
+        i += 1;
+    }
+    q
+}
+
+// ---- an object
+
+// RELA, then PLT.
+fn run_tables(
+    arena: &mut [u8],
+    report: &mut [u32],
+    p: Progress,
+    table: &[u64],
+    count: usize,
+    address: u64,
+    t: Turn,
+    o: ObjectData,
+) -> Progress
+    ensures { λ r. ⌜ left r (now (arena .exit)) (now (report .exit)) ≡ runTables address (now (table .entry)) count t (heldBy o) (left p (now (arena .entry)) (now (report .entry))) ⌝ }
+{
+    let relas = crate::relr::cut_to_32(o.relas);
+    let q = run_table(
+        arena,
+        report,
+        p,
+        table,
+        count,
+        address,
+        t,
+        o,
+        o.rela,
+        0,
+        relas,
+    );
+    if q.refusal != 0 {
+        return q;
+    }
+    let plts = crate::relr::cut_to_32(o.plts);
+    run_table(
+        arena,
+        report,
+        q,
+        table,
+        count,
+        address,
+        t,
+        o,
+        o.plt,
+        relas,
+        plts,
+    )
+}
+
+// The word of the report, RELR, RELA, PLT.
+fn run_object(
+    arena: &mut [u8],
+    report: &mut [u32],
+    p: Progress,
+    table: &[u64],
+    count: usize,
+    address: u64,
+    t: Turn,
+    o: ObjectData,
+) -> Progress
+    ensures { λ r. ⌜ left r (now (arena .exit)) (now (report .exit)) ≡ runObject address (now (table .entry)) count t (heldBy o) p (now (arena .entry)) (now (report .entry)) ⌝ }
+{
+    let q = crate::report::note(report, p, std::num::wrapping_add_u32(0x5000_0000, t.number));
+    let number = crate::relr::add_relrs(arena, t, o);
+    if number != 0 {
+        return crate::report::refused(q, t, number);
+    }
+    run_tables(arena, report, q, table, count, address, t, o)
+}
+
+// Object `k`, whose file is given. Its record is read again: no relocation before its turn wrote to its part of the arena.
+fn run_at(
+    arena: &mut [u8],
+    report: &mut [u32],
+    p: Progress,
+    table: &[u64],
+    count: usize,
+    address: u64,
+    k: u32,
+    file: &[u8],
+) -> Progress
+    ensures { λ r. ⌜ left r (now (arena .exit)) (now (report .exit)) ≡ runAt address (now (table .entry)) count k (now (file .entry)) p (now (arena .entry)) (now (report .entry)) ⌝ }
+{
+    let t = crate::turn::turn_of(table, address, k);
+    let l = object::program_header::read_loads(file);
+    if 16 < l.count {
+        return crate::report::refused(p, t, 7);
+    }
+    let d = object::program_header::dynamic_at(file);
+    let r = object::dynamic_fields::read_object(crate::turn::image_of(arena, t), l, d, false);
+    if r.refusal != 0 {
+        return crate::report::refused(p, t, r.refusal);
+    }
+    let o = r.object;
+    run_object(arena, report, p, table, count, address, t, o)
+}
+
+// ---- the objects
+
+// The objects of an order, one after another, from where no report word was written.
+pub(crate) fn run_order(
+    bytes: &[u8],
+    parts: Parts,
+    arena: &mut [u8],
+    report: &mut [u32],
+    table: &[u64],
+    address: u64,
+    order: Order,
+) -> Progress
+    requires { ⌜ order .count ≤ 64 ⌝ }
+    ensures { λ r. ⌜ left r (now (arena .exit)) (now (report .exit)) ≡ runOrder address (now (table .entry)) (parts .count) (inputsIn (now (bytes .entry)) parts) (take (order .count) (order .list)) (left started (now (arena .entry)) (now (report .entry))) ⌝ }
+{
+    let count = parts.count;
+    let list = order.list;
+    let n = order.count;
+    let mut p = Progress {
+        refusal: 0,
+        object: 0,
+        words: 0,
+        full: false,
+        undefined: 0,
+    };
+    let mut i = 0;
+    while i < n {
+        let k = list[i];
+        let file = sheet::sheet::file_of(bytes, parts, k as usize);
+        p = run_at(arena, report, p, table, count, address, k, file);
+        if p.refusal != 0 {
+            return p;
+        }
+        i += 1;
+    }
+    p
+}
