@@ -17,13 +17,12 @@ use Rattle.model.specs.Relocation.{place, placed}
 use Rattle.object.specs.Placed.{objectSpan, objectBytes}
 use Rattle.object.specs.Record.{viewOf}
 use Rattle.object.specs.Loaded.{objectRefusal}
-use Rattle.object.specs.HashTable.{answerIn, answerBy}
-use Rattle.words.specs.Hash.{gnuHash, elfHash}
+use Rattle.object.specs.HashTable.{answerIn}
 use Rattle.binder.specs.Instance.{File, imageOf, recordOf, foundOf, objectAt}
 use Rattle.binder.specs.Verdict.{passed, verdict, loadVerdict, noFile}
 use Rattle.binder.specs.Seats.{seatAt}
 use Rattle.binder.specs.Prepared.{seatOf, placeFiles, Seated}
-use Rattle.binder.specs.ScopeCode.{answerAt, SeatOf, SeatedFor}
+use Rattle.binder.specs.ScopeCode.{imageAt, answerAt, SeatOf, SeatedFor}
 use Rattle.binder.specs.declared.seats.Seat.{Seat}
 use Rattle.binder.proofs.OutcomeLaws.{first-passed, verdict-passed}
 use Rattle.binder.proofs.SoundLaws.{load-fits, count-is}
@@ -50,12 +49,14 @@ placed-is address h p fs = place-is address (h ∷ (p ∷ fs)) 0 (λ _. 0)
 
 -- ---- an object, its seat and its part of the arena
 
-record Sits (address size : ℕ) (table : List ℕ) (m : Mem) (k : ℕ) (f : File) (o : Obj) : Type 0 where
-  off : ℕ
-  is : o ≡ objectAt address f off
-  fits : off + objectSpan (f .host) (f .bytes) ≤ size
-  seat : seatAt table k ≡ seatOf f off
-  bytes : (i : ℕ) → i < objectSpan (f .host) (f .bytes) → m (off + i) ≡ objectBytes (f .host) (f .bytes) i
+pub record Sits (address size : ℕ) (table : List ℕ) (m : Mem) (k : ℕ) (f : File) (o : Obj) : Type 0 where
+  pub off : ℕ
+  pub is : o ≡ objectAt address f off
+  pub fits : off + objectSpan (f .host) (f .bytes) ≤ size
+  pub seat : seatAt table k ≡ seatOf f off
+  pub bytes : (i : ℕ) → i < objectSpan (f .host) (f .bytes) → m (off + i) ≡ objectBytes (f .host) (f .bytes) i
+  -- refusals 4 to 12 were passed
+  pub loads : objectRefusal (f .host) (size - off) (f .bytes) ≡ 0
 
 -- a part of the arena whose bytes are known
 same :
@@ -77,7 +78,8 @@ module _ (address size : ℕ) (table : List ℕ) where
   sits [] n off j d m l v s h = absurd (omega arith)
   sits (f ∷ fs) n off zero d m l v s h =
       let a = first-passed (verdict (objectRefusal (f .host) (size - off) (f .bytes)) n) _ v in
-      let b = load-fits f (size - off) (verdict-passed (objectRefusal (f .host) (size - off) (f .bytes)) n (a .0)) in
+      let c = verdict-passed (objectRefusal (f .host) (size - off) (f .bytes)) n (a .0) in
+      let b = load-fits f (size - off) c in
       let e : n + 0 ≡ n = omega arith in
       record {
         off = off;
@@ -88,6 +90,7 @@ module _ (address size : ℕ) (table : List ℕ) where
             before fs (off + objectSpan (f .host) (f .bytes)) _ (off + i) (omega arith)
             ∙ (write-in m off (objectSpan (f .host) (f .bytes)) (objectBytes (f .host) (f .bytes)) (off + i) (omega arith)
             ∙ ap (objectBytes (f .host) (f .bytes)) (omega arith));
+        loads = c;
       }
   sits (f ∷ fs) n off (suc j) d m l v s h =
       let a = first-passed (verdict (objectRefusal (f .host) (size - off) (f .bytes)) n) _ v in
@@ -99,45 +102,55 @@ module _ (address size : ℕ) (table : List ℕ) where
       e
       (sits fs (n + 1) (off + objectSpan (f .host) (f .bytes)) j d _ (omega arith) (a .1) (s .1) (omega arith))
 
+  -- object `k` of a loaded set
+  pub sits-at :
+      (h p : File) (fs : List File) (m : Mem) → loadVerdict size 0 0 (h ∷ (p ∷ fs)) ≡ passed → Seated table 0 0 (h ∷ (p ∷ fs))
+      → (k : ℕ) → k < count (objsOf (objectAt address) h p fs)
+      → Sits address size table (placeFiles (h ∷ (p ∷ fs)) 0 m) k (getD (h ∷ (p ∷ fs)) k noFile) (obj (objsOf (objectAt address) h p fs) k)
+  unfolding layouts.objsOf layouts.layout objectAt
+  sits-at h p fs m v s k l =
+      let e : 0 + k ≡ k = omega arith in
+      subst
+      (λ (n : ℕ). Sits address size table (placeFiles (h ∷ (p ∷ fs)) 0 m) n (getD (h ∷ (p ∷ fs)) k noFile)
+      (obj (objsOf (objectAt address) h p fs) k))
+      e
+      (sits (h ∷ (p ∷ fs)) 0 0 k (objectAt address h 0) m (omega arith) v s (omega (arith, count-is address size h p fs)))
+
+  -- its part of an arena with the placed bytes is its image
+  pub image-at :
+      (k : ℕ) (f : File) (o : Obj) (m : Mem) → Sits address size table m k f o → (arena : List ℕ) → length arena ≡ size → mem arena ≡ m
+      → imageAt arena (seatAt table k) ≡ imageOf f
+  image-at k f o m t arena len e =
+      ap (imageAt arena) (t .seat)
+      ∙ same (objectSpan (f .host) (f .bytes)) (t .off) (objectBytes (f .host) (f .bytes)) arena (omega (arith, t .fits))
+      (λ j g. ap (λ (x : Mem). x (t .off + j)) e ∙ t .bytes j g)
+
+  -- it is asked at its seat, in an arena where its answers are those of its image
+  pub seat-of :
+      (k : ℕ) (f : File) (o : Obj) (off : ℕ) (arena : List ℕ) → o ≡ objectAt address f off → seatAt table k ≡ seatOf f off
+      → address + off < 2 ^ 64
+      → ((name : List ℕ)
+      → answerIn (imageAt arena (seatAt table k)) (viewOf (recordOf f)) name ≡ answerIn (imageOf f) (viewOf (recordOf f)) name)
+      → SeatOf address arena o (seatAt table k)
+  unfolding objectAt answerAt
+  seat-of k f o off arena is seat small answers =
+      record {
+        base = ap (λ (o : Obj). o .base) is ∙ ap (λ (x : Seat). address + x .offset) (sym seat);
+        small = let e : seatAt table k .offset ≡ off = ap (λ (x : Seat). x .offset) seat in omega arith;
+        find = λ name.
+            ap (λ (o : Obj). o .find name) is
+            ∙ ap foundOf
+            (sym (ap (λ (x : Seat). answerIn (imageAt arena (seatAt table k)) (x .view) name) seat ∙ answers name));
+      }
+
   -- every object of a loaded set has its seat, and is asked there
   pub seated-for :
       (h p : File) (fs : List File) (arena : List ℕ) (m : Mem) → length arena ≡ size → address + size < 2 ^ 64
       → loadVerdict size 0 0 (h ∷ (p ∷ fs)) ≡ passed → Seated table 0 0 (h ∷ (p ∷ fs)) → mem arena ≡ placeFiles (h ∷ (p ∷ fs)) 0 m
       → SeatedFor address arena table (objsOf (objectAt address) h p fs)
-  unfolding layouts.objsOf layouts.layout objectAt answerAt
   seated-for h p fs arena m len small v s e k l =
-      go (sits (h ∷ (p ∷ fs)) 0 0 k (objectAt address h 0) m (omega arith) v s (omega (arith, count-is address size h p fs)))
-    where
-      go :
-          Sits address size table (placeFiles (h ∷ (p ∷ fs)) 0 m) (0 + k) (getD (h ∷ (p ∷ fs)) k noFile) (obj (objsOf (objectAt address) h p fs) k)
-          → SeatOf address arena (obj (objsOf (objectAt address) h p fs) k) (seatAt table k)
-      go t =
-          record {
-            base = ap (λ (o : Obj). o .base) (t .is) ∙ ap (λ (x : Seat). address + x .offset) (sym (seat t));
-            small =
-                let o : seatAt table k .offset ≡ t .off = ap (λ (x : Seat). x .offset) (seat t) in
-                omega (arith, t .fits);
-            find = λ name.
-                ap (λ (o : Obj). o .find name) (t .is)
-                ∙ ap foundOf
-                (sym (ap (λ (x : Seat). answerAt arena x name (gnuHash name) (elfHash name)) (seat t)
-                ∙ ap (λ (image : List ℕ). answerBy image (viewOf (recordOf f)) name (gnuHash name) (elfHash name)) (image t)));
-          }
-        where
-          f : File
-          f = getD (h ∷ (p ∷ fs)) k noFile
-
-          S : Type 0
-          S = Sits address size table (placeFiles (h ∷ (p ∷ fs)) 0 m) (0 + k) (getD (h ∷ (p ∷ fs)) k noFile) (obj (objsOf (objectAt address) h p fs) k)
-
-          seat : (t : S) → seatAt table k ≡ seatOf (getD (h ∷ (p ∷ fs)) k noFile) (t .off)
-          seat t = let z : k ≡ 0 + k = omega arith in ap (seatAt table) z ∙ t .seat
-
-          image :
-              (t : S)
-              → take (objectSpan ((getD (h ∷ (p ∷ fs)) k noFile) .host) ((getD (h ∷ (p ∷ fs)) k noFile) .bytes)) (drop (t .off) arena)
-              ≡ imageOf (getD (h ∷ (p ∷ fs)) k noFile)
-          image t = same
-              (objectSpan ((getD (h ∷ (p ∷ fs)) k noFile) .host) ((getD (h ∷ (p ∷ fs)) k noFile) .bytes)) (t .off)
-              (objectBytes ((getD (h ∷ (p ∷ fs)) k noFile) .host) ((getD (h ∷ (p ∷ fs)) k noFile) .bytes)) arena (omega (arith, t .fits))
-              (λ j g. ap (λ (x : Mem). x (t .off + j)) e ∙ t .bytes j g)
+      let f : File = getD (h ∷ (p ∷ fs)) k noFile in
+      let t = sits-at h p fs m v s k l in
+      seat-of k f (obj (objsOf (objectAt address) h p fs) k) (t .off) arena (t .is) (t .seat) (omega (arith, t .fits))
+      (λ name. ap (λ (image : List ℕ). answerIn image (viewOf (recordOf f)) name)
+      (image-at k f (obj (objsOf (objectAt address) h p fs) k) (placeFiles (h ∷ (p ∷ fs)) 0 m) t arena len e))
