@@ -16,3 +16,4 @@ pub mod ScopeIs
 pub mod QueryLaws
 pub mod QueryIs
 pub mod Steady
+pub mod SteadyLaws
