@@ -52,6 +52,55 @@ use Rattle.binder.proofs.ScopeIs.{resolve-is, resolve-copy-is}
 use Rattle.binder.proofs.QueryLaws.{Sits, sits-at, image-at, seat-of}
 use Rattle.binder.proofs.Steady as steady
 
+-- ---- table bytes
+
+-- no byte of a writable segment is one
+writable-no-table :
+    (ss : List Segment) (q n i : ℕ) → inWritable ss q n ≡ true → every (λ s. not (both (isWritable s) (holdsRange s i 1))) ss ≡ true
+    → In q n i
+    → ⊥
+unfolding tables.inWritable choice.some choice.every
+writable-no-table [] q n i e t w = true≢false (sym e)
+writable-no-table (s ∷ ss) q n i e t w =
+    let c = both-true (not (both (isWritable s) (holdsRange s i 1))) (every (λ s. not (both (isWritable s) (holdsRange s i 1))) ss) t in
+    ⊎-elim
+    (λ (x : both (isWritable s) (holdsRange s q n) ≡ true).
+    let a = both-true (isWritable s) (holdsRange s q n) x in
+    let b = both-true (leb (s .vaddr) q) (leb (q + n) (s .vaddr + s .memsz)) (a .1) in
+    let f = leb-true (s .vaddr) q (b .0) in
+    let g = leb-true (q + n) (s .vaddr + s .memsz) (b .1) in
+    let y : both (isWritable s) (holdsRange s i 1) ≡ true =
+    rw (a .0, le-leb (s .vaddr) i (omega arith), le-leb (i + 1) (s .vaddr + s .memsz) (omega arith)) refl in
+    true≢false (sym y ∙ not-true (both (isWritable s) (holdsRange s i 1)) (c .0)))
+    (λ (x : some (λ s. both (isWritable s) (holdsRange s q n)) ss ≡ true). writable-no-table ss q n i x (c .1) w)
+    (either-true (both (isWritable s) (holdsRange s q n)) (some (λ s. both (isWritable s) (holdsRange s q n)) ss) e)
+
+-- a table byte lies in the span
+table-in : (span : ℕ) (ss : List Segment) (i : ℕ) → isTable span ss i ≡ true → i < span
+unfolding tables.isTable
+table-in span ss i e = ltb-true i span (both-true (ltb i span) _ e .0)
+
+table-out : (span : ℕ) (ss : List Segment) (q n i : ℕ) → inWritable ss q n ≡ true → isTable span ss i ≡ true → In q n i → ⊥
+unfolding tables.isTable
+table-out span ss q n i e t w = writable-no-table ss q n i e (both-true (ltb i span) _ t .1) w
+
+-- so do as many of them as there are
+tables-in : (span : ℕ) (ss : List Segment) (at n : ℕ) → tableBytes (isTable span ss) at n ≡ true → n ≤ span
+unfolding tables.tableBytes choice.below
+tables-in span ss at zero e = omega arith
+tables-in span ss at (suc n) e =
+    omega (arith, table-in span ss (at + n) (both-true (choice.below (λ k. isTable span ss (at + k)) n) (isTable span ss (at + n)) e .1))
+
+-- the span of the record
+record-span : (image : List ℕ) (ss : List Segment) (d : Dynamic) → records.recordOf image ss d .span ≡ length image
+unfolding records.recordOf records.recordIn
+record-span image ss Missing = refl
+record-span image ss (At at) = refl
+
+file-span : (f : File) → recordOf f .span ≡ objectSpan (f .host) (f .bytes)
+unfolding loading.objectRecord
+file-span f = record-span (imageOf f) (segmentsOf (f .host) (f .bytes)) (dynamicOf (f .bytes)) ∙ length-tab (objectSpan (f .host) (f .bytes)) _
+
 -- ---- a file that was loaded
 
 -- refusals 9 to 12 passed: what is read is table bytes
@@ -158,3 +207,104 @@ module _ (address size : ℕ) (table : List ℕ) (h p : File) (fs : List File) w
 
   pub writable-inside : steady.WritableInside address size table h p fs
   writable-inside k q n e = inside.writable-inside (fileAt k .host) (fileAt k .bytes) q n e
+
+  -- spans of two objects lie apart
+  apart :
+      LoadedSet → (j k : ℕ) → j < count set → k < count set → (j ≡ k → ⊥)
+      → ((obj set j) .offset + spanAt j ≤ (obj set k) .offset) ⊎ ((obj set k) .offset + spanAt k ≤ (obj set j) .offset)
+  unfolding objectAt
+  apart s j k l g ne = go (decLt j k)
+    where
+      span : (i : ℕ) → i < count set → (obj set i) .span ≡ spanAt i
+      span i x = ap (λ (o : Obj). o .span) (lies s i x .is)
+
+      go : Dec (j < k) → ((obj set j) .offset + spanAt j ≤ (obj set k) .offset) ⊎ ((obj set k) .offset + spanAt k ≤ (obj set j) .offset)
+      go (yes x) = inl (omega (arith, span j l, objs-apart (objectAt address) (λ f off. omega arith) h p fs j k x g))
+      go (no x) = inr (omega (arith, span k g, objs-apart (objectAt address) (λ f off. omega arith) h p fs k j (omega arith) l))
+
+  -- a byte of object `j`, in an arena
+  byte-at :
+      LoadedSet → (a : List ℕ) (j : ℕ) → j < count set → (i : ℕ) → i < spanAt j
+      → mem (imageAt a (seatAt table j)) i ≡ mem a ((obj set j) .offset + i)
+  byte-at s a j l i x =
+      ap (λ (y : Seat). mem (imageAt a y) i) (lies s j l .seat) ∙ mem-part (spanAt j) ((obj set j) .offset) a i x
+
+  module _
+      (s : LoadedSet)
+      (a : List ℕ)
+      (st : Steady a)
+      (k : ℕ)
+      (l : k < count set)
+      (q n : ℕ)
+      (w : inWritable (recordOf (fileAt k) .segments) q n ≡ true)
+      (g : ℕ → ℕ)
+    where
+      room : (obj set k) .offset + q + n ≤ (obj set k) .offset + spanAt k
+      room = omega (arith, writable-inside k q n w)
+
+      written : mem (patch a ((obj set k) .offset + q) n g) ≡ write (mem a) ((obj set k) .offset + q) n g
+      written = mem-patch a ((obj set k) .offset + q) n g (omega (arith, room, lies s k l .fits, st .size-is))
+
+      -- a byte of object `j` that the write leaves
+      kept :
+          (j : ℕ) → j < count set → (i : ℕ) → i < spanAt j → Out ((obj set k) .offset + q) n ((obj set j) .offset + i)
+          → mem (imageAt (patch a ((obj set k) .offset + q) n g) (seatAt table j)) i ≡ mem (imageAt a (seatAt table j)) i
+      kept j x i y out =
+          byte-at s (patch a ((obj set k) .offset + q) n g) j x i y
+          ∙ (ap (λ (m : Mem). m ((obj set j) .offset + i)) written
+          ∙ (write-out (mem a) ((obj set k) .offset + q) n g ((obj set j) .offset + i) out ∙ sym (byte-at s a j x i y)))
+
+      long : length (patch a ((obj set k) .offset + q) n g) ≡ size
+      long = length-patch a ((obj set k) .offset + q) n g ∙ st .size-is
+
+      others-kept :
+          (j : ℕ) → j < count set → (j ≡ k → ⊥)
+          → imageAt (patch a ((obj set k) .offset + q) n g) (seatAt table j) ≡ imageAt a (seatAt table j)
+      others-kept j x ne =
+          mem-ext (imageAt (patch a ((obj set k) .offset + q) n g) (seatAt table j)) (imageAt a (seatAt table j))
+          (many ∙ sym (length-at s a (st .size-is) j x))
+          (λ i y. let z : i < spanAt j = omega (arith, many) in kept j x i z (out i z (apart s j k x l ne)))
+        where
+          many : length (imageAt (patch a ((obj set k) .offset + q) n g) (seatAt table j)) ≡ spanAt j
+          many = length-at s (patch a ((obj set k) .offset + q) n g) long j x
+
+          out :
+              (i : ℕ) → i < spanAt j
+              → ((obj set j) .offset + spanAt j ≤ (obj set k) .offset) ⊎ ((obj set k) .offset + spanAt k ≤ (obj set j) .offset)
+              → Out ((obj set k) .offset + q) n ((obj set j) .offset + i)
+          out i z (inl b) = inl (omega arith)
+          out i z (inr b) = inr (omega (arith, room))
+
+      own-kept :
+          (i : ℕ) → isTableOf (recordOf (fileAt k)) i ≡ true
+          → mem (imageAt (patch a ((obj set k) .offset + q) n g) (seatAt table k)) i ≡ mem (imageAt a (seatAt table k)) i
+      own-kept i t =
+          kept k l i (omega (arith, table-in (recordOf (fileAt k) .span) (recordOf (fileAt k) .segments) i t, file-span (fileAt k)))
+          (⊎-elim
+          (λ (v : In ((obj set k) .offset + q) n ((obj set k) .offset + i)).
+          absurd (table-out (recordOf (fileAt k) .span) (recordOf (fileAt k) .segments) q n i w t (omega arith)))
+          (λ v. v)
+          (in-or-out ((obj set k) .offset + q) n ((obj set k) .offset + i)))
+
+  pub writes : steady.Writes address size table h p fs
+  writes s a st k l q n w g =
+      (record {
+        steady =
+            record {
+              size-is = long s a st k l q n w g;
+              tables = λ j x i t. go j x i t (ℕ-discrete j k) ∙ st .tables j x i t;
+            };
+        others = others-kept s a st k l q n w g;
+      }, written s a st k l q n w g)
+    where
+      go :
+          (j : ℕ) → j < count set → (i : ℕ) → isTableOf (recordOf (fileAt j)) i ≡ true → Dec (j ≡ k)
+          → mem (imageAt (patch a ((obj set k) .offset + q) n g) (seatAt table j)) i ≡ mem (imageAt a (seatAt table j)) i
+      go j x i t (yes e) =
+          subst
+          (λ (c : ℕ). isTableOf (recordOf (fileAt c)) i ≡ true
+          → mem (imageAt (patch a ((obj set k) .offset + q) n g) (seatAt table c)) i ≡ mem (imageAt a (seatAt table c)) i)
+          (sym e)
+          (own-kept s a st k l q n w g i)
+          t
+      go j x i t (no ne) = ap (λ (image : List ℕ). mem image i) (others-kept s a st k l q n w g j x ne)
