@@ -123,6 +123,55 @@ module _ (f : File) (room : ℕ) (e : objectRefusal (f .host) room (f .bytes) �
   unfolding loading.objectRecord
   load-tables = read-tables (f .host) (imageOf f) (segmentsOf (f .host) (f .bytes)) (dynamicOf (f .bytes)) load-read
 
+  -- of a file that is not the host's
+  module _ (z : f .host ≡ false) where
+    load-few : leb (length (loadsOf (f .bytes))) 16 ≡ true
+    unfolding loading.objectRefusal placing.placeRefusal segments.segmentsOk
+    load-few =
+        let a = after-zero (placeRefusal (f .host) room (f .bytes)) _ e in
+        let b = after-zero (headerRefusal (f .bytes)) _ (a .0) in
+        let c = required (pick (f .host) (eqb (length (f .bytes) % pageSize) 0) (segmentsOk (f .bytes) (loadsOf (f .bytes)))) 6 _ (b .1) in
+        both-true (leb (length (loadsOf (f .bytes))) 16) _ (rw z at (c .0)) .0
+
+    load-segments : loadsOf (f .bytes) ≡ segmentsOf (f .host) (f .bytes)
+    unfolding placing.segmentsOf
+    load-segments = rw z refl
+
+    load-relocations : relocationsOk (recordOf f) ≡ true
+    unfolding records.tablesOk
+    load-relocations =
+        let a = both-true (needsOk (imageOf f) (recordOf f)) _ load-tables in
+        let b = both-true (either (f .host) (relocationsOk (recordOf f))) _ (a .1) in
+        sym (ap (λ (host : Bool). either host (relocationsOk (recordOf f))) z) ∙ b .0
+
+    load-counts :
+        (24 * recordOf f .relas ≤ recordOf f .span) × (24 * recordOf f .plts ≤ recordOf f .span) × (8 * recordOf f .relrs ≤ recordOf f .span)
+    unfolding records.relocationsOk
+    load-counts =
+        let r : Record = recordOf f in
+        let a = both-true (tableBytes (isTableOf r) (r .rela) (24 * r .relas)) _ load-relocations in
+        let b = both-true (tableBytes (isTableOf r) (r .plt) (24 * r .plts)) (tableBytes (isTableOf r) (r .relr) (8 * r .relrs)) (a .1) in
+        (tables-in (r .span) (r .segments) (r .rela) (24 * r .relas) (a .0),
+        tables-in (r .span) (r .segments) (r .plt) (24 * r .plts) (b .0),
+        tables-in (r .span) (r .segments) (r .relr) (8 * r .relrs) (b .1))
+
+-- ---- refusal 18
+
+-- a source in the definer's span, and a destination in its object's, are in the arena
+copy-same :
+    (a t : Bool) (size off place start value n span : ℕ) → off + place + n ≤ size → start + span ≤ size
+    → both a (both (leb (value + n) span) (both (leb (off + place + n) size) (both (leb (start + value + n) size) t)))
+    ≡ both a (both (leb (value + n) span) t)
+copy-same a t size off place start value n span fits ends = ap (both a) (go (leb (value + n) span) refl)
+  where
+    go :
+        (c : Bool) → leb (value + n) span ≡ c
+        → both c (both (leb (off + place + n) size) (both (leb (start + value + n) size) t)) ≡ both c t
+    go true e =
+        let l = leb-true (value + n) span e in
+        rw (le-leb (off + place + n) size fits, le-leb (start + value + n) size (omega arith)) refl
+    go false e = refl
+
 module _ (address size : ℕ) (table : List ℕ) (h p : File) (fs : List File) where
   abbrev set : Objs
   set = objsOf (objectAt address) h p fs
@@ -308,3 +357,40 @@ module _ (address size : ℕ) (table : List ℕ) (h p : File) (fs : List File) w
           (own-kept s a st k l q n w g i)
           t
       go j x i t (no ne) = ap (λ (image : List ℕ). mem image i) (others-kept s a st k l q n w g j x ne)
+
+  -- ---- refusal 18
+
+  pub copy-tests : steady.CopyTests address size table h p fs
+  unfolding copyFits copyOk objectAt
+  copy-tests s k d l m q n fits x =
+      let t = lies s k l in
+      let u = lies s d m in
+      let span : (obj set d) .span ≡ spanAt d = ap (λ (o : Obj). o .span) (u .is) in
+      rw (t .seat, u .seat, span)
+      (copy-same (not (x .absolute))
+      (either (leb ((obj set k) .offset + q + n) ((obj set d) .offset + x .value)) (leb ((obj set d) .offset + x .value + n) ((obj set k) .offset + q)))
+      size ((obj set k) .offset) q ((obj set d) .offset) (x .value) n (spanAt d) (omega (arith, t .fits)) (u .fits))
+
+  -- ---- an object's turn
+
+  pub counts : steady.Counts address size table h p fs
+  counts s k g l =
+      let c = load-counts (fileAt k) (size - (obj set k) .offset) (loaded-at s k l) (s .others k g l) in
+      let e : recordOf (fileAt k) .span ≤ 2 ^ 28 = omega (arith, file-span (fileAt k), lies s k l .fits, s .small) in
+      (omega (arith, c .0), omega (arith, c .1), omega (arith, c .2))
+
+  pub again : steady.Again address size table h p fs
+  unfolding againRefusal loading.objectRecord
+  again s a k g l placed =
+      let f : File = fileAt k in
+      let d : Dynamic = dynamicOf (f .bytes) in
+      let host : f .host ≡ false = s .others k g l in
+      let loaded = loaded-at s k l in
+      let room : ℕ = size - (obj set k) .offset in
+      let ss : loadsOf (f .bytes) ≡ segmentsOf (f .host) (f .bytes) = load-segments f room loaded host in
+      (rw (load-few f room loaded host)
+      (ap (λ (image : List ℕ). readRefusal false image (loadsOf (f .bytes)) d) placed
+      ∙ (ap (λ (b : Bool). readRefusal b (imageOf f) (loadsOf (f .bytes)) d) (sym host)
+      ∙ (ap (λ (x : List Segment). readRefusal (f .host) (imageOf f) x d) ss ∙ load-read f room loaded))),
+      ap (λ (image : List ℕ). records.recordOf image (loadsOf (f .bytes)) d) placed
+      ∙ ap (λ (x : List Segment). records.recordOf (imageOf f) x d) ss)
