@@ -3,16 +3,16 @@ use mathlib.Core.Path.{_≡_, refl, sym, ap, _∙_, subst}
 use mathlib.Core.Bool.{Bool, true, false, not, true≢false}
 use mathlib.Core.Logic.{_⊎_, inl, inr, ⊎-elim}
 use mathlib.Core.List.{List, [], _∷_}
-use Prim.Native.Nat.{ℕ, zero, suc, _+_, _-_, _*_, _%_, _^_, _≤_, _<_}
+use Prim.Native.Nat.{ℕ, zero, suc, _+_, _-_, _*_, _/_, _%_, _^_, _≤_, _<_}
 use native.Mathlib.Omega.{arith}
 use native.Mathlib.Decide.{decLt, ℕ-discrete}
 use native.Mathlib.Nat.{mod-eq-of-lt}
-use borrow.Author.Tests.{leb-true, le-leb, ltb-true, not-true}
+use borrow.Author.Tests.{leb-true, le-leb, eqb-true}
 use lib.Dec.{eqb, leb, ltb}
-use lib.ListN.{length, getD, take, drop, length-take, length-drop}
+use lib.ListN.{length, getD, length-take, length-drop}
 use Rattle.words.specs.Choice.{pick, both, either, every, some}
 use Rattle.words.specs.Choice as choice
-use Rattle.words.specs.Memory.{Mem, mem, tab, In, write, patch}
+use Rattle.words.specs.Memory.{Mem, mem, In, write, patch}
 use Rattle.words.specs.Page.{pageSize}
 use Rattle.words.proofs.Choice.{both-true, either-true}
 use Rattle.words.proofs.Memory.{Out, in-or-out, write-out}
@@ -29,23 +29,22 @@ use Rattle.object.specs.TableBytes as tables
 use Rattle.object.specs.Record.{Record, isTableOf, needsOk, relocationsOk, tablesOk, fieldsRefusal, readRefusal, recordIn}
 use Rattle.object.specs.Record as records
 use Rattle.object.specs.DynamicFields.{fieldsOf, needsOf}
-use Rattle.object.specs.Placed.{segmentsOf, objectSpan, objectImage, placeRefusal}
+use Rattle.object.specs.Placed.{segmentsOf, objectSpan, placeRefusal}
 use Rattle.object.specs.Placed as placing
-use Rattle.object.specs.Loaded.{objectRecord, objectRefusal}
+use Rattle.object.specs.Loaded.{objectRefusal}
 use Rattle.object.specs.Loaded as loading
-use Rattle.object.specs.Invariant.{SameReadings}
 use Rattle.object.specs.declared.program_header.Segment.{Segment}
 use Rattle.object.specs.declared.program_header.Dynamic.{Dynamic}
 use Rattle.object.specs.declared.program_header.Dynamic.the-variants.{Missing, At}
-use Rattle.object.specs.declared.hash_tables.Definition.{Definition}
+use Rattle.object.proofs.Ranges.{spares, seg-in, below-at, table-inside}
 use Rattle.object.proofs.RefusalLaws.{required, after-zero}
 use Rattle.object.proofs.ReadingsSame.{invariance}
-use Rattle.binder.specs.Instance.{File, imageOf, recordOf, symOf, objectAt}
-use Rattle.binder.specs.Verdict.{passed, loadVerdict, noFile, copyOk}
+use Rattle.binder.specs.Instance.{File, imageOf, recordOf, objectAt}
+use Rattle.binder.specs.Verdict.{noFile, copyOk}
 use Rattle.binder.specs.Seats.{seatAt}
-use Rattle.binder.specs.Prepared.{seatOf, placeFiles, Seated}
+use Rattle.binder.specs.Prepared.{seatOf, placeFiles}
 use Rattle.binder.specs.ScopeCode.{imageAt, SeatedFor}
-use Rattle.binder.specs.Relocating.{turnOf, copyFits, againRefusal}
+use Rattle.binder.specs.Relocating.{copyFits, againRefusal}
 use Rattle.binder.specs.declared.seats.Seat.{Seat}
 use Rattle.binder.proofs.InsideLaws as inside
 use Rattle.binder.proofs.ScopeIs.{resolve-is, resolve-copy-is}
@@ -56,40 +55,31 @@ use Rattle.binder.proofs.Steady as steady
 
 -- no byte of a writable segment is one
 writable-no-table :
-    (ss : List Segment) (q n i : ℕ) → inWritable ss q n ≡ true → every (λ s. not (both (isWritable s) (holdsRange s i 1))) ss ≡ true
-    → In q n i
-    → ⊥
+    (ss : List Segment) (q n i : ℕ) → inWritable ss q n ≡ true → every (λ s. spares s i) ss ≡ true → In q n i → ⊥
 unfolding tables.inWritable choice.some choice.every
 writable-no-table [] q n i e t w = true≢false (sym e)
 writable-no-table (s ∷ ss) q n i e t w =
-    let c = both-true (not (both (isWritable s) (holdsRange s i 1))) (every (λ s. not (both (isWritable s) (holdsRange s i 1))) ss) t in
+    let c = both-true (spares s i) (every (λ s. spares s i) ss) t in
     ⊎-elim
     (λ (x : both (isWritable s) (holdsRange s q n) ≡ true).
     let a = both-true (isWritable s) (holdsRange s q n) x in
     let b = both-true (leb (s .vaddr) q) (leb (q + n) (s .vaddr + s .memsz)) (a .1) in
     let f = leb-true (s .vaddr) q (b .0) in
     let g = leb-true (q + n) (s .vaddr + s .memsz) (b .1) in
-    let y : both (isWritable s) (holdsRange s i 1) ≡ true =
-    rw (a .0, le-leb (s .vaddr) i (omega arith), le-leb (i + 1) (s .vaddr + s .memsz) (omega arith)) refl in
-    true≢false (sym y ∙ not-true (both (isWritable s) (holdsRange s i 1)) (c .0)))
+    true≢false (sym (c .0) ∙ seg-in s i (eqb-true (s .flags / 2 % 2) 1 (a .0)) (omega arith) (omega arith)))
     (λ (x : some (λ s. both (isWritable s) (holdsRange s q n)) ss ≡ true). writable-no-table ss q n i x (c .1) w)
     (either-true (both (isWritable s) (holdsRange s q n)) (some (λ s. both (isWritable s) (holdsRange s q n)) ss) e)
 
--- a table byte lies in the span
-table-in : (span : ℕ) (ss : List Segment) (i : ℕ) → isTable span ss i ≡ true → i < span
-unfolding tables.isTable
-table-in span ss i e = ltb-true i span (both-true (ltb i span) _ e .0)
-
 table-out : (span : ℕ) (ss : List Segment) (q n i : ℕ) → inWritable ss q n ≡ true → isTable span ss i ≡ true → In q n i → ⊥
 unfolding tables.isTable
-table-out span ss q n i e t w = writable-no-table ss q n i e (both-true (ltb i span) _ t .1) w
+table-out span ss q n i e t w = writable-no-table ss q n i e (both-true (ltb i span) (every (λ s. spares s i) ss) t .1) w
 
--- so do as many of them as there are
-tables-in : (span : ℕ) (ss : List Segment) (at n : ℕ) → tableBytes (isTable span ss) at n ≡ true → n ≤ span
-unfolding tables.tableBytes choice.below
-tables-in span ss at zero e = omega arith
-tables-in span ss at (suc n) e =
-    omega (arith, table-in span ss (at + n) (both-true (choice.below (λ k. isTable span ss (at + k)) n) (isTable span ss (at + n)) e .1))
+-- there are no more of them than the span has bytes
+table-few : (span : ℕ) (ss : List Segment) (at n : ℕ) → tableBytes (isTable span ss) at n ≡ true → n ≤ span
+unfolding tables.tableBytes
+table-few span ss at zero e = omega arith
+table-few span ss at (suc n) e =
+    omega (arith, table-inside span ss (at + n) (below-at (λ k. isTable span ss (at + k)) (suc n) n e (omega arith)))
 
 -- the span of the record
 record-span : (image : List ℕ) (ss : List Segment) (d : Dynamic) → records.recordOf image ss d .span ≡ length image
@@ -151,9 +141,9 @@ module _ (f : File) (room : ℕ) (e : objectRefusal (f .host) room (f .bytes) �
         let r : Record = recordOf f in
         let a = both-true (tableBytes (isTableOf r) (r .rela) (24 * r .relas)) _ load-relocations in
         let b = both-true (tableBytes (isTableOf r) (r .plt) (24 * r .plts)) (tableBytes (isTableOf r) (r .relr) (8 * r .relrs)) (a .1) in
-        (tables-in (r .span) (r .segments) (r .rela) (24 * r .relas) (a .0),
-        tables-in (r .span) (r .segments) (r .plt) (24 * r .plts) (b .0),
-        tables-in (r .span) (r .segments) (r .relr) (8 * r .relrs) (b .1))
+        (table-few (r .span) (r .segments) (r .rela) (24 * r .relas) (a .0),
+        table-few (r .span) (r .segments) (r .plt) (24 * r .plts) (b .0),
+        table-few (r .span) (r .segments) (r .relr) (8 * r .relrs) (b .1))
 
 -- ---- refusal 18
 
@@ -288,52 +278,71 @@ module _ (address size : ℕ) (table : List ℕ) (h p : File) (fs : List File) w
       (w : inWritable (recordOf (fileAt k) .segments) q n ≡ true)
       (g : ℕ → ℕ)
     where
-      room : (obj set k) .offset + q + n ≤ (obj set k) .offset + spanAt k
+      abbrev to : ℕ
+      to = (obj set k) .offset + q
+
+      abbrev after : List ℕ
+      after = patch a to n g
+
+      room : to + n ≤ (obj set k) .offset + spanAt k
       room = omega (arith, writable-inside k q n w)
 
-      written : mem (patch a ((obj set k) .offset + q) n g) ≡ write (mem a) ((obj set k) .offset + q) n g
-      written = mem-patch a ((obj set k) .offset + q) n g (omega (arith, room, lies s k l .fits, st .size-is))
+      written : mem after ≡ write (mem a) to n g
+      written = mem-patch a to n g (omega (arith, room, lies s k l .fits, st .size-is))
 
       -- a byte of object `j` that the write leaves
       kept :
-          (j : ℕ) → j < count set → (i : ℕ) → i < spanAt j → Out ((obj set k) .offset + q) n ((obj set j) .offset + i)
-          → mem (imageAt (patch a ((obj set k) .offset + q) n g) (seatAt table j)) i ≡ mem (imageAt a (seatAt table j)) i
+          (j : ℕ) → j < count set → (i : ℕ) → i < spanAt j → Out to n ((obj set j) .offset + i)
+          → mem (imageAt after (seatAt table j)) i ≡ mem (imageAt a (seatAt table j)) i
       kept j x i y out =
-          byte-at s (patch a ((obj set k) .offset + q) n g) j x i y
+          byte-at s after j x i y
           ∙ (ap (λ (m : Mem). m ((obj set j) .offset + i)) written
-          ∙ (write-out (mem a) ((obj set k) .offset + q) n g ((obj set j) .offset + i) out ∙ sym (byte-at s a j x i y)))
+          ∙ (write-out (mem a) to n g ((obj set j) .offset + i) out ∙ sym (byte-at s a j x i y)))
 
-      long : length (patch a ((obj set k) .offset + q) n g) ≡ size
-      long = length-patch a ((obj set k) .offset + q) n g ∙ st .size-is
+      long : length after ≡ size
+      long = length-patch a to n g ∙ st .size-is
 
       others-kept :
           (j : ℕ) → j < count set → (j ≡ k → ⊥)
-          → imageAt (patch a ((obj set k) .offset + q) n g) (seatAt table j) ≡ imageAt a (seatAt table j)
+          → imageAt after (seatAt table j) ≡ imageAt a (seatAt table j)
       others-kept j x ne =
-          mem-ext (imageAt (patch a ((obj set k) .offset + q) n g) (seatAt table j)) (imageAt a (seatAt table j))
+          mem-ext (imageAt after (seatAt table j)) (imageAt a (seatAt table j))
           (many ∙ sym (length-at s a (st .size-is) j x))
           (λ i y. let z : i < spanAt j = omega (arith, many) in kept j x i z (out i z (apart s j k x l ne)))
         where
-          many : length (imageAt (patch a ((obj set k) .offset + q) n g) (seatAt table j)) ≡ spanAt j
-          many = length-at s (patch a ((obj set k) .offset + q) n g) long j x
+          many : length (imageAt after (seatAt table j)) ≡ spanAt j
+          many = length-at s after long j x
 
           out :
               (i : ℕ) → i < spanAt j
               → ((obj set j) .offset + spanAt j ≤ (obj set k) .offset) ⊎ ((obj set k) .offset + spanAt k ≤ (obj set j) .offset)
-              → Out ((obj set k) .offset + q) n ((obj set j) .offset + i)
+              → Out to n ((obj set j) .offset + i)
           out i z (inl b) = inl (omega arith)
           out i z (inr b) = inr (omega (arith, room))
 
       own-kept :
           (i : ℕ) → isTableOf (recordOf (fileAt k)) i ≡ true
-          → mem (imageAt (patch a ((obj set k) .offset + q) n g) (seatAt table k)) i ≡ mem (imageAt a (seatAt table k)) i
+          → mem (imageAt after (seatAt table k)) i ≡ mem (imageAt a (seatAt table k)) i
       own-kept i t =
-          kept k l i (omega (arith, table-in (recordOf (fileAt k) .span) (recordOf (fileAt k) .segments) i t, file-span (fileAt k)))
+          kept k l i (omega (arith, table-inside (recordOf (fileAt k) .span) (recordOf (fileAt k) .segments) i t, file-span (fileAt k)))
           (⊎-elim
-          (λ (v : In ((obj set k) .offset + q) n ((obj set k) .offset + i)).
+          (λ (v : In to n ((obj set k) .offset + i)).
           absurd (table-out (recordOf (fileAt k) .span) (recordOf (fileAt k) .segments) q n i w t (omega arith)))
           (λ v. v)
-          (in-or-out ((obj set k) .offset + q) n ((obj set k) .offset + i)))
+          (in-or-out to n ((obj set k) .offset + i)))
+
+      -- so the table bytes stay
+      tables-kept :
+          (j : ℕ) → j < count set → (i : ℕ) → isTableOf (recordOf (fileAt j)) i ≡ true
+          → mem (imageAt after (seatAt table j)) i ≡ mem (imageAt a (seatAt table j)) i
+      tables-kept j x i t = go (ℕ-discrete j k)
+        where
+          go : Dec (j ≡ k) → mem (imageAt after (seatAt table j)) i ≡ mem (imageAt a (seatAt table j)) i
+          go (yes e) =
+              subst
+              (λ (c : ℕ). isTableOf (recordOf (fileAt c)) i ≡ true → mem (imageAt after (seatAt table c)) i ≡ mem (imageAt a (seatAt table c)) i)
+              (sym e) (own-kept i) t
+          go (no ne) = ap (λ (image : List ℕ). mem image i) (others-kept j x ne)
 
   pub writes : steady.Writes address size table h p fs
   writes s a st k l q n w g =
@@ -341,22 +350,10 @@ module _ (address size : ℕ) (table : List ℕ) (h p : File) (fs : List File) w
         steady =
             record {
               size-is = long s a st k l q n w g;
-              tables = λ j x i t. go j x i t (ℕ-discrete j k) ∙ st .tables j x i t;
+              tables = λ j x i t. tables-kept s a st k l q n w g j x i t ∙ st .tables j x i t;
             };
         others = others-kept s a st k l q n w g;
       }, written s a st k l q n w g)
-    where
-      go :
-          (j : ℕ) → j < count set → (i : ℕ) → isTableOf (recordOf (fileAt j)) i ≡ true → Dec (j ≡ k)
-          → mem (imageAt (patch a ((obj set k) .offset + q) n g) (seatAt table j)) i ≡ mem (imageAt a (seatAt table j)) i
-      go j x i t (yes e) =
-          subst
-          (λ (c : ℕ). isTableOf (recordOf (fileAt c)) i ≡ true
-          → mem (imageAt (patch a ((obj set k) .offset + q) n g) (seatAt table c)) i ≡ mem (imageAt a (seatAt table c)) i)
-          (sym e)
-          (own-kept s a st k l q n w g i)
-          t
-      go j x i t (no ne) = ap (λ (image : List ℕ). mem image i) (others-kept s a st k l q n w g j x ne)
 
   -- ---- refusal 18
 
