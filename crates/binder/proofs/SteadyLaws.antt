@@ -140,10 +140,11 @@ module _ (f : File) (room : ℕ) (e : objectRefusal (f .host) room (f .bytes) �
     load-counts =
         let r : Record = recordOf f in
         let a = both-true (tableBytes (isTableOf r) (r .rela) (24 * r .relas)) _ load-relocations in
-        let b = both-true (tableBytes (isTableOf r) (r .plt) (24 * r .plts)) (tableBytes (isTableOf r) (r .relr) (8 * r .relrs)) (a .1) in
-        (table-few (r .span) (r .segments) (r .rela) (24 * r .relas) (a .0),
-        table-few (r .span) (r .segments) (r .plt) (24 * r .plts) (b .0),
-        table-few (r .span) (r .segments) (r .relr) (8 * r .relrs) (b .1))
+        let b = both-true (tableBytes (isTableOf r) (r .plt) (24 * r .plts)) (tableBytes (isTableOf r) (r .relr) (8 * r .relrs)) (a .1) in (
+          table-few (r .span) (r .segments) (r .rela) (24 * r .relas) (a .0),
+          table-few (r .span) (r .segments) (r .plt) (24 * r .plts) (b .0),
+          table-few (r .span) (r .segments) (r .relr) (8 * r .relrs) (b .1),
+        )
 
 -- ---- refusal 18
 
@@ -345,15 +346,17 @@ module _ (address size : ℕ) (table : List ℕ) (h p : File) (fs : List File) w
           go (no ne) = ap (λ (image : List ℕ). mem image i) (others-kept j x ne)
 
   pub writes : steady.Writes address size table h p fs
-  writes s a st k l q n w g =
-      (record {
-        steady =
-            record {
-              size-is = long s a st k l q n w g;
-              tables = λ j x i t. tables-kept s a st k l q n w g j x i t ∙ st .tables j x i t;
-            };
-        others = others-kept s a st k l q n w g;
-      }, written s a st k l q n w g)
+  writes s a st k l q n w g = (
+    record {
+      steady =
+          record {
+            size-is = long s a st k l q n w g;
+            tables = λ j x i t. tables-kept s a st k l q n w g j x i t ∙ st .tables j x i t;
+          };
+      others = others-kept s a st k l q n w g;
+    },
+    written s a st k l q n w g,
+  )
 
   -- ---- refusal 18
 
@@ -384,10 +387,11 @@ module _ (address size : ℕ) (table : List ℕ) (h p : File) (fs : List File) w
       let host : f .host ≡ false = s .others k g l in
       let loaded = loaded-at s k l in
       let room : ℕ = size - (obj set k) .offset in
-      let ss : loadsOf (f .bytes) ≡ segmentsOf (f .host) (f .bytes) = load-segments f room loaded host in
-      (rw (load-few f room loaded host)
-      (ap (λ (image : List ℕ). readRefusal false image (loadsOf (f .bytes)) d) placed
-      ∙ (ap (λ (b : Bool). readRefusal b (imageOf f) (loadsOf (f .bytes)) d) (sym host)
-      ∙ (ap (λ (x : List Segment). readRefusal (f .host) (imageOf f) x d) ss ∙ load-read f room loaded))),
-      ap (λ (image : List ℕ). records.recordOf image (loadsOf (f .bytes)) d) placed
-      ∙ ap (λ (x : List Segment). records.recordOf (imageOf f) x d) ss)
+      let ss : loadsOf (f .bytes) ≡ segmentsOf (f .host) (f .bytes) = load-segments f room loaded host in (
+        rw (load-few f room loaded host)
+            (ap (λ (image : List ℕ). readRefusal false image (loadsOf (f .bytes)) d) placed
+            ∙ (ap (λ (b : Bool). readRefusal b (imageOf f) (loadsOf (f .bytes)) d) (sym host)
+            ∙ (ap (λ (x : List Segment). readRefusal (f .host) (imageOf f) x d) ss ∙ load-read f room loaded))),
+        ap (λ (image : List ℕ). records.recordOf image (loadsOf (f .bytes)) d) placed
+            ∙ ap (λ (x : List Segment). records.recordOf (imageOf f) x d) ss,
+      )
