@@ -1,0 +1,362 @@
+-- The words that RELR's entries name, added one after another over the arena as it is, are those of the placed bytes alone: the same refusal,
+-- and the same arena where there is none. Assumes nothing.
+use mathlib.Core.Path.{_≡_, refl, sym, ap, _∙_}
+use mathlib.Core.Bool.{Bool, true, false, true≢false}
+use mathlib.Core.List.{List, [], _∷_, _++_}
+use Prim.Native.Nat.{ℕ, zero, suc, _+_, _*_, _/_, _%_, _^_, _≤_, _<_, min}
+use native.Mathlib.Numerals.{add-one}
+use native.Mathlib.Nat.{div-div-eq-div-mul, pow-suc, zero-add, div-one}
+use native.Mathlib.Omega.{arith}
+use native.Mathlib.Decide.{decLt}
+use borrow.Author.Tests.{eqb-true, eqb-false, ne-eqb}
+use lib.Dec.{eqb}
+use lib.ListN.{length}
+use Rattle.words.specs.Choice.{pick}
+use Rattle.words.specs.Memory.{mem}
+use Rattle.words.specs.Words.{leAt, byteOf, sum64}
+use Rattle.model.specs.Objects.{Obj, Objs, count, obj}
+use Rattle.model.specs.Relocation.{addWord, addWords}
+use Rattle.object.specs.TableBytes.{inWritable}
+use Rattle.object.specs.Refusal.{require}
+use Rattle.object.specs.Entries.{relrAt, relrsFrom, relrOf, Location, none, word, Word, place, nowhere, wordAfter, bitWords, entryWords, nextLocation, relrWords}
+use Rattle.object.specs.Record.{Record}
+use Rattle.object.specs.declared.relocate.Relr.{Relr}
+use Rattle.object.specs.declared.relocate.Relr.the-variants.{Address, Bitmap}
+use Rattle.binder.specs.declared.seats.Seat.{Seat}
+use Rattle.binder.specs.declared.turn.Turn.{Turn}
+use Rattle.binder.specs.declared.relr.Moved.{Moved}
+use Rattle.binder.specs.Instance.{File, imageOf, recordOf, placesOf, wordsOf}
+use Rattle.binder.specs.Verdict.{Verdict, passed, refused, first, verdict, wordRefusal, wordsVerdict}
+use Rattle.binder.specs.Relocating.{imageIn, far, cutTo32, Summed, summed, Shifted, shifted, wordAdded, addBits, bitsAdded, addRelr, thenRelr, addRelrs, turnOf}
+use Rattle.binder.proofs.Steady as steady
+use Rattle.binder.proofs.SteadyLaws as laws
+
+-- ---- words one after another
+
+pub first-assoc : (u v w : Verdict) → first (first u v) w ≡ first u (first v w)
+first-assoc passed v w = refl
+first-assoc (refused n k) v w = refl
+
+verdict-append : (k : ℕ) (r : Record) (ws vs : List Word) → wordsVerdict k r (ws ++ vs) ≡ first (wordsVerdict k r ws) (wordsVerdict k r vs)
+unfolding wordsVerdict
+verdict-append k r [] vs = refl
+verdict-append k r (w ∷ ws) vs =
+    ap (λ (v : Verdict). first (verdict (wordRefusal r w) k) v) (verdict-append k r ws vs)
+    ∙ sym (first-assoc (verdict (wordRefusal r w) k) (wordsVerdict k r ws) (wordsVerdict k r vs))
+
+-- a refusal that was met stays
+verdict-stays : (z k : ℕ) (v : Verdict) → (z ≡ 0 → ⊥) → first (verdict z k) v ≡ verdict z k
+unfolding verdict
+verdict-stays z k v n = rw (ne-eqb z 0 n)
+
+words-append : (o : Obj) (ws vs : List Word) (m : ℕ → ℕ) → addWords o (placesOf (ws ++ vs)) m ≡ addWords o (placesOf vs) (addWords o (placesOf ws) m)
+unfolding addWords placesOf
+words-append o [] vs m = refl
+words-append o (place p ∷ ws) vs m = words-append o ws vs (addWord o p m)
+words-append o (nowhere ∷ ws) vs m = words-append o ws vs m
+
+-- ---- entries
+
+-- an entry of two tables that are the same
+relr-at : (x y : List ℕ) (at i n : ℕ) → relrsFrom x at i n ≡ relrsFrom y at i n → (j : ℕ) → j < n → relrAt x at (i + j) ≡ relrAt y at (i + j)
+unfolding relrsFrom
+relr-at x y at i zero e j l = absurd (omega arith)
+relr-at x y at i (suc n) e zero l = let s : i + 0 ≡ i = omega arith in rw s (cc)
+relr-at x y at i (suc n) e (suc j) l =
+    let s : i + suc j ≡ i + 1 + j = omega arith in
+    let e′ : relrsFrom x at (i + 1) n ≡ relrsFrom y at (i + 1) n = cc in
+    rw s (relr-at x y at (i + 1) n e′ j (omega arith))
+
+-- the bits that are left after bit `j`
+bits-next : (bitmap j : ℕ) → bitmap / 2 ^ j / 2 ≡ bitmap / 2 ^ (j + 1)
+bits-next bitmap j = rw (div-div-eq-div-mul bitmap (2 ^ j) 2, add-one j, pow-suc 2 j)
+
+-- the code's location for the definition's
+abbrev Sits : Location → ℕ → Type 0
+Sits none l = l ≡ far
+Sits (word w) l = l ≡ min w far
+
+module _ (address size : ℕ) (table : List ℕ) (h p : File) (fs : List File) where
+  abbrev S : Objs
+  S = steady.set address size table h p fs
+
+  abbrev file : ℕ → File
+  file k = steady.fileAt address size table h p fs k
+
+  abbrev LoadedSet : Type 0
+  LoadedSet = steady.LoadedSet address size table h p fs
+
+  abbrev Steady : List ℕ → Type 0
+  Steady a = steady.Steady address size table h p fs a
+
+  abbrev Written : List ℕ → List ℕ → ℕ → Type 0
+  Written a b k = steady.Written address size table h p fs a b k
+
+  -- ---- writes one after another
+
+  pub written-none : (a : List ℕ) (k : ℕ) → Steady a → Written a a k
+  written-none a k s = record { steady = s; others = λ j l n. refl }
+
+  pub written-then : (a b c : List ℕ) (k : ℕ) → Written a b k → Written b c k → Written a c k
+  written-then a b c k u v = record { steady = v .steady; others = λ j l n. v .others j l n ∙ u .others j l n }
+
+  -- ---- what a part of the words leaves
+
+  -- the words `ws` of object `k` were added to the arena `a`: the refusal `z`, 0 for none, and the arena `b`
+  record Ran (k : ℕ) (ws : List Word) (z : ℕ) (a b : List ℕ) : Type 0 where
+    verdict-is : verdict z k ≡ wordsVerdict k (recordOf (file k)) ws
+    done : z ≡ 0 → (mem b ≡ addWords (obj S k) (placesOf ws) (mem a)) × Written a b k
+    length-is : length b ≡ size
+
+  ran-none : (k : ℕ) (a : List ℕ) → Steady a → Ran k [] 0 a a
+  unfolding wordsVerdict verdict addWords placesOf
+  ran-none k a s = record { verdict-is = refl; done = λ e. (refl, written-none a k s); length-is = s .size-is }
+
+  ran-then : (k : ℕ) (ws vs : List Word) (z : ℕ) (a b c : List ℕ) → Ran k ws 0 a b → Ran k vs z b c → Ran k (ws ++ vs) z a c
+  unfolding verdict
+  ran-then k ws vs z a b c u v =
+      record {
+        verdict-is =
+            v .verdict-is
+            ∙ (ap (λ (x : Verdict). first x (wordsVerdict k (recordOf (file k)) vs)) (u .verdict-is)
+            ∙ sym (verdict-append k (recordOf (file k)) ws vs));
+        done = λ e. (
+          v .done e .0
+              ∙ (ap (λ (m : ℕ → ℕ). addWords (obj S k) (placesOf vs) m) (u .done refl .0) ∙ sym (words-append (obj S k) ws vs (mem a))),
+          written-then a b c k (u .done refl .1) (v .done e .1),
+        );
+        length-is = v .length-is;
+      }
+
+  ran-stops : (k : ℕ) (ws vs : List Word) (z : ℕ) (a b : List ℕ) → (z ≡ 0 → ⊥) → Ran k ws z a b → Ran k (ws ++ vs) z a b
+  ran-stops k ws vs z a b n u =
+      record {
+        verdict-is =
+            sym (verdict-stays z k (wordsVerdict k (recordOf (file k)) vs) n)
+            ∙ (ap (λ (x : Verdict). first x (wordsVerdict k (recordOf (file k)) vs)) (u .verdict-is)
+            ∙ sym (verdict-append k (recordOf (file k)) ws vs));
+        done = λ e. absurd (n e);
+        length-is = u .length-is;
+      }
+
+  -- all words that RELR names
+  pub record RelrEnded (k z : ℕ) (a a′ : List ℕ) : Type 0 where
+    pub verdict-is : verdict z k ≡ wordsVerdict k (recordOf (file k)) (wordsOf (imageOf (file k)) (recordOf (file k)))
+    pub done :
+        z ≡ 0
+        → (mem a′ ≡ addWords (obj S k) (placesOf (wordsOf (imageOf (file k)) (recordOf (file k)))) (mem a)) × Written a a′ k
+    pub length-is : length a′ ≡ size
+
+  module _ (L : LoadedSet) (k : ℕ) (low : 1 ≤ k) (member : k < count S) where
+    abbrev r : Record
+    r = recordOf (file k)
+
+    abbrev t : Turn
+    t = turnOf address table k
+
+    -- ---- one word
+
+    -- no place from 2^28 on is in a writable segment
+    far-out : (q : ℕ) → 2 ^ 28 ≤ q → inWritable (r .segments) q 8 ≡ false
+    far-out q l = go (inWritable (r .segments) q 8) refl
+      where
+        go : (b : Bool) → inWritable (r .segments) q 8 ≡ b → b ≡ false
+        go false e = refl
+        go true e =
+            let i = laws.writable-inside address size table h p fs k q 8 e in
+            let f = laws.lies address size table h p fs L k member .fits in
+            let s = L .small in
+            absurd (omega arith)
+
+    -- the definition's word for the code's place
+    record Same (w : Word) (q : ℕ) : Type 0 where
+      refusal-is : wordRefusal r w ≡ require (inWritable (r .segments) q 8) 17 0
+      place-is : inWritable (r .segments) q 8 ≡ true → w ≡ place q
+
+    same-place : (q : ℕ) → Same (place q) q
+    same-place q = record { refusal-is = refl; place-is = λ e. refl }
+
+    -- both past all segments
+    same-far : (w : Word) (q : ℕ) → wordRefusal r w ≡ 17 → 2 ^ 28 ≤ q → Same w q
+    unfolding require
+    same-far w q e l =
+        record { refusal-is = rw (far-out q l) e; place-is = λ i. absurd (true≢false (sym i ∙ far-out q l)) }
+
+    same-after : (location : Location) (l j : ℕ) → Sits location l → Same (wordAfter location j) (l + 8 * j)
+    unfolding require
+    same-after none l j e = same-far nowhere (l + 8 * j) refl (omega arith)
+    same-after (word w) l j e = go (decLt w far)
+      where
+        go : Dec (w < far) → Same (place (w + 8 * j)) (l + 8 * j)
+        go (yes f) = let s : l ≡ w = omega arith in rw s (same-place (w + 8 * j))
+        go (no f) = same-far (place (w + 8 * j)) (l + 8 * j) (rw (far-out (w + 8 * j) (omega arith))) (omega arith)
+
+    -- the code's word is the model's
+    added-is :
+        (q : ℕ) (a : List ℕ) → Steady a → inWritable (r .segments) q 8 ≡ true
+        → Written a (wordAdded t q a) k × (mem (wordAdded t q a) ≡ addWord (obj S k) q (mem a))
+    unfolding wordAdded addWord
+    added-is q a s e =
+        let at = laws.lies address size table h p fs L k member in
+        let offset-is : t .offset ≡ (obj S k) .offset = ap (λ (x : Seat). x .offset) (at .seat) in
+        let g : ℕ → ℕ = byteOf (sum64 (leAt 8 (mem a) ((obj S k) .offset + q)) ((obj S k) .base)) in
+        rw (at .base, offset-is) (laws.writes address size table h p fs L a s k member q 8 e g)
+
+    ran-word : (w : Word) (q : ℕ) (a : List ℕ) → Same w q → Steady a → inWritable (r .segments) q 8 ≡ true → Ran k (w ∷ []) 0 a (wordAdded t q a)
+    unfolding wordsVerdict verdict addWords placesOf require
+    ran-word w q a same s e =
+        let i = added-is q a s e in
+        rw (same .place-is e)
+        (record {
+          verdict-is = rw e;
+          done = λ z. (i .1, i .0);
+          length-is = i .0 .steady .size-is;
+        })
+
+    ran-refused : (w : Word) (q : ℕ) (a : List ℕ) → Same w q → Steady a → inWritable (r .segments) q 8 ≡ false → Ran k (w ∷ []) 17 a a
+    unfolding wordsVerdict verdict require
+    ran-refused w q a same s e =
+        record { verdict-is = rw (same .refusal-is, e); done = λ z. absurd (omega arith); length-is = s .size-is }
+
+    -- ---- a bitmap
+
+    ran-bits :
+        (location : Location) (l bitmap : ℕ) → Sits location l → (n j : ℕ) (q bits : ℕ) → q ≡ l + 8 * j → bits ≡ bitmap / 2 ^ j
+        → (a : List ℕ) → Steady a → (z : ℕ) (b : List ℕ) → summed z b ≡ addBits t (r .segments) n q bits a
+        → Ran k (bitWords location bitmap j n) z a b
+    unfolding addBits bitWords
+    ran-bits location l bitmap at zero j q bits eq eb a s z b e =
+        let ez : z ≡ 0 = cc in
+        let ea : b ≡ a = cc in
+        rw (ez, ea) (ran-none k a s)
+    ran-bits location l bitmap at (suc n) j q bits eq eb a s z b e =
+        go (eqb (bitmap / 2 ^ j % 2) 1) (inWritable (r .segments) q 8) refl (rw eb at e)
+        (λ c sc ec. ran-bits location l bitmap at n (j + 1) (q + 8) (bitmap / 2 ^ j / 2) (omega arith) (bits-next bitmap j) c sc z b ec)
+      where
+        next : List ℕ → Summed
+        next c = addBits t (r .segments) n (q + 8) (bitmap / 2 ^ j / 2) c
+
+        rest : List Word
+        rest = bitWords location bitmap (j + 1) n
+
+        same : Same (wordAfter location j) q
+        same = rw eq (same-after location l j at)
+
+        go :
+            (x y : Bool) → inWritable (r .segments) q 8 ≡ y
+            → summed z b ≡ pick x (pick y (next (wordAdded t q a)) (summed 17 a)) (next a)
+            → ((c : List ℕ) → Steady c → summed z b ≡ next c → Ran k rest z c b)
+            → Ran k (pick x (wordAfter location j ∷ []) [] ++ rest) z a b
+        go true true ey e more =
+            let u = ran-word (wordAfter location j) q a same s ey in
+            ran-then k (wordAfter location j ∷ []) rest z a (wordAdded t q a) b u (more (wordAdded t q a) (u .done refl .1 .steady) e)
+        go true false ey e more =
+            let ez : z ≡ 17 = cc in
+            let ea : b ≡ a = cc in
+            rw (ez, ea) (ran-stops k (wordAfter location j ∷ []) rest 17 a a (λ n. omega arith) (ran-refused (wordAfter location j) q a same s ey))
+        go false y ey e more = more a s e
+
+    -- ---- an entry
+
+    record RanEntry (location : Location) (e : Relr) (m : Moved) (a b : List ℕ) : Type 0 where
+      words : Ran k (entryWords location e) (m .refusal) a b
+      next : m .refusal ≡ 0 → Sits (nextLocation location e) (m .location)
+
+    sits-moved : (location : Location) (l bitmap : ℕ) → Sits location l → Sits (nextLocation location (Bitmap bitmap)) (min (l + 504) far)
+    sits-moved none l bitmap at = omega arith
+    sits-moved (word w) l bitmap at = omega arith
+
+    ran-entry :
+        (location : Location) (l : ℕ) → Sits location l → (x : Relr) (a : List ℕ) → Steady a → (m : Moved) (b : List ℕ)
+        → shifted m b ≡ addRelr t (r .segments) l x a
+        → RanEntry location x m a b
+    unfolding addRelr
+    ran-entry location l at (Address q) a s m b e = go (inWritable (r .segments) q 8) refl e
+      where
+        go :
+            (y : Bool) → inWritable (r .segments) q 8 ≡ y
+            → shifted m b
+            ≡ pick y (shifted (record { refusal = 0; location = min (q + 8) far }) (wordAdded t q a)) (shifted (record { refusal = 17; location = l }) a)
+            → RanEntry location (Address q) m a b
+        go true ey e =
+            let em : m ≡ record { refusal = 0; location = min (q + 8) far } = cc in
+            let eb : b ≡ wordAdded t q a = cc in
+            rw (em, eb) (record { words = ran-word (place q) q a (same-place q) s ey; next = λ z. refl })
+        go false ey e =
+            let em : m ≡ record { refusal = 17; location = l } = cc in
+            let eb : b ≡ a = cc in
+            rw (em, eb) (record { words = ran-refused (place q) q a (same-place q) s ey; next = λ z. absurd (omega arith) })
+    ran-entry location l at (Bitmap bits) a s m b e = go (addBits t (r .segments) 63 l bits a) refl e
+      where
+        go :
+            (v : Summed) → v ≡ addBits t (r .segments) 63 l bits a → shifted m b ≡ bitsAdded t (r .segments) l v
+            → RanEntry location (Bitmap bits) m a b
+        go (summed z c) ev e =
+            let em : m ≡ record { refusal = z; location = min (l + 504) far } = cc in
+            let eb : b ≡ c = cc in
+            rw (em, eb)
+            (record {
+              words = ran-bits location l bits at 63 0 l bits (omega arith) (sym (div-one bits)) a s z c ev;
+              next = λ n. sits-moved location l bits at;
+            })
+
+    -- ---- the entries
+
+    -- entry `i` of the arena is that of the placed bytes
+    entry-is : (a : List ℕ) → Steady a → (i : ℕ) → i < r .relrs → relrAt (imageIn a t) (r .relr) i ≡ relrAt (imageOf (file k)) (r .relr) i
+    entry-is a s i l =
+        let e = laws.readings address size table h p fs L a s k member .relrs (L .others k low member) in
+        rw (zero-add i) at (relr-at (imageIn a t) (imageOf (file k)) (r .relr) 0 (r .relrs) e i l)
+
+    ran-entries :
+        (n i : ℕ) → i + n ≤ r .relrs → (location : Location) (l : ℕ) → Sits location l → (a : List ℕ) → Steady a
+        → (z : ℕ) (b : List ℕ) → summed z b ≡ addRelrs t r n i l a
+        → Ran k (relrWords location (relrsFrom (imageOf (file k)) (r .relr) i n)) z a b
+    unfolding addRelrs relrWords relrsFrom
+    ran-entries zero i few location l at a s z b e =
+        let ez : z ≡ 0 = cc in
+        let ea : b ≡ a = cc in
+        rw (ez, ea) (ran-none k a s)
+    ran-entries (suc n) i few location l at a s z b e =
+        go (addRelr t (r .segments) l x a) refl (rw (entry-is a s i (omega arith)) at e)
+        (λ v lv at′ c sc ec. ran-entries n (i + 1) (omega arith) v lv at′ c sc z b ec)
+      where
+        x : Relr
+        x = relrOf (relrAt (imageOf (file k)) (r .relr) i)
+
+        rest : Location → List Word
+        rest v = relrWords v (relrsFrom (imageOf (file k)) (r .relr) (i + 1) n)
+
+        go :
+            (y : Shifted) → y ≡ addRelr t (r .segments) l x a → summed z b ≡ thenRelr (addRelrs t r n (i + 1)) y
+            → ((v : Location) (lv : ℕ) → Sits v lv → (c : List ℕ) → Steady c → summed z b ≡ addRelrs t r n (i + 1) lv c → Ran k (rest v) z c b)
+            → Ran k (entryWords location x ++ rest (nextLocation location x)) z a b
+        go (shifted m c) ey e more = ends (eqb (m .refusal) 0) refl e
+          where
+            here : RanEntry location x m a c
+            here = ran-entry location l at x a s m c ey
+
+            ends :
+                (d : Bool) → eqb (m .refusal) 0 ≡ d → summed z b ≡ pick d (addRelrs t r n (i + 1) (m .location) c) (summed (m .refusal) c)
+                → Ran k (entryWords location x ++ rest (nextLocation location x)) z a b
+            ends true ed e =
+                let ez : m .refusal ≡ 0 = eqb-true _ _ ed in
+                let u : Ran k (entryWords location x) 0 a c = rw ez at (here .words) in
+                ran-then k (entryWords location x) (rest (nextLocation location x)) z a c b u
+                (more (nextLocation location x) (m .location) (here .next ez) c (u .done refl .1 .steady) e)
+            ends false ed e =
+                let ez : z ≡ m .refusal = cc in
+                let eb : b ≡ c = cc in
+                rw (ez, eb)
+                (ran-stops k (entryWords location x) (rest (nextLocation location x)) (m .refusal) a c (eqb-false _ _ ed) (here .words))
+
+  pub relr-is :
+      LoadedSet → (k : ℕ) → 1 ≤ k → k < count S → (a : List ℕ) → Steady a → (z : ℕ) (a′ : List ℕ)
+      → summed z a′ ≡ addRelrs (turnOf address table k) (recordOf (file k)) (cutTo32 (recordOf (file k) .relrs)) 0 far a
+      → RelrEnded k z a a′
+  unfolding wordsOf
+  relr-is L k low member a s z a′ e =
+      let few = laws.counts address size table h p fs L k low member .2 in
+      let n : cutTo32 (recordOf (file k) .relrs) ≡ recordOf (file k) .relrs = omega arith in
+      let u = ran-entries L k low member (recordOf (file k) .relrs) 0 (omega arith) none far refl a s z a′ (rw n at e) in
+      record { verdict-is = u .verdict-is; done = u .done; length-is = u .length-is }
