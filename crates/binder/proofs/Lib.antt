@@ -17,3 +17,4 @@ pub mod QueryLaws
 pub mod QueryIs
 pub mod Steady
 pub mod SteadyLaws
+pub mod RelrIs
