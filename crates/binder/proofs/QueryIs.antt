@@ -31,7 +31,7 @@ use Rattle.binder.proofs.SoundLaws.{count-is}
 use Rattle.binder.proofs.ScopeIs.{resolve-is}
 use Rattle.binder.proofs.QueryLaws.{placed-is, seated-for}
 
-zero-at : (n i : ℕ) → mem (replicate n 0) i ≡ 0
+pub zero-at : (n i : ℕ) → mem (replicate n 0) i ≡ 0
 unfolding mem
 zero-at zero i = refl
 zero-at (suc n) zero = refl
@@ -59,7 +59,7 @@ module _ (os : List Input) (size address requester : ℕ) (name : List ℕ) wher
   unfolding askOf repliedOf verdict unless
   ask-found r e z l = rw (← e, eq-eqb (r .number) 0 z, lt-ltb requester (length os) l)
 
-passed-of : (r : Met) → r .number ≡ 0 → metBy r ≡ passed
+pub passed-of : (r : Met) → r .number ≡ 0 → metBy r ≡ passed
 unfolding verdict
 passed-of r z = rw (eq-eqb (r .number) 0 z)
 
@@ -138,6 +138,13 @@ module _ (sheet bytes : List ℕ) (size address requester : ℕ) (name : List �
       query-asks q = rw (e, g, eq-eqb (twinOf (setOf sheet bytes)) 0 q)
 
 -- refusal 2 passed
+pub arena-small : (size address : ℕ) → arenaOk size address ≡ true → size ≤ 2 ^ 28
+unfolding sheets.arenaOk
+arena-small size address e =
+    let a = both-true (eqb (address % 4096) 0) _ e in
+    let b = both-true (leb size (2 ^ 28)) _ (a .1) in
+    leb-true size (2 ^ 28) (b .0)
+
 pub arena-end : (size address : ℕ) → arenaOk size address ≡ true → address + size ≤ 2 ^ 63
 unfolding sheets.arenaOk
 arena-end size address e =

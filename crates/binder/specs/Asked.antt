@@ -25,3 +25,4 @@ pub record Ready (os : List Input) (count : ℕ) (arena : List ℕ) (address : �
   pub two : 2 ≤ count
   pub zeros : arena ≡ replicate (length arena) 0
   pub end : address + length arena ≤ 2 ^ 63
+  pub small : length arena ≤ 2 ^ 28

@@ -1,5 +1,5 @@
 -- `binder::query::query` meets its contract. Assumes nothing.
-use Rattle.binder.proofs.QueryIs.{query-one, query-two, query-three, query-asks, arena-end}
+use Rattle.binder.proofs.QueryIs.{query-one, query-two, query-three, query-asks, arena-end, arena-small}
 use Rattle.sheet.proofs.PartLaws.{handed-in, two-parts}
 use Rattle.binder.specs.declared.Reply.the-variants.{Refused}
 use Rattle.binder.specs.Asked.{askOf}
@@ -89,6 +89,7 @@ ask-set-requires c κs =
       two = two-parts (c .before .before .before .parts-of .ensures) ok1;
       zeros = c .before .before .before .before .before .before .before .before .before .before .clear .ensures ∙ ap (λ (n : ℕ). replicate n 0) (sym k);
       end = omega (arith, arena-end (length (now (a .arena))) (a .address) ok2, k);
+      small = omega (arith, arena-small (length (now (a .arena))) (a .address) ok2, k);
     }
 
 same-length-4 : tie.Need-same-length-4

@@ -1,0 +1,291 @@
+-- What a call to `bind` comes to, step by step, is its definition. Assumes nothing.
+use mathlib.Core.Path.{_≡_, refl, sym, ap, _∙_, subst, fun-ext}
+use mathlib.Core.Bool.{Bool, true, false, not}
+use mathlib.Core.Logic.{⊎-elim}
+use mathlib.Core.List.{List, [], _∷_, _++_, map}
+use Prim.Native.Nat.{ℕ, zero, suc, _+_, _-_, _^_, _≤_, _<_}
+use native.Mathlib.Omega.{arith}
+use borrow.Author.Tests.{eq-eqb, ne-eqb, eqb-true, eqb-false, lt-ltb, le-ltb, le-leb, leb-true, leb-false}
+use lib.Dec.{eqb, leb, ltb}
+use lib.ListN.{length, getD, take, replicate, length-map}
+use Rattle.words.specs.Memory.{mem, tab}
+use Rattle.words.proofs.Slices.{tab-mem}
+use Rattle.model.specs.Objects as objects
+use Rattle.model.specs.Relocation.{placed, bound}
+use Rattle.model.specs.Layout.{objsOf}
+use Rattle.model.proofs.OrderLaws.{decide}
+use Rattle.sheet.specs.Sheet.{Input, noInput, sheetOk, setOf, arenaOk, twinOf}
+use Rattle.binder.specs.Instance.{File, objectAt}
+use Rattle.binder.specs.Verdict.{Verdict, noFile, passed, refused, first, verdict, loadVerdict, orderVerdict}
+use Rattle.binder.specs.Report.{orderWords, firstUndefined}
+use Rattle.binder.specs.SetOrder.{setOrder}
+use Rattle.binder.specs.Bind.{filesOf, namesOf, objectsOf, unless, prepareVerdict, allows, relocateVerdict, Outcome, outcome, outcomeOf, bindIn, bindOf}
+use Rattle.binder.specs.Prepared.{metBy, placeFiles, Prepared}
+use Rattle.binder.specs.Asked.{Ready}
+use Rattle.binder.specs.Settled.{endsBy, settledOf, BoundSet}
+use Rattle.binder.specs.Needed.{Arranged}
+use Rattle.binder.specs.Relocating.{left, started, runOrder}
+use Rattle.model.specs.Order.{OnceEach}
+use Rattle.binder.proofs.OrderIs.{order-is, names-length}
+use Rattle.binder.specs.declared.Policy.{Policy}
+use Rattle.binder.specs.declared.prepare.Met.{Met}
+use Rattle.binder.specs.declared.order.Order.{Order}
+use Rattle.binder.specs.declared.report.Progress.{Progress}
+use Rattle.binder.proofs.OutcomeLaws.{first-passed, unless-passed}
+use Rattle.binder.proofs.SoundLaws.{count-is}
+use Rattle.binder.proofs.QueryLaws.{placed-is}
+use Rattle.binder.proofs.QueryIs.{zero-at, passed-of}
+use Rattle.binder.proofs.Steady.{LoadedSet}
+use Rattle.binder.proofs.RelocatedIs as relocated
+use Rattle.binder.proofs.RelocatedIs.{fillOf, Going}
+
+-- ---- settling
+
+-- the refusal that was met leaves zeros; none leaves the arena and the report
+pub settled :
+    (size words : ℕ) (m : Met) (arena report arena′ report′ : List ℕ) → length arena′ ≡ size → length report′ ≡ words
+    → (metBy m ≡ passed → (arena′ ≡ arena) × (report′ ≡ report ++ replicate (words - length report) 0))
+    → settledOf m arena′ report′ ≡ outcomeOf size words (metBy m) arena report
+unfolding settledOf outcomeOf verdict
+settled size words m arena report arena′ report′ la lr same =
+    ⊎-elim
+    (λ (t : eqb (m .number) 0 ≡ true).
+    let s = same (rw t) in
+    rw (t, s .0, s .1))
+    (λ (t : eqb (m .number) 0 ≡ false). rw (t, la, lr))
+    (decide (eqb (m .number) 0))
+
+-- the same where the refusal is known
+pub settled-by :
+    (size words : ℕ) (m : Met) (v : Verdict) (arena report arena′ report′ : List ℕ) → metBy m ≡ v → length arena′ ≡ size → length report′ ≡ words
+    → (v ≡ passed → (arena′ ≡ arena) × (report′ ≡ report ++ replicate (words - length report) 0))
+    → settledOf m arena′ report′ ≡ outcomeOf size words v arena report
+settled-by size words m v arena report arena′ report′ e la lr same =
+    subst
+    (λ (w : Verdict). settledOf m arena′ report′ ≡ outcomeOf size words w arena report)
+    e
+    (settled size words m arena report arena′ report′ la lr (λ z. same (sym e ∙ z)))
+
+-- ---- 14 to 20
+
+not-full : (n w : ℕ) → not (ltb w n) ≡ leb n w
+not-full n w =
+    ⊎-elim
+    (λ (t : leb n w ≡ true). rw (t, le-ltb w n (leb-true n w t)))
+    (λ (t : leb n w ≡ false). rw (t, lt-ltb w n (leb-false n w t)))
+    (decide (leb n w))
+
+take-zeros : (n k : ℕ) → n ≤ k → take {A = ℕ} n (replicate k 0) ≡ replicate n 0
+take-zeros zero k l = refl
+take-zeros (suc n) zero l = absurd (omega arith)
+take-zeros (suc n) (suc k) l = ap (λ (xs : List ℕ). 0 ∷ xs) (take-zeros n k (omega arith))
+
+-- the words that fit are all there are
+fits-in : (n k : ℕ) (ws : List ℕ) → length ws ≤ n → n ≤ length ws + k → take n (ws ++ replicate k 0) ≡ ws ++ replicate (n - length ws) 0
+fits-in n k [] l g =
+    let z : n ≡ n - 0 = omega arith in
+    take-zeros n k (omega arith) ∙ ap (λ (i : ℕ). replicate i 0) z
+fits-in zero k (w ∷ ws) l g = absurd (omega arith)
+fits-in (suc n) k (w ∷ ws) l g =
+    let z : n - length ws ≡ suc n - suc (length ws) = omega arith in
+    ap (λ (xs : List ℕ). w ∷ xs) (fits-in n k ws (omega arith) (omega arith) ∙ ap (λ (i : ℕ). ws ++ replicate i 0) z)
+
+filled : (n : ℕ) (ws : List ℕ) → length ws ≤ n → fillOf n ws ≡ ws ++ replicate (n - length ws) 0
+unfolding relocated.fillOf
+filled n ws l = fits-in n n ws l (omega arith)
+
+module _ (address size : ℕ) (table : List ℕ) (hf pf : File) (fs : List File) (policy : Policy) (order : List ℕ) (words : ℕ) where
+  abbrev S : objects.Objs
+  S = objsOf (objectAt address) hf pf fs
+
+  abbrev files : List File
+  files = hf ∷ (pf ∷ fs)
+
+  module _ (p : Progress) (a report : List ℕ) (ended : relocated.Ended address size table hf pf fs order words p a report) where
+    ends : endsBy policy p ≡ relocateVerdict S files order policy words
+    unfolding endsBy relocateVerdict
+    ends = go (orderVerdict S files order) refl
+      where
+        go : (v : Verdict) → orderVerdict S files order ≡ v → endsBy policy p ≡ relocateVerdict S files order policy words
+        go passed q =
+            let g = ended .bound-is q .2 in
+            rw (ended .verdict-is, q, g .undefined, g .full, not-full (length (orderWords S files order)) words)
+        go (refused n k) q = rw (ended .verdict-is, q)
+
+    room : relocateVerdict S files order policy words ≡ passed → (orderVerdict S files order ≡ passed) × (length (orderWords S files order) ≤ words)
+    unfolding relocateVerdict
+    room e =
+        let a = first-passed (orderVerdict S files order) _ e in
+        let b = first-passed (unless (allows policy (firstUndefined S files order)) 19 (firstUndefined S files order)) _ (a .1) in
+        (a .0, leb-true _ _ (unless-passed (leb (length (orderWords S files order)) words) 20 0 (b .1)))
+
+    pub relocated-set :
+        (m : Met) → metBy m ≡ endsBy policy p → settledOf m a report
+        ≡ outcomeOf size words (relocateVerdict S files order policy words) (tab size (bound S order)) (orderWords S files order)
+    relocated-set m e =
+        settled-by size words m _ _ _ a report (e ∙ ends) (ended .lengths .0) (ended .lengths .1)
+        (λ z.
+        let q = room z in
+        let g = ended .bound-is (q .0) in
+        (sym (tab-mem a) ∙ (ap (λ (n : ℕ). tab n (mem a)) (g .1) ∙ ap (tab size) (g .0)), g .2 .report-is ∙ filled words _ (q .1)))
+
+-- ---- 4 to 20
+
+hosts : (ls : List Input) (j : ℕ) → j < length ls → getD (map (λ (o : Input). record { host = false; bytes = o .file }) ls) j noFile .host ≡ false
+hosts [] j l = absurd (omega arith)
+hosts (o ∷ ls) zero l = refl
+hosts (o ∷ ls) (suc j) l = hosts ls j (omega arith)
+
+bytes-of :
+    (ls : List Input) (j : ℕ) → j < length ls
+    → getD ls j noInput .file ≡ getD (map (λ (o : Input). record { host = false; bytes = o .file }) ls) j noFile .bytes
+bytes-of [] j l = absurd (omega arith)
+bytes-of (o ∷ ls) zero l = refl
+bytes-of (o ∷ ls) (suc j) l = bytes-of ls j (omega arith)
+
+abbrev hostOf : Input → File
+hostOf o = record { host = true; bytes = o .file }
+
+abbrev fileOf : Input → File
+fileOf o = record { host = false; bytes = o .file }
+
+-- refusals 4 to 12
+pub load-refused :
+    (os : List Input) (size address : ℕ) (policy : Policy) (words : ℕ) (m : Met) (a report : List ℕ) → metBy m ≡ loadVerdict size 0 0 (filesOf os)
+    → (m .number ≡ 0 → ⊥) → length a ≡ size → length report ≡ words
+    → settledOf m a report
+    ≡ bindIn (loadVerdict size 0 0 (filesOf os)) (filesOf os) (setOrder (filesOf os) (namesOf os)) size address policy words
+unfolding bindIn settledOf outcomeOf verdict
+load-refused os size address policy words m a report e ne la lr = rw (← e, ne-eqb (m .number) 0 ne, la, lr)
+
+ordered-stub :
+    (address size : ℕ) (table : List ℕ) (h p : Input) (ls : List Input) (arena a : List ℕ) (order : Order)
+    → take (order .count) (order .list) ≡ setOrder (filesOf (h ∷ (p ∷ ls))) (namesOf (h ∷ (p ∷ ls)))
+ordered-stub = ?
+
+-- a set that was loaded
+module _
+    (address size : ℕ) (table : List ℕ) (h p : Input) (ls : List Input) (arena a : List ℕ) (r : Met)
+    (ready : Ready (h ∷ (p ∷ ls)) (length ls + 2) arena address) (len : length arena ≡ size) (kept : length a ≡ length arena)
+    (made : Prepared (filesOf (h ∷ (p ∷ ls))) arena a table r) (z : r .number ≡ 0)
+  where
+    abbrev fs : List File
+    fs = map fileOf ls
+
+    abbrev made-set : objects.Objs
+    made-set = objsOf (objectAt address) (hostOf h) (fileOf p) fs
+
+    many : objects.count made-set ≡ length ls + 2
+    many =
+        let n : length fs ≡ length ls = length-map ls fileOf in
+        omega (arith, count-is address size (hostOf h) (fileOf p) fs)
+
+    not-host : (k : ℕ) → 1 ≤ k → k < length ls + 2 → getD (hostOf h ∷ (fileOf p ∷ fs)) k noFile .host ≡ false
+    not-host zero l g = absurd (omega arith)
+    not-host (suc zero) l g = refl
+    not-host (suc (suc j)) l g = hosts ls j (omega arith)
+
+    pub files-are :
+        (k : ℕ) → k < length ls + 2 → getD (h ∷ (p ∷ ls)) k noInput .file ≡ getD (hostOf h ∷ (fileOf p ∷ fs)) k noFile .bytes
+    files-are zero g = refl
+    files-are (suc zero) g = refl
+    files-are (suc (suc j)) g = bytes-of ls j (omega arith)
+
+    pub loaded : LoadedSet address size table (hostOf h) (fileOf p) fs
+    unfolding filesOf
+    loaded =
+        record {
+          others = λ k l g. not-host k l (omega (arith, many));
+          loads = subst (λ (n : ℕ). loadVerdict n 0 0 (hostOf h ∷ (fileOf p ∷ fs)) ≡ passed) len (sym (made .met) ∙ passed-of r z);
+          seats = made .table z;
+          end = omega (arith, ready .end);
+          small = omega (arith, ready .small);
+        }
+
+    pub placed-arena : mem a ≡ placed made-set
+    unfolding filesOf
+    placed-arena =
+        made .arena z
+        ∙ (ap (placeFiles (hostOf h ∷ (fileOf p ∷ fs)) 0) (ap mem (ready .zeros) ∙ fun-ext (zero-at (length arena)))
+        ∙ sym (placed-is address (hostOf h) (fileOf p) fs))
+
+    -- the order that the code made is the order of the set
+    pub ordered :
+        (order : Order) → Arranged (h ∷ (p ∷ ls)) (length ls + 2) a table order
+        → take (order .count) (order .list) ≡ setOrder (filesOf (h ∷ (p ∷ ls))) (namesOf (h ∷ (p ∷ ls)))
+    ordered order o = ordered-stub address size table h p ls arena a order
+
+    -- 14 to 20: the objects were relocated in the order of the set
+    pub bound-set :
+        (policy : Policy) (words : ℕ) (order : List ℕ) → order ≡ setOrder (filesOf (h ∷ (p ∷ ls))) (namesOf (h ∷ (p ∷ ls)))
+        → (report : List ℕ) → report ≡ replicate words 0
+        → (q : Progress) (a′ report′ : List ℕ)
+        → left q a′ report′ ≡ runOrder address table (length ls + 2) (h ∷ (p ∷ ls)) order (left started a report)
+        → (m : Met) → metBy m ≡ endsBy policy q
+        → settledOf m a′ report′
+        ≡ bindIn (loadVerdict size 0 0 (filesOf (h ∷ (p ∷ ls)))) (filesOf (h ∷ (p ∷ ls)))
+        (setOrder (filesOf (h ∷ (p ∷ ls))) (namesOf (h ∷ (p ∷ ls)))) size address policy words
+    unfolding filesOf bindIn objectsOf
+    bound-set policy words order o report zeros q a′ report′ e m me =
+        let once : OnceEach (objects.count made-set) order = subst (λ (l : List ℕ). OnceEach (objects.count made-set) l) (sym o)
+        (order-is address (hostOf h) (fileOf p) fs (namesOf (h ∷ (p ∷ ls))) (names-length h p ls ∙ sym (length-map ls fileOf))) in
+        let n : length a ≡ size = kept ∙ len in
+        let run : left q a′ report′ ≡ runOrder address table (objects.count made-set) (h ∷ (p ∷ ls)) order (left started a report) = rw many e in
+        let ended = relocated.relocated-is address size table (hostOf h) (fileOf p) fs loaded (h ∷ (p ∷ ls)) (λ k l. files-are k (omega (arith, many)))
+        order once words a report placed-arena n zeros q a′ report′ run in
+        relocated-set address size table (hostOf h) (fileOf p) fs policy order words q a′ report′ ended m me
+        ∙ rw (o, loaded .loads)
+
+-- whatever objects the table of parts names
+pub bind-is :
+    (os : List Input) (count : ℕ) (arena a table : List ℕ) (address : ℕ) (r : Met) → Ready os count arena address → length a ≡ length arena
+    → Prepared (filesOf os) arena a table r → r .number ≡ 0 → (order : Order) → Arranged os count a table order
+    → (policy : Policy) (report : List ℕ) → report ≡ replicate (length report) 0
+    → (q : Progress) (a′ report′ : List ℕ)
+    → left q a′ report′ ≡ runOrder address table count os (take (order .count) (order .list)) (left started a report)
+    → (m : Met) → metBy m ≡ endsBy policy q → BoundSet os arena address policy report a′ report′ m
+bind-is [] count arena a table address r ready kept made z order o policy report zeros q a′ report′ e m me =
+    absurd (omega (arith, ready .many, ready .two))
+bind-is (h ∷ []) count arena a table address r ready kept made z order o policy report zeros q a′ report′ e m me =
+    absurd (omega (arith, ready .many, ready .two))
+bind-is (h ∷ (p ∷ ls)) count arena a table address r ready kept made z order o policy report zeros q a′ report′ e m me =
+    let c : count ≡ length ls + 2 = omega (arith, ready .many) in
+    let ready′ : Ready (h ∷ (p ∷ ls)) (length ls + 2) arena address = subst (λ (n : ℕ). Ready (h ∷ (p ∷ ls)) n arena address) c ready in
+    bound-set address (length arena) table h p ls arena a r ready′ refl kept made z policy (length report) (take (order .count) (order .list))
+    (ordered address (length arena) table h p ls arena a r ready′ refl kept made z order
+    (subst (λ (n : ℕ). Arranged (h ∷ (p ∷ ls)) n a table order) c o))
+    report zeros q a′ report′ (rw (← c) e) m me
+
+-- ---- 1 to 3
+
+module _
+    (sheet bytes : List ℕ) (size address : ℕ) (policy : Policy) (words : ℕ) (a report : List ℕ) (la : length a ≡ size)
+    (lr : length report ≡ words)
+  where
+    pub call-one :
+        sheetOk sheet (length bytes) ≡ false
+        → settledOf (record { number = 1; object = 0 }) a report ≡ bindOf sheet bytes size address policy words
+    unfolding bindOf bindIn prepareVerdict unless outcomeOf settledOf
+    call-one e = rw (e, la, lr)
+
+    module _ (e : sheetOk sheet (length bytes) ≡ true) where
+      pub call-two :
+          arenaOk size address ≡ false
+          → settledOf (record { number = 2; object = 0 }) a report ≡ bindOf sheet bytes size address policy words
+      unfolding bindOf bindIn prepareVerdict unless outcomeOf settledOf
+      call-two g = rw (e, g, la, lr)
+
+      module _ (g : arenaOk size address ≡ true) where
+        pub call-three :
+            (t : ℕ) → t ≡ twinOf (setOf sheet bytes) → (t ≡ 0 → ⊥)
+            → settledOf (record { number = 3; object = t }) a report ≡ bindOf sheet bytes size address policy words
+        unfolding bindOf bindIn prepareVerdict unless outcomeOf settledOf
+        call-three t q ne = rw (e, g, ← q, ne-eqb t 0 ne, la, lr)
+
+        pub call-binds :
+            twinOf (setOf sheet bytes) ≡ 0
+            → bindIn (loadVerdict size 0 0 (filesOf (setOf sheet bytes))) (filesOf (setOf sheet bytes))
+            (setOrder (filesOf (setOf sheet bytes)) (namesOf (setOf sheet bytes))) size address policy words
+            ≡ bindOf sheet bytes size address policy words
+        unfolding bindOf prepareVerdict unless
+        call-binds q = rw (e, g, eq-eqb (twinOf (setOf sheet bytes)) 0 q)
