@@ -1,0 +1,20 @@
+-- `binder::turn::turn_of` meets its contract. Assumes nothing.
+use borrow.Author.Needs.{needs}
+use Rattle.binder.proofs.turn.turn_of.Statement.{statement}
+use Rattle.binder.proofs.turn.turn_of.Tie as tie
+use Rattle.binder.proofs.turn.turn_of.Reads as reads
+use Rattle.binder.proofs.turn.turn_of.Lts as lts
+use Rattle.binder.proofs.seats.seat_at.Reads as seat-at-reads
+use Rattle.words.proofs.bytes.sum_u64.Reads as sum-u64-reads
+
+seat-at-requires : tie.Need-seat-at-requires
+seat-at-requires c κs = search needs
+
+sum-u64-requires : tie.Need-sum-u64-requires
+sum-u64-requires c κs = search needs
+
+returns : tie.Need-returns
+returns c = cc
+
+pub turn-of-spec : {M : Type 1} → statement M
+turn-of-spec = tie.close (tie.spec seat-at-requires sum-u64-requires returns)

@@ -1,0 +1,47 @@
+-- `binder::turn::write_word` meets its contract. Assumes nothing.
+use mathlib.Core.Path.{_≡_, sym, _∙_}
+use denote.Ref.{now}
+use native.Mathlib.Omega.{arith}
+use Rattle.words.specs.Words.{byteOf}
+use Rattle.words.proofs.Slices.{patch-past, put-tail}
+use borrow.Author.Needs.{needs}
+use Rattle.binder.proofs.turn.write_word.Statement.{statement}
+use Rattle.binder.proofs.turn.write_word.Tie as tie
+use Rattle.binder.proofs.turn.write_word.Reads as reads
+use Rattle.binder.proofs.turn.write_word.Lts as lts
+use Rattle.words.proofs.bytes.store_u64.Reads as store-u64-reads
+
+returns : tie.Need-returns
+returns c = sym (patch-past _ _ _ _ (omega arith))
+
+sub-store-u64 : tie.Need-sub-store-u64
+sub-store-u64 c = search needs
+
+part-store-u64-start : tie.Need-part-store-u64-start
+part-store-u64-start c = search needs
+
+part-store-u64-end : tie.Need-part-store-u64-end
+part-store-u64-end c = search needs
+
+store-u64-requires : tie.Need-store-u64-requires
+store-u64-requires c κs = search needs
+
+same-length : tie.Need-same-length
+same-length c = search needs
+
+returns-2 : tie.Need-returns-2
+returns-2 c =
+    let a = c .before .before .before .before .before .before .args in
+    put-tail (now (a .arena)) (a .off) (a .place) 8 (byteOf (a .v)) (omega arith) (c .before .before .store-u64 .ensures)
+
+pub write-word-spec : {M : Type 1} → statement M
+write-word-spec =
+    tie.close
+    (tie.spec
+    returns
+    sub-store-u64
+    part-store-u64-start
+    part-store-u64-end
+    store-u64-requires
+    same-length
+    returns-2)
