@@ -1,0 +1,136 @@
+-- `binder::relr::add_bits` meets its contract. Assumes nothing.
+use borrow.Author.Needs.{needs}
+use mathlib.Core.Path.{_≡_, refl, sym, ap, _∙_}
+use Prim.Native.Nat.{ℕ, zero, suc, _+_, _-_, _*_, _≤_}
+use native.Mathlib.Omega.{arith}
+use denote.Ref.{now}
+use lib.ListN.{length, take}
+use mathlib.Core.Logic.{⊎-elim}
+use mathlib.Core.Bool.{Bool, true, false}
+use mathlib.Core.List.{List}
+use Prim.Native.Nat.{_<_, _/_, _%_}
+use borrow.Author.Tests.{eq-eqb, ne-eqb, not-true, not-false}
+use Rattle.object.specs.TableBytes.{inWritable}
+use Rattle.object.specs.declared.program_header.Segment.{Segment}
+use Rattle.binder.specs.declared.turn.Turn.{Turn}
+use Rattle.binder.specs.Relocating.{summed, far, wordAdded, addBits}
+use Rattle.binder.proofs.relr.add_bits.Statement.{statement}
+use Rattle.binder.proofs.relr.add_bits.Tie as tie
+use Rattle.binder.proofs.relr.add_bits.Reads as reads
+use Rattle.binder.proofs.relr.add_bits.Lts as lts
+use Rattle.binder.proofs.relr.add_word.Reads as add-word-reads
+use Rattle.object.proofs.table_bytes.in_writable.Reads as in-writable-reads
+
+-- one turn: the bit is 0; it is 1, and its word may be written, or not
+module _ (t : Turn) (ss : List Segment) where
+  bit-0 : (n p bits : ℕ) (a : List ℕ) → 0 < n → ¬ (bits % 2 ≡ 1) → addBits t ss n p bits a ≡ addBits t ss (n - 1) (p + 8) (bits / 2) a
+  unfolding addBits
+  bit-0 zero p bits a h e = absurd (omega arith)
+  bit-0 (suc n) p bits a h e =
+      let z : suc n - 1 ≡ n = omega arith in
+      rw (z, ne-eqb _ _ e) refl
+
+  bit-1 :
+      (n p bits : ℕ) (a : List ℕ) → 0 < n → bits % 2 ≡ 1 → inWritable ss p 8 ≡ true
+      → addBits t ss n p bits a ≡ addBits t ss (n - 1) (p + 8) (bits / 2) (wordAdded t p a)
+  unfolding addBits
+  bit-1 zero p bits a h e w = absurd (omega arith)
+  bit-1 (suc n) p bits a h e w =
+      let z : suc n - 1 ≡ n = omega arith in
+      rw (z, eq-eqb _ _ e, w) refl
+
+  refused : (n p bits : ℕ) (a : List ℕ) → 0 < n → bits % 2 ≡ 1 → inWritable ss p 8 ≡ false → addBits t ss n p bits a ≡ summed 17 a
+  unfolding addBits
+  refused zero p bits a h e w = absurd (omega arith)
+  refused (suc n) p bits a h e w = rw (eq-eqb _ _ e, w) refl
+
+  none : (n p bits : ℕ) (a : List ℕ) → n ≤ 0 → addBits t ss n p bits a ≡ summed 0 a
+  unfolding addBits
+  none zero p bits a h = refl
+  none (suc n) p bits a h = absurd (omega arith)
+
+abbrev Inv-loop : tie.InvT-loop
+Inv-loop arena₀ t b location bits p₀ left₀ n₀ arena p left n =
+    (length arena ≡ length arena₀) × (n ≤ 63) × (p + 8 * n ≤ far + 504)
+    × (addBits t (take (b .count) (b .segments)) n p left arena ≡ addBits t (take (b .count) (b .segments)) 63 location bits arena₀)
+
+abbrev μ-loop : tie.MeasureT-loop
+μ-loop arena₀ t b location bits p₀ left₀ n₀ arena p left n = n
+
+loop-holds : tie.Need-loop-holds Inv-loop μ-loop
+loop-holds c = (refl, omega arith, omega arith, refl)
+
+in-writable-requires : tie.Need-in-writable-requires Inv-loop μ-loop
+in-writable-requires c κs = search needs
+
+same-length : tie.Need-same-length Inv-loop μ-loop
+same-length c = c .before .before .before .before .loop .inv .0
+
+returns : tie.Need-returns Inv-loop μ-loop
+returns c =
+    let a = c .before .before .before .before .before .before .args in
+    let l = c .before .before .before .before .loop in
+    sym (refused (a .t) (take (a .b .count) (a .b .segments)) (l .n) (l .p) (l .left) (l .arena) (omega arith) (c .before .before .if1 .taken) (sym (c .before .in-writable .ensures) ∙ not-true _ (c .if2 .taken)))
+    ∙ l .inv .3
+
+add-word-requires : tie.Need-add-word-requires Inv-loop μ-loop
+add-word-requires c κs = search needs
+
+add-p : tie.Need-add-p Inv-loop μ-loop
+add-p c = search needs
+
+sub-n : tie.Need-sub-n Inv-loop μ-loop
+sub-n c = search needs
+
+loop-less : tie.Need-loop-less Inv-loop μ-loop
+loop-less c = search needs
+
+loop-again : tie.Need-loop-again Inv-loop μ-loop
+loop-again c =
+    let a = c .before .before .before .before .args in
+    let l = c .before .before .loop in
+    let ss = take (a .b .count) (a .b .segments) in
+    ⊎-elim
+    (λ w. (
+      ap length (w .7) ∙ (w .4 .kept .0 ∙ l .inv .0),
+      omega arith,
+      omega arith,
+      ap (addBits (a .t) ss (l .n - 1) (l .p + 8) (l .left / 2)) (w .7 ∙ w .4 .ensures)
+          ∙ (sym (bit-1 (a .t) ss (l .n) (l .p) (l .left) (l .arena) (omega arith) (w .0 .taken) (sym (w .1 .ensures) ∙ not-false _ (w .2 .left)))
+          ∙ l .inv .3),
+    ))
+    (λ w. (
+      ap length (w .1) ∙ l .inv .0,
+      omega arith,
+      omega arith,
+      ap (addBits (a .t) ss (l .n - 1) (l .p + 8) (l .left / 2)) (w .1)
+          ∙ (sym (bit-0 (a .t) ss (l .n) (l .p) (l .left) (l .arena) (omega arith) (w .0 .left)) ∙ l .inv .3),
+    ))
+    (c .if1 .came)
+
+same-length-2 : tie.Need-same-length-2 Inv-loop μ-loop
+same-length-2 c = c .before .loop .inv .0
+
+returns-2 : tie.Need-returns-2 Inv-loop μ-loop
+returns-2 c =
+    let a = c .before .before .before .args in
+    let l = c .before .loop in
+    sym (none (a .t) (take (a .b .count) (a .b .segments)) (l .n) (l .p) (l .left) (l .arena) (omega arith)) ∙ l .inv .3
+
+pub add-bits-spec : {M : Type 1} → statement M
+add-bits-spec =
+    tie.close
+    (tie.spec
+    Inv-loop
+    μ-loop
+    loop-holds
+    in-writable-requires
+    same-length
+    returns
+    add-word-requires
+    add-p
+    sub-n
+    loop-less
+    loop-again
+    same-length-2
+    returns-2)
