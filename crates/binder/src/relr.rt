@@ -31,7 +31,7 @@ pub(crate) fn add_bits(arena: &mut [u8], t: Turn, b: Bounds, location: usize, bi
 {
     let mut p = location;
     let mut left = bits;
-    let mut n = 63;
+    let mut n = 63u32;
     while 0 < n {
         if left % 2 == 1 {
             if !object::table_bytes::in_writable(b, p, 8) {
