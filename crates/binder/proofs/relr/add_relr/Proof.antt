@@ -1,6 +1,6 @@
 -- `binder::relr::add_relr` meets its contract. Assumes nothing.
-use mathlib.Core.Path.{_≡_, refl, sym, ap, _∙_}
-use mathlib.Core.Bool.{Bool, true, false}
+use mathlib.Core.Path.{_≡_, refl, sym, _∙_}
+use mathlib.Core.Bool.{true, false}
 use mathlib.Core.List.{List}
 use Prim.Native.Nat.{ℕ, _+_, min}
 use denote.Ref.{now}
@@ -11,7 +11,7 @@ use Rattle.object.specs.declared.program_header.Segment.{Segment}
 use Rattle.object.specs.declared.relocate.Relr.{Relr}
 use Rattle.object.specs.declared.relocate.Relr.the-variants.{Address, Bitmap}
 use Rattle.binder.specs.declared.turn.Turn.{Turn}
-use Rattle.binder.specs.Relocating.{far, summed, shifted, wordAdded, addBits, addRelr, bitsAdded}
+use Rattle.binder.specs.Relocating.{far, summed, shifted, wordAdded, addBits, addRelr}
 use borrow.Author.Needs.{needs}
 use Rattle.binder.proofs.relr.add_relr.Statement.{statement}
 use Rattle.binder.proofs.relr.add_relr.Tie as tie

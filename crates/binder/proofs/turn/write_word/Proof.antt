@@ -1,5 +1,5 @@
 -- `binder::turn::write_word` meets its contract. Assumes nothing.
-use mathlib.Core.Path.{_≡_, sym, _∙_}
+use mathlib.Core.Path.{sym}
 use denote.Ref.{now}
 use native.Mathlib.Omega.{arith}
 use Rattle.words.specs.Words.{byteOf}
