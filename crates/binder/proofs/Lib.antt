@@ -14,6 +14,7 @@ pub mod OrderReported
 pub mod ScopeLaws
 pub mod ScopeIs
 pub mod QueryLaws
+pub mod NeedsLaws
 pub mod QueryIs
 pub mod Steady
 pub mod SteadyLaws

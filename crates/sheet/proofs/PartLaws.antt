@@ -136,7 +136,7 @@ pub input-past : (bs : List ℕ) (p : Parts) (k : ℕ) → min (p .count) (lengt
 input-past bs p k h = List·getD-eq-default (inputsIn bs p) noInput (omega (arith, inputs-length bs p))
 
 -- taking no more than there is
-take-short : {A : Type 0} (k len : ℕ) (l : List A) → k ≡ min len (length l) → take k l ≡ take len l
+pub take-short : {A : Type 0} (k len : ℕ) (l : List A) → k ≡ min len (length l) → take k l ≡ take len l
 take-short {A} k len l e = go (decLe len (length l))
   where
     go : Dec (len ≤ length l) → take k l ≡ take len l
