@@ -4,9 +4,22 @@ use mathlib.Core.Bool.{Bool, true, false}
 use mathlib.Core.List.{List, [], _∷_, map}
 use Prim.Native.Nat.{ℕ, zero, suc, _+_, _-_, _*_, _≤_, _<_, min}
 use native.Mathlib.Omega.{arith}
-use lib.ListN.{length, getD, take, drop, drop-of-length-le}
+use native.Mathlib.Decide.{decLt}
+use mathlib.Core.Logic.{inl, inr}
+use lib.ListN.{length, getD, take, drop, replicate, drop-of-length-le, length-map, getD-replicate, length-replicate, List·getD-eq-default}
+use lib.Seq.{getD-take}
 use Rattle.words.specs.Choice.{pick}
-use Rattle.words.specs.Names.{sameBytes}
+use Rattle.words.specs.Names.{sameBytes, nameAt}
+use Rattle.words.specs.Memory as memory
+use Rattle.words.specs.Memory.{Mem, mem, write, patch}
+use Rattle.words.proofs.Memory.{write-in, write-out}
+use Rattle.words.proofs.Slices.{patch-none, patch-same, mem-patch}
+use Rattle.object.specs.DynamicFields as fields
+use Rattle.object.specs.DynamicFields.{Needed}
+use Rattle.object.specs.ProgramHeader.{dynamicOf}
+use Rattle.object.specs.declared.program_header.Dynamic.{Dynamic}
+use Rattle.object.specs.declared.program_header.Dynamic.the-variants.{Missing, At}
+use Rattle.object.specs.declared.dynamic_array.Needs.{Needs}
 use Rattle.sheet.specs.Sheet.{Input, noInput}
 use Rattle.sheet.specs.Parts as parts
 use Rattle.sheet.specs.Parts.{noPart, inputIn, inputsIn}
@@ -16,6 +29,7 @@ use Rattle.sheet.proofs.SheetLaws.{drop-next}
 use Rattle.sheet.proofs.PartLaws.{take-short, input-at, inputs-length}
 use Rattle.binder.specs.SetOrder.{numberOf}
 use Rattle.binder.specs.Bind.{namesOf}
+use Rattle.binder.specs.Needed.{neededAt, numbersAt, NeedsPut}
 
 -- ---- the search for a library
 
@@ -43,3 +57,104 @@ pub number-cut :
 unfolding numberFrom namesOf parts.inputsIn
 number-cut name bs p count e =
     ap (λ (l : List Part). numberOf name 2 (map (λ o. o .name) (drop 2 (map (inputIn bs) l)))) (take-short count (p .count) (p .list) e)
+
+-- ---- the row of a library
+
+getD-mapped : (f : ℕ → ℕ) (l : List ℕ) (i : ℕ) → i < length l → getD (map f l) i 0 ≡ f (getD l i 0)
+getD-mapped f [] i h = absurd (omega arith)
+getD-mapped f (x ∷ l) zero h = refl
+getD-mapped f (x ∷ l) (suc i) h = getD-mapped f l i (omega arith)
+
+-- the library that the need at the offset `n` of the string table names
+unfoldable pub numberAt : List Input → List ℕ → ℕ → ℕ → ℕ
+numberAt os image strings n = numberOf (nameAt image (strings + n)) 2 (namesOf os)
+
+pub numbers-length : (os : List Input) (image : List ℕ) (strings : ℕ) (d : Dynamic) → length (numbersAt os image strings d) ≡ length (neededAt image d)
+unfolding numbersAt
+numbers-length os image strings d = length-map (neededAt image d) _
+
+module _ (os : List Input) (image : List ℕ) (strings : ℕ) (file : List ℕ) (k : ℕ) (before : List ℕ) where
+  -- of a file that has no dynamic array
+  pub row-none : dynamicOf file ≡ Missing → NeedsPut os image strings file k before before
+  row-none e few = rw e (sym (patch-none before (64 * k) (λ i. getD (numbersAt os image strings Missing) i 0)))
+
+  -- what the loop wrote
+  pub row-is :
+      (at count : ℕ) (n : Needs) (after : List ℕ) → dynamicOf file ≡ At at → Needed (fields.needsOf image at) n → count ≡ min (n .count) 64
+      → after ≡ patch before (64 * k) count (λ i. numberAt os image strings (getD (n .list) i 0))
+      → NeedsPut os image strings file k before after
+  unfolding numbersAt numberAt
+  row-is at count n after d needed e written = rw d go
+    where
+      l : List ℕ
+      l = fields.needsOf image at
+
+      g : ℕ → ℕ
+      g i = numberAt os image strings (getD (n .list) i 0)
+
+      row : ℕ → ℕ
+      row i = getD (numbersAt os image strings (At at)) i 0
+
+      each : length l ≤ 64 → (i : ℕ) → i < length l → g i ≡ row i
+      each few i h =
+          let in-list : i < n .count = omega (arith, needed .count) in
+          ap (numberAt os image strings) (sym (getD-take (n .count) (n .list) i 0 in-list) ∙ ap (λ (t : List ℕ). getD t i 0) (needed .list few))
+          ∙ sym (getD-mapped (numberAt os image strings) l i h)
+
+      go : length l ≤ 64 → after ≡ patch before (64 * k) (length l) row
+      go few =
+          let many : count ≡ length l = omega (arith, needed .count) in
+          written ∙ (ap (λ (c : ℕ). patch before (64 * k) c g) many ∙ patch-same before (64 * k) (length l) g row (each few))
+
+-- ---- the rows of all libraries
+
+-- those before object `k` are filled, and nothing else is
+abbrev pub FilledTo : (ℕ → List ℕ) → ℕ → List ℕ → Type 0
+FilledTo needs k table =
+    ((j : ℕ) → 2 ≤ j → j < k → (i : ℕ) → i < 64 → mem table (64 * j + i) ≡ mem (needs j) i)
+    × ((p : ℕ) → 64 * k ≤ p → mem table p ≡ 0)
+
+pub filled-none : (needs : ℕ → List ℕ) (table : List ℕ) → table ≡ replicate 4096 0 → FilledTo needs 2 table
+unfolding memory.mem
+filled-none needs table e =
+    (λ j a b. absurd (omega arith), λ p h. ap (λ (t : List ℕ). getD t p 0) e ∙ go p (decLt p 4096))
+  where
+    zeros : List ℕ
+    zeros = replicate 4096 0
+
+    many : length zeros ≡ 4096
+    many = length-replicate {A = ℕ} 4096 0
+
+    go : (p : ℕ) → Dec (p < 4096) → getD zeros p 0 ≡ 0
+    go p (yes h) = getD-replicate 4096 p 0 0 h
+    go p (no h) = List·getD-eq-default zeros 0 {n = p} (omega (arith, many))
+
+-- one row more
+module _
+    (needs : ℕ → List ℕ) (k n : ℕ) (before : List ℕ) (h : k < 64) (len : length before ≡ 4096) (many : length (needs k) ≡ n) (few : n ≤ 64)
+    (f : FilledTo needs k before)
+  where
+    abbrev row : ℕ → ℕ
+    row i = getD (needs k) i 0
+
+    at : (p : ℕ) → mem (patch before (64 * k) n row) p ≡ write (mem before) (64 * k) n row p
+    at p = ap (λ (m : Mem). m p) (mem-patch before (64 * k) n row (omega arith))
+
+    mine : (i : ℕ) → i < 64 → Dec (i < n) → mem (patch before (64 * k) n row) (64 * k + i) ≡ mem (needs k) i
+    unfolding memory.mem
+    mine i l (yes b) = at (64 * k + i) ∙ (write-in (mem before) (64 * k) n row (64 * k + i) (omega arith) ∙ ap row (omega arith))
+    mine i l (no b) =
+        at (64 * k + i)
+        ∙ (write-out (mem before) (64 * k) n row (64 * k + i) (inr (omega arith))
+        ∙ (f .1 (64 * k + i) (omega arith) ∙ sym (List·getD-eq-default (needs k) 0 {n = i} (omega arith))))
+
+    every : (j : ℕ) → 2 ≤ j → j < k + 1 → (i : ℕ) → i < 64 → Dec (j < k) → mem (patch before (64 * k) n row) (64 * j + i) ≡ mem (needs j) i
+    every j a b i l (yes c) =
+        at (64 * j + i) ∙ (write-out (mem before) (64 * k) n row (64 * j + i) (inl (omega arith)) ∙ f .0 j a c i l)
+    every j a b i l (no c) = let z : j ≡ k = omega arith in rw z (mine i l (decLt i n))
+
+    pub filled-next : FilledTo needs (k + 1) (patch before (64 * k) n row)
+    filled-next = (
+      λ j a b i l. every j a b i l (decLt j k),
+      λ p l. at p ∙ (write-out (mem before) (64 * k) n row p (inr (omega arith)) ∙ f .1 p (omega arith)),
+    )
