@@ -1,5 +1,5 @@
 -- The loops that fill the table of needs: the search for a library by name, the row of a library, and the rows of all. Assumes nothing.
-use mathlib.Core.Path.{_≡_, refl, sym, ap, _∙_}
+use mathlib.Core.Path.{_≡_, refl, sym, ap, _∙_, subst}
 use mathlib.Core.Bool.{Bool, true, false}
 use mathlib.Core.List.{List, [], _∷_, map}
 use Prim.Native.Nat.{ℕ, zero, suc, _+_, _-_, _*_, _≤_, _<_, min}
@@ -27,9 +27,17 @@ use Rattle.sheet.specs.declared.sheet.Part.{Part}
 use Rattle.sheet.specs.declared.sheet.Parts.{Parts}
 use Rattle.sheet.proofs.SheetLaws.{drop-next}
 use Rattle.sheet.proofs.PartLaws.{take-short, input-at, inputs-length}
+use Rattle.model.specs.Order.{orderOf}
 use Rattle.binder.specs.SetOrder.{numberOf}
+use Rattle.binder.specs.Seats.{seatAt}
+use Rattle.binder.specs.ScopeCode.{imageAt}
+use Rattle.binder.specs.Table as rows
+use Rattle.binder.specs.Table.{Ordered}
+use Rattle.binder.specs.declared.seats.Seat.{Seat}
+use Rattle.binder.specs.declared.order.Order.{Order}
+use Rattle.binder.proofs.ArrangeUses.{table-order}
 use Rattle.binder.specs.Bind.{namesOf}
-use Rattle.binder.specs.Needed.{neededAt, numbersAt, NeedsPut}
+use Rattle.binder.specs.Needed.{neededAt, numbersAt, needsAt, NeedsPut, FewNeeds, Arranged}
 
 -- ---- the search for a library
 
@@ -111,7 +119,7 @@ module _ (os : List Input) (image : List ℕ) (strings : ℕ) (file : List ℕ) 
 -- those before object `k` are filled, and nothing else is
 abbrev pub FilledTo : (ℕ → List ℕ) → ℕ → List ℕ → Type 0
 FilledTo needs k table =
-    ((j : ℕ) → 2 ≤ j → j < k → (i : ℕ) → i < 64 → mem table (64 * j + i) ≡ mem (needs j) i)
+    ((j : ℕ) → 2 ≤ j → j < k → (i : ℕ) → i < 64 → mem table (64 * j + i) ≡ getD (needs j) i 0)
     × ((p : ℕ) → 64 * k ≤ p → mem table p ≡ 0)
 
 pub filled-none : (needs : ℕ → List ℕ) (table : List ℕ) → table ≡ replicate 4096 0 → FilledTo needs 2 table
@@ -140,15 +148,14 @@ module _
     at : (p : ℕ) → mem (patch before (64 * k) n row) p ≡ write (mem before) (64 * k) n row p
     at p = ap (λ (m : Mem). m p) (mem-patch before (64 * k) n row (omega arith))
 
-    mine : (i : ℕ) → i < 64 → Dec (i < n) → mem (patch before (64 * k) n row) (64 * k + i) ≡ mem (needs k) i
-    unfolding memory.mem
+    mine : (i : ℕ) → i < 64 → Dec (i < n) → mem (patch before (64 * k) n row) (64 * k + i) ≡ getD (needs k) i 0
     mine i l (yes b) = at (64 * k + i) ∙ (write-in (mem before) (64 * k) n row (64 * k + i) (omega arith) ∙ ap row (omega arith))
     mine i l (no b) =
         at (64 * k + i)
         ∙ (write-out (mem before) (64 * k) n row (64 * k + i) (inr (omega arith))
         ∙ (f .1 (64 * k + i) (omega arith) ∙ sym (List·getD-eq-default (needs k) 0 {n = i} (omega arith))))
 
-    every : (j : ℕ) → 2 ≤ j → j < k + 1 → (i : ℕ) → i < 64 → Dec (j < k) → mem (patch before (64 * k) n row) (64 * j + i) ≡ mem (needs j) i
+    every : (j : ℕ) → 2 ≤ j → j < k + 1 → (i : ℕ) → i < 64 → Dec (j < k) → mem (patch before (64 * k) n row) (64 * j + i) ≡ getD (needs j) i 0
     every j a b i l (yes c) =
         at (64 * j + i) ∙ (write-out (mem before) (64 * k) n row (64 * j + i) (inl (omega arith)) ∙ f .0 j a c i l)
     every j a b i l (no c) = let z : j ≡ k = omega arith in rw z (mine i l (decLt i n))
@@ -158,3 +165,41 @@ module _
       λ j a b i l. every j a b i l (decLt j k),
       λ p l. at p ∙ (write-out (mem before) (64 * k) n row p (inr (omega arith)) ∙ f .1 p (omega arith)),
     )
+
+-- one turn of the loop
+module _ (os : List Input) (count : ℕ) (arena table : List ℕ) (k : ℕ) (before after : List ℕ) (s : Seat) (image file : List ℕ) where
+  pub fill-next :
+      2 ≤ k → k < count → count ≤ 64 → length before ≡ 4096 → s ≡ seatAt table k → image ≡ imageAt arena s → file ≡ getD os k noInput .file
+      → NeedsPut os image (s .view .strings) file k before after → FewNeeds os count arena table
+      → FilledTo (needsAt os arena table) k before → FilledTo (needsAt os arena table) (k + 1) after
+  fill-next low h room len es ei ef put few f =
+      let at-seat : NeedsPut os (imageAt arena (seatAt table k)) (seatAt table k .view .strings) (getD os k noInput .file) k before after =
+      subst (λ (x : Seat). NeedsPut os (imageAt arena x) (x .view .strings) (getD os k noInput .file) k before after) es
+      (subst (λ (x : List ℕ). NeedsPut os x (s .view .strings) (getD os k noInput .file) k before after) ei
+      (subst (λ (x : List ℕ). NeedsPut os image (s .view .strings) x k before after) ef put)) in
+      let many = numbers-length os (imageAt arena (seatAt table k)) (seatAt table k .view .strings) (dynamicOf (getD os k noInput .file)) in
+      rw (at-seat (few k low h)) (filled-next (needsAt os arena table) k _ before (omega arith) len many (few k low h) f)
+
+-- the table has the order of the needs
+pub filled-order :
+    (os : List Input) (count : ℕ) (arena table filled : List ℕ) → 2 ≤ count → FewNeeds os count arena table
+    → ((k : ℕ) → 2 ≤ k → k < count → (i : ℕ) → i < 64 → mem filled (64 * k + i) ≡ getD (needsAt os arena table k) i 0)
+    → orderOf (rows.needsOf filled) (count - 2) ≡ orderOf (needsAt os arena table) (count - 2)
+unfolding memory.mem
+filled-order os count arena table filled low few holds =
+    table-order (needsAt os arena table) filled (count - 2)
+    (λ k a b.
+    let many = numbers-length os (imageAt arena (seatAt table k)) (seatAt table k .view .strings) (dynamicOf (getD os k noInput .file)) in
+    omega (arith, few k a (omega arith)))
+    (λ k a b i h. let e : k * 64 + i ≡ 64 * k + i = omega arith in ap (mem filled) e ∙ holds k a (omega arith) i h)
+
+pub arranged :
+    (os : List Input) (count : ℕ) (arena table filled : List ℕ) (r : Order) → 2 ≤ count → count ≤ 64 → Ordered filled (count - 2) r
+    → (FewNeeds os count arena table → (k : ℕ) → 2 ≤ k → k < count → (i : ℕ) → i < 64 → mem filled (64 * k + i) ≡ getD (needsAt os arena table k) i 0)
+    → Arranged os count arena table r
+arranged os count arena table filled r low high o holds =
+    let e : min (count - 2) 62 ≡ count - 2 = omega arith in
+    record {
+      order = λ few. o .list ∙ (ap (orderOf (rows.needsOf filled)) e ∙ filled-order os count arena table filled low few (holds few));
+      few = omega (arith, o .count);
+    }
