@@ -15,6 +15,7 @@ pub mod ScopeLaws
 pub mod ScopeIs
 pub mod QueryLaws
 pub mod NeedsLaws
+pub mod NeedsIs
 pub mod QueryIs
 pub mod Steady
 pub mod SteadyLaws

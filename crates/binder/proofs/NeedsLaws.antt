@@ -1,12 +1,13 @@
--- The loops that fill the table of needs: the search for a library by name, the row of a library, and the rows of all. Assumes nothing.
+-- The loops that fill the table of needs: the search for a library by name, the row of a library, the rows of all, and the order that comes
+-- of them. Assumes nothing.
 use mathlib.Core.Path.{_≡_, refl, sym, ap, _∙_, subst}
-use mathlib.Core.Bool.{Bool, true, false}
+use mathlib.Core.Bool.{Bool}
+use mathlib.Core.Logic.{inl, inr}
 use mathlib.Core.List.{List, [], _∷_, map}
 use Prim.Native.Nat.{ℕ, zero, suc, _+_, _-_, _*_, _≤_, _<_, min}
 use native.Mathlib.Omega.{arith}
 use native.Mathlib.Decide.{decLt}
-use mathlib.Core.Logic.{inl, inr}
-use lib.ListN.{length, getD, take, drop, replicate, drop-of-length-le, length-map, getD-replicate, length-replicate, List·getD-eq-default}
+use lib.ListN.{length, getD, drop, replicate, drop-of-length-le, length-map, getD-replicate, length-replicate, List·getD-eq-default}
 use lib.Seq.{getD-take}
 use Rattle.words.specs.Choice.{pick}
 use Rattle.words.specs.Names.{sameBytes, nameAt}
@@ -14,30 +15,30 @@ use Rattle.words.specs.Memory as memory
 use Rattle.words.specs.Memory.{Mem, mem, write, patch}
 use Rattle.words.proofs.Memory.{write-in, write-out}
 use Rattle.words.proofs.Slices.{patch-none, patch-same, mem-patch}
+use Rattle.model.specs.Order.{orderOf}
+use Rattle.object.specs.declared.dynamic_array.Needs.{Needs}
+use Rattle.object.specs.declared.program_header.Dynamic.{Dynamic}
+use Rattle.object.specs.declared.program_header.Dynamic.the-variants.{Missing, At}
 use Rattle.object.specs.DynamicFields as fields
 use Rattle.object.specs.DynamicFields.{Needed}
 use Rattle.object.specs.ProgramHeader.{dynamicOf}
-use Rattle.object.specs.declared.program_header.Dynamic.{Dynamic}
-use Rattle.object.specs.declared.program_header.Dynamic.the-variants.{Missing, At}
-use Rattle.object.specs.declared.dynamic_array.Needs.{Needs}
+use Rattle.sheet.specs.declared.sheet.Part.{Part}
+use Rattle.sheet.specs.declared.sheet.Parts.{Parts}
 use Rattle.sheet.specs.Sheet.{Input, noInput}
 use Rattle.sheet.specs.Parts as parts
 use Rattle.sheet.specs.Parts.{noPart, inputIn, inputsIn}
-use Rattle.sheet.specs.declared.sheet.Part.{Part}
-use Rattle.sheet.specs.declared.sheet.Parts.{Parts}
 use Rattle.sheet.proofs.SheetLaws.{drop-next}
 use Rattle.sheet.proofs.PartLaws.{take-short, input-at, inputs-length}
-use Rattle.model.specs.Order.{orderOf}
-use Rattle.binder.specs.SetOrder.{numberOf}
-use Rattle.binder.specs.Seats.{seatAt}
-use Rattle.binder.specs.ScopeCode.{imageAt}
-use Rattle.binder.specs.Table as rows
-use Rattle.binder.specs.Table.{Ordered}
 use Rattle.binder.specs.declared.seats.Seat.{Seat}
 use Rattle.binder.specs.declared.order.Order.{Order}
-use Rattle.binder.proofs.ArrangeUses.{table-order}
+use Rattle.binder.specs.Seats.{seatAt}
+use Rattle.binder.specs.Table as rows
+use Rattle.binder.specs.Table.{Ordered}
+use Rattle.binder.specs.SetOrder.{numberOf}
 use Rattle.binder.specs.Bind.{namesOf}
+use Rattle.binder.specs.ScopeCode.{imageAt}
 use Rattle.binder.specs.Needed.{neededAt, numbersAt, needsAt, NeedsPut, FewNeeds, Arranged}
+use Rattle.binder.proofs.ArrangeUses.{table-order}
 
 -- ---- the search for a library
 
@@ -77,7 +78,8 @@ getD-mapped f (x ∷ l) (suc i) h = getD-mapped f l i (omega arith)
 unfoldable pub numberAt : List Input → List ℕ → ℕ → ℕ → ℕ
 numberAt os image strings n = numberOf (nameAt image (strings + n)) 2 (namesOf os)
 
-pub numbers-length : (os : List Input) (image : List ℕ) (strings : ℕ) (d : Dynamic) → length (numbersAt os image strings d) ≡ length (neededAt image d)
+numbers-length :
+    (os : List Input) (image : List ℕ) (strings : ℕ) (d : Dynamic) → length (numbersAt os image strings d) ≡ length (neededAt image d)
 unfolding numbersAt
 numbers-length os image strings d = length-map (neededAt image d) _
 
@@ -155,12 +157,14 @@ module _
         ∙ (write-out (mem before) (64 * k) n row (64 * k + i) (inr (omega arith))
         ∙ (f .1 (64 * k + i) (omega arith) ∙ sym (List·getD-eq-default (needs k) 0 {n = i} (omega arith))))
 
-    every : (j : ℕ) → 2 ≤ j → j < k + 1 → (i : ℕ) → i < 64 → Dec (j < k) → mem (patch before (64 * k) n row) (64 * j + i) ≡ getD (needs j) i 0
+    every :
+        (j : ℕ) → 2 ≤ j → j < k + 1 → (i : ℕ) → i < 64 → Dec (j < k)
+        → mem (patch before (64 * k) n row) (64 * j + i) ≡ getD (needs j) i 0
     every j a b i l (yes c) =
         at (64 * j + i) ∙ (write-out (mem before) (64 * k) n row (64 * j + i) (inl (omega arith)) ∙ f .0 j a c i l)
     every j a b i l (no c) = let z : j ≡ k = omega arith in rw z (mine i l (decLt i n))
 
-    pub filled-next : FilledTo needs (k + 1) (patch before (64 * k) n row)
+    filled-next : FilledTo needs (k + 1) (patch before (64 * k) n row)
     filled-next = (
       λ j a b i l. every j a b i l (decLt j k),
       λ p l. at p ∙ (write-out (mem before) (64 * k) n row p (inr (omega arith)) ∙ f .1 p (omega arith)),
@@ -180,8 +184,10 @@ module _ (os : List Input) (count : ℕ) (arena table : List ℕ) (k : ℕ) (bef
       let many = numbers-length os (imageAt arena (seatAt table k)) (seatAt table k .view .strings) (dynamicOf (getD os k noInput .file)) in
       rw (at-seat (few k low h)) (filled-next (needsAt os arena table) k _ before (omega arith) len many (few k low h) f)
 
--- the table has the order of the needs
-pub filled-order :
+-- ---- the order
+
+-- the table has that of the needs
+filled-order :
     (os : List Input) (count : ℕ) (arena table filled : List ℕ) → 2 ≤ count → FewNeeds os count arena table
     → ((k : ℕ) → 2 ≤ k → k < count → (i : ℕ) → i < 64 → mem filled (64 * k + i) ≡ getD (needsAt os arena table k) i 0)
     → orderOf (rows.needsOf filled) (count - 2) ≡ orderOf (needsAt os arena table) (count - 2)
@@ -193,9 +199,11 @@ filled-order os count arena table filled low few holds =
     omega (arith, few k a (omega arith)))
     (λ k a b i h. let e : k * 64 + i ≡ 64 * k + i = omega arith in ap (mem filled) e ∙ holds k a (omega arith) i h)
 
+-- the contract of `order_of`
 pub arranged :
     (os : List Input) (count : ℕ) (arena table filled : List ℕ) (r : Order) → 2 ≤ count → count ≤ 64 → Ordered filled (count - 2) r
-    → (FewNeeds os count arena table → (k : ℕ) → 2 ≤ k → k < count → (i : ℕ) → i < 64 → mem filled (64 * k + i) ≡ getD (needsAt os arena table k) i 0)
+    → (FewNeeds os count arena table
+    → (k : ℕ) → 2 ≤ k → k < count → (i : ℕ) → i < 64 → mem filled (64 * k + i) ≡ getD (needsAt os arena table k) i 0)
     → Arranged os count arena table r
 arranged os count arena table filled r low high o holds =
     let e : min (count - 2) 62 ≡ count - 2 = omega arith in

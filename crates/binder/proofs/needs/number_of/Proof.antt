@@ -35,8 +35,8 @@ returns c =
     let count = c .before .before .before .before .before .before .before .smaller .result in
     let p : Parts = record { list = a .parts .list; count = count } in (
       sym (number-next (now (a .name)) (now (a .bytes)) p (c .before .before .before .before .before .loop .j) true (c .before .before .before .before .loop-test .taken) (omega (arith, whole (c .before .before .before .before .before .before .before .before .before .before))) (ap (sameBytes (now (a .name))) (sym (c .before .before .part-of .ensures)) ∙ sym (c .before .same .ensures) ∙ c .if1 .taken))
-      ∙ c .before .before .before .before .before .loop .inv .2
-      ∙ number-cut (now (a .name)) (now (a .bytes)) (a .parts) count (omega (arith, c .before .before .before .before .before .before .before .smaller .ensures, whole (c .before .before .before .before .before .before .before .before .before .before))),
+          ∙ c .before .before .before .before .before .loop .inv .2
+          ∙ number-cut (now (a .name)) (now (a .bytes)) (a .parts) count (omega (arith, c .before .before .before .before .before .before .before .smaller .ensures, whole (c .before .before .before .before .before .before .before .before .before .before))),
       omega arith,
     )
 
@@ -48,7 +48,7 @@ loop-again c =
       search needs,
       omega arith,
       sym (number-next (now (a .name)) (now (a .bytes)) p (c .before .before .before .before .before .loop .j) false (c .before .before .before .before .loop-test .taken) (omega (arith, whole (c .before .before .before .before .before .before .before .before .before .before))) (ap (sameBytes (now (a .name))) (sym (c .before .before .part-of .ensures)) ∙ sym (c .before .same .ensures) ∙ c .if1 .left))
-      ∙ c .before .before .before .before .before .loop .inv .2,
+          ∙ c .before .before .before .before .before .loop .inv .2,
     )
 
 returns-2 : tie.Need-returns-2 Inv-loop μ-loop
@@ -57,8 +57,8 @@ returns-2 c =
     let count = c .before .before .before .smaller .result in
     let p : Parts = record { list = a .parts .list; count = count } in (
       sym (number-none (now (a .name)) (now (a .bytes)) p (c .before .loop .j) (c .loop-test .left))
-      ∙ c .before .loop .inv .2
-      ∙ number-cut (now (a .name)) (now (a .bytes)) (a .parts) count (omega (arith, c .before .before .before .smaller .ensures, whole (c .before .before .before .before .before .before))),
+          ∙ c .before .loop .inv .2
+          ∙ number-cut (now (a .name)) (now (a .bytes)) (a .parts) count (omega (arith, c .before .before .before .smaller .ensures, whole (c .before .before .before .before .before .before))),
       omega arith,
     )
 

@@ -42,8 +42,8 @@ loop-again c =
       search needs,
       omega arith,
       patch-next (now (a .needs)) (64 * a .k) (c .before .before .before .loop .i) _ (c .before .before .before .loop .inv .4)
-      (ap (λ (v : ℕ). set (c .before .before .before .loop .needs) (64 * a .k + c .before .before .before .loop .i) v)
-      (c .number-of .ensures .0 ∙ ap (λ (n : List ℕ). numberOf n 2 names) (c .before .name-off .ensures))),
+          (ap (λ (v : ℕ). set (c .before .before .before .loop .needs) (64 * a .k + c .before .before .before .loop .i) v)
+          (c .number-of .ensures .0 ∙ ap (λ (n : List ℕ). numberOf n 2 names) (c .before .name-off .ensures))),
     )
 
 returns-2 : tie.Need-returns-2 Inv-loop μ-loop

@@ -1,0 +1,116 @@
+-- The order that the code reads off a loaded set is the definition's: the needs that it finds in the arena are those of the files. Assumes
+-- nothing.
+use mathlib.Core.Path.{_≡_, refl, sym, ap, _∙_}
+use mathlib.Core.Bool.{Bool}
+use mathlib.Core.List.{List, [], _∷_}
+use Prim.Native.Nat.{ℕ, zero, suc, _+_, _-_, _≤_, _<_}
+use native.Mathlib.Omega.{arith}
+use borrow.Author.Tests.{leb-true}
+use lib.Dec.{leb}
+use lib.ListN.{length, getD, take, drop, length-drop, length-map}
+use Rattle.model.specs.Order.{keep, orderOf}
+use Rattle.model.proofs.OrderSame.{order-same}
+use Rattle.object.specs.declared.program_header.Segment.{Segment}
+use Rattle.object.specs.declared.program_header.Dynamic.{Dynamic}
+use Rattle.object.specs.declared.program_header.Dynamic.the-variants.{Missing, At}
+use Rattle.object.specs.declared.hash_tables.View.{View}
+use Rattle.object.specs.DynamicFields.{fieldsOf, needsOf}
+use Rattle.object.specs.ProgramHeader.{dynamicOf}
+use Rattle.object.specs.Record as records
+use Rattle.object.specs.Record.{viewOf, fieldsRefusal, readRefusal}
+use Rattle.object.specs.Placed.{segmentsOf, objectSpan, placeRefusal}
+use Rattle.object.specs.Loaded as loading
+use Rattle.object.specs.Loaded.{objectRefusal}
+use Rattle.object.proofs.RefusalLaws.{required, after-zero}
+use Rattle.sheet.specs.Sheet.{Input, noInput}
+use Rattle.binder.specs.Instance.{File, imageOf, recordOf}
+use Rattle.binder.specs.Verdict.{passed, verdict, loadVerdict, noFile}
+use Rattle.binder.specs.Bind.{filesOf, namesOf}
+use Rattle.binder.specs.SetOrder as sets
+use Rattle.binder.specs.SetOrder.{setOrder}
+use Rattle.binder.specs.Seats.{seatAt}
+use Rattle.binder.specs.ScopeCode.{imageAt}
+use Rattle.binder.specs.Needed.{neededAt, numbersAt, needsAt, FewNeeds, Arranged}
+use Rattle.binder.specs.declared.order.Order.{Order}
+use Rattle.binder.proofs.OutcomeLaws.{first-passed, verdict-passed}
+use Rattle.binder.proofs.PrepareLaws.{file-at, files-length}
+
+-- ---- one object
+
+-- its record was read: refusals 9 to 12 were passed
+abbrev ReadFrom : File → Type 0
+ReadFrom f = readRefusal (f .host) (imageOf f) (segmentsOf (f .host) (f .bytes)) (dynamicOf (f .bytes)) ≡ 0
+
+read-passed :
+    (size : ℕ) (files : List File) (n off k : ℕ) → loadVerdict size n off files ≡ passed → k < length files → ReadFrom (getD files k noFile)
+unfolding loadVerdict loading.objectRefusal
+read-passed size [] n off k v h = absurd (omega arith)
+read-passed size (f ∷ fs) n off zero v h =
+    let a = first-passed (verdict (objectRefusal (f .host) (size - off) (f .bytes)) n) _ v in
+    after-zero (placeRefusal (f .host) (size - off) (f .bytes)) _ (verdict-passed (objectRefusal (f .host) (size - off) (f .bytes)) n (a .0)) .1
+read-passed size (f ∷ fs) n off (suc k) v h =
+    let a = first-passed (verdict (objectRefusal (f .host) (size - off) (f .bytes)) n) _ v in
+    read-passed size fs (n + 1) (off + objectSpan (f .host) (f .bytes)) k (a .1) (omega arith)
+
+module _ (host : Bool) (image : List ℕ) (segments : List Segment) where
+  -- refusal 11: "over 64 needs"
+  needs-few : (d : Dynamic) → readRefusal host image segments d ≡ 0 → length (neededAt image d) ≤ 64
+  unfolding readRefusal
+  needs-few Missing e = omega arith
+  needs-few (At at) e =
+      let a = after-zero (fieldsRefusal (fieldsOf image at)) _ e in
+      leb-true (length (needsOf image at)) 64 (required (leb (length (needsOf image at)) 64) 10 _ (a .1) .0)
+
+  needed-is : (d : Dynamic) → readRefusal host image segments d ≡ 0 → records.recordOf image segments d .needed ≡ neededAt image d
+  unfolding readRefusal records.recordOf records.recordIn
+  needed-is Missing e = absurd (omega arith)
+  needed-is (At at) e = refl
+
+-- what is read where the image, the string table and the dynamic array are the file's
+numbers-are :
+    (os : List Input) (f : File) (image : List ℕ) (strings : ℕ) (d : Dynamic) → image ≡ imageOf f → strings ≡ recordOf f .strings
+    → d ≡ dynamicOf (f .bytes) → ReadFrom f → numbersAt os image strings d ≡ sets.needsOf (namesOf os) f
+unfolding numbersAt sets.needsOf loading.objectRecord
+numbers-are os f image strings d ei es ed read =
+    let needed : recordOf f .needed ≡ neededAt (imageOf f) (dynamicOf (f .bytes)) =
+    needed-is (f .host) (imageOf f) (segmentsOf (f .host) (f .bytes)) (dynamicOf (f .bytes)) read in
+    rw (ei, es, ed, needed)
+
+-- ---- a loaded set
+
+module _
+    (size : ℕ) (table arena : List ℕ) (os : List Input) (loads : loadVerdict size 0 0 (filesOf os) ≡ passed)
+    (views : (k : ℕ) → 2 ≤ k → k < length os → seatAt table k .view ≡ viewOf (recordOf (getD (filesOf os) k noFile)))
+    (images : (k : ℕ) → 2 ≤ k → k < length os → imageAt arena (seatAt table k) ≡ imageOf (getD (filesOf os) k noFile))
+  where
+    abbrev file : ℕ → File
+    file k = getD (filesOf os) k noFile
+
+    read : (k : ℕ) → k < length os → ReadFrom (file k)
+    read k h = read-passed size (filesOf os) 0 0 k loads (omega (arith, files-length os))
+
+    dynamic : (k : ℕ) → k < length os → dynamicOf (getD os k noInput .file) ≡ dynamicOf (file k .bytes)
+    dynamic k h = ap (λ (f : File). dynamicOf (f .bytes)) (sym (file-at os k h))
+
+    few-needs : FewNeeds os (length os) arena table
+    few-needs k a b =
+        rw (images k a b, dynamic k b)
+        (needs-few (file k .host) (imageOf (file k)) (segmentsOf (file k .host) (file k .bytes)) (dynamicOf (file k .bytes)) (read k b))
+
+    needs-are : (k : ℕ) → 2 ≤ k → k < length os → needsAt os arena table k ≡ sets.needsOf (namesOf os) (file k)
+    needs-are k a b =
+        numbers-are os (file k) _ _ _ (images k a b) (ap (λ (v : View). v .strings) (views k a b)) (dynamic k b) (read k b)
+
+    names-many : length (namesOf os) ≡ length os - 2
+    unfolding namesOf
+    names-many = length-map (drop 2 os) (λ o. o .name) ∙ length-drop 2 os
+
+    order-are : orderOf (needsAt os arena table) (length os - 2) ≡ setOrder (filesOf os) (namesOf os)
+    unfolding setOrder
+    order-are =
+        order-same (needsAt os arena table) (λ k. sets.needsOf (namesOf os) (file k)) (length os - 2)
+        (λ k a b. ap (keep (length os - 2)) (needs-are k a (omega arith)))
+        ∙ ap (orderOf (λ k. sets.needsOf (namesOf os) (file k))) (sym names-many)
+
+    pub order-read : (r : Order) → Arranged os (length os) arena table r → take (r .count) (r .list) ≡ setOrder (filesOf os) (namesOf os)
+    order-read r made = made .order few-needs ∙ order-are
