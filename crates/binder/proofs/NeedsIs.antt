@@ -2,12 +2,14 @@
 -- nothing.
 use mathlib.Core.Path.{_≡_, refl, sym, ap, _∙_}
 use mathlib.Core.Bool.{Bool}
-use mathlib.Core.List.{List, [], _∷_}
+use mathlib.Core.List.{List, [], _∷_, map}
 use Prim.Native.Nat.{ℕ, zero, suc, _+_, _-_, _≤_, _<_}
 use native.Mathlib.Omega.{arith}
 use borrow.Author.Tests.{leb-true}
 use lib.Dec.{leb}
 use lib.ListN.{length, getD, take, drop, length-drop, length-map}
+use Rattle.model.specs.Objects.{count}
+use Rattle.model.specs.Layout.{objsOf}
 use Rattle.model.specs.Order.{keep, orderOf}
 use Rattle.model.proofs.OrderSame.{order-same}
 use Rattle.object.specs.declared.program_header.Segment.{Segment}
@@ -23,7 +25,7 @@ use Rattle.object.specs.Loaded as loading
 use Rattle.object.specs.Loaded.{objectRefusal}
 use Rattle.object.proofs.RefusalLaws.{required, after-zero}
 use Rattle.sheet.specs.Sheet.{Input, noInput}
-use Rattle.binder.specs.Instance.{File, imageOf, recordOf}
+use Rattle.binder.specs.Instance.{File, imageOf, recordOf, objectAt}
 use Rattle.binder.specs.Verdict.{passed, verdict, loadVerdict, noFile}
 use Rattle.binder.specs.Bind.{filesOf, namesOf}
 use Rattle.binder.specs.SetOrder as sets
@@ -32,8 +34,13 @@ use Rattle.binder.specs.Seats.{seatAt}
 use Rattle.binder.specs.ScopeCode.{imageAt}
 use Rattle.binder.specs.Needed.{neededAt, numbersAt, needsAt, FewNeeds, Arranged}
 use Rattle.binder.specs.declared.order.Order.{Order}
+use Rattle.binder.specs.declared.seats.Seat.{Seat}
 use Rattle.binder.proofs.OutcomeLaws.{first-passed, verdict-passed}
 use Rattle.binder.proofs.PrepareLaws.{file-at, files-length}
+use Rattle.binder.proofs.FileLaws.{hostFile, fileOf}
+use Rattle.binder.proofs.SoundLaws.{count-is}
+use Rattle.binder.proofs.Steady as steady
+use Rattle.binder.proofs.Steady.{LoadedSet, PlacedAt}
 
 -- ---- one object
 
@@ -114,3 +121,22 @@ module _
 
     pub order-read : (r : Order) → Arranged os (length os) arena table r → take (r .count) (r .list) ≡ setOrder (filesOf os) (namesOf os)
     order-read r made = made .order few-needs ∙ order-are
+
+-- in the words of Steady: every object lies at its seat, and its bytes are as they were placed
+module _ (address size : ℕ) (table arena : List ℕ) (h p : Input) (ls : List Input) where
+  abbrev objects : ℕ
+  objects = count (objsOf (objectAt address) (hostFile h) (fileOf p) (map fileOf ls))
+
+  pub order-loaded :
+      LoadedSet address size table (hostFile h) (fileOf p) (map fileOf ls)
+      → ((k : ℕ) → k < objects → steady.At address size table (hostFile h) (fileOf p) (map fileOf ls) k)
+      → ((k : ℕ) → k < objects → PlacedAt address size table (hostFile h) (fileOf p) (map fileOf ls) arena k)
+      → (r : Order) → Arranged (h ∷ (p ∷ ls)) (length (h ∷ (p ∷ ls))) arena table r
+      → take (r .count) (r .list) ≡ setOrder (filesOf (h ∷ (p ∷ ls))) (namesOf (h ∷ (p ∷ ls)))
+  unfolding filesOf
+  order-loaded s lies bytes =
+      order-read size table arena (h ∷ (p ∷ ls)) (s .loads) (λ k a b. ap (λ (x : Seat). x .view) (lies k (many k b) .seat))
+      (λ k a b. bytes k (many k b))
+    where
+      many : (k : ℕ) → k < length (h ∷ (p ∷ ls)) → k < objects
+      many k b = omega (arith, count-is address size (hostFile h) (fileOf p) (map fileOf ls), length-map ls fileOf)
