@@ -20,3 +20,4 @@ pub mod QueryIs
 pub mod Steady
 pub mod SteadyLaws
 pub mod RelrIs
+pub mod ReportFill

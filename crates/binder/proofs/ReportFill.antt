@@ -1,0 +1,149 @@
+-- The words of a report: what has been noted so far, then zeros. Assumes nothing.
+use mathlib.Core.Path.{_≡_, refl, sym, ap, _∙_}
+use mathlib.Core.Bool.{Bool, true, false}
+use mathlib.Core.Logic.{_⊎_, ⊎-elim}
+use mathlib.Core.List.{List, [], _∷_, _++_}
+use Prim.Native.Nat.{ℕ, zero, suc, _+_, _-_, _*_, _%_, _^_, _≤_, _<_, min}
+use native.Mathlib.Omega.{arith}
+use native.Mathlib.Decide.{decLt}
+use borrow.Author.Tests.{eqb-true, ne-eqb, lt-ltb, le-ltb}
+use lib.Dec.{eqb, ltb}
+use lib.ListN.{length, set, take, replicate, length-append, length-replicate}
+use lib.Seq.{length-take-le, take-append-le}
+use Rattle.words.specs.Choice.{pick}
+use Rattle.model.proofs.OrderLaws.{decide}
+use Rattle.binder.specs.Report.{reportWord}
+use Rattle.binder.specs.Relocating.{Noted, noted, reportSum, noteOf, markUndefined, undefinedIn}
+use Rattle.binder.specs.declared.report.Progress.{Progress}
+
+-- a report of n words that has these words, then zeros; what does not fit is dropped
+unfoldable pub fillOf : ℕ → List ℕ → List ℕ
+fillOf n ws = take n (ws ++ replicate n 0)
+
+-- no refusal was met, and the report of n words has the words `ws`; `u` is the first object that has an undefined entry
+pub record Going (ws : List ℕ) (u n : ℕ) (p : Progress) (report : List ℕ) : Type 0 where
+  pub refusal : p .refusal ≡ 0
+  pub words : p .words ≡ min (length ws) n
+  pub full : p .full ≡ ltb n (length ws)
+  pub undefined : p .undefined ≡ u
+  pub report-is : report ≡ fillOf n ws
+
+abbrev pub NotedGoing : List ℕ → ℕ → ℕ → Noted → Type 0
+NotedGoing ws u n (noted p report) = Going ws u n p report
+
+-- the first of two objects; 0 is none
+unfoldable pub earlier : ℕ → ℕ → ℕ
+earlier u v = pick (eqb u 0) v u
+
+-- ---- laws of the report's words
+
+pub fill-length : (n : ℕ) (ws : List ℕ) → length (fillOf n ws) ≡ n
+unfolding fillOf
+fill-length n ws =
+    length-take-le n (ws ++ replicate n 0) (omega (arith, length-append ws (replicate n 0), length-replicate {A = ℕ} n 0))
+
+take-zeros : (n m : ℕ) → n ≤ m → take {A = ℕ} n (replicate m 0) ≡ replicate n 0
+take-zeros zero m h = refl
+take-zeros (suc n) zero h = absurd (omega arith)
+take-zeros (suc n) (suc m) h = ap (λ (l : List ℕ). 0 ∷ l) (take-zeros n m (omega arith))
+
+pub fill-none : (n : ℕ) → replicate n 0 ≡ fillOf n []
+unfolding fillOf
+fill-none n = sym (take-zeros n n (omega arith))
+
+-- one more word, where there is room, and where there is none
+set-take :
+    (ws : List ℕ) (n m w : ℕ) → length ws < n → n ≤ m
+    → set (take n (ws ++ replicate m 0)) (length ws) w ≡ take n ((ws ++ (w ∷ [])) ++ replicate m 0)
+set-take ws zero m w h l = absurd (omega arith)
+set-take [] (suc n) zero w h l = absurd (omega arith)
+set-take [] (suc n) (suc m) w h l =
+    ap (λ (l : List ℕ). w ∷ l) (take-zeros n m (omega arith) ∙ sym (take-zeros n (suc m) (omega arith)))
+set-take (x ∷ ws) (suc n) m w h l = ap (λ (l : List ℕ). x ∷ l) (set-take ws n m w (omega arith) (omega arith))
+
+fill-more : (ws : List ℕ) (n w : ℕ) → length ws < n → set (fillOf n ws) (length ws) w ≡ fillOf n (ws ++ (w ∷ []))
+unfolding fillOf
+fill-more ws n w h = set-take ws n n w h (omega arith)
+
+fill-full : (ws : List ℕ) (n w : ℕ) → n ≤ length ws → fillOf n ws ≡ fillOf n (ws ++ (w ∷ []))
+unfolding fillOf
+fill-full ws n w h =
+    take-append-le n ws (replicate n 0) h
+    ∙ sym
+    (take-append-le n (ws ++ (w ∷ [])) (replicate n 0) (omega (arith, length-append ws (w ∷ []))) ∙ take-append-le n ws (w ∷ []) h)
+
+-- ---- a word is noted
+
+module _ (ws : List ℕ) (u n : ℕ) (p : Progress) (report : List ℕ) (g : Going ws u n p report) where
+  pub going-length : length report ≡ n
+  going-length = ap length (g .report-is) ∙ fill-length n ws
+
+  one-more : (w : ℕ) → length (ws ++ (w ∷ [])) ≡ length ws + 1
+  one-more w = length-append ws (w ∷ [])
+
+  room : (w : ℕ) → length ws < n → NotedGoing (ws ++ (w ∷ [])) u n (noteOf w p report)
+  unfolding noteOf
+  room w h =
+      let at : p .words ≡ length ws = omega (arith, g .words) in
+      rw (lt-ltb (p .words) (length report) (omega (arith, going-length)))
+      record {
+        refusal = g .refusal;
+        words = omega (arith, one-more w);
+        full = g .full ∙ (le-ltb n (length ws) (omega arith) ∙ sym (le-ltb n (length (ws ++ (w ∷ []))) (omega (arith, one-more w))));
+        undefined = g .undefined;
+        report-is = rw (at, g .report-is) (fill-more ws n w h);
+      }
+
+  no-room : (w : ℕ) → n ≤ length ws → NotedGoing (ws ++ (w ∷ [])) u n (noteOf w p report)
+  unfolding noteOf
+  no-room w h =
+      rw (le-ltb (p .words) (length report) (omega (arith, going-length, g .words)))
+      record {
+        refusal = g .refusal;
+        words = omega (arith, one-more w, g .words);
+        full = sym (lt-ltb n (length (ws ++ (w ∷ []))) (omega (arith, one-more w)));
+        undefined = g .undefined;
+        report-is = g .report-is ∙ fill-full ws n w h;
+      }
+
+  pub note-going : (w : ℕ) → NotedGoing (ws ++ (w ∷ [])) u n (noteOf w p report)
+  note-going w = elim (decLt (length ws) n) [ yes h ↦ room w h | no h ↦ no-room w (omega arith) ]
+
+  -- object `k` has an undefined entry
+  pub mark-going : (k : ℕ) → Going ws (earlier u k) n (undefinedIn k p) report
+  unfolding earlier
+  mark-going k =
+      record {
+        refusal = g .refusal;
+        words = g .words;
+        full = g .full;
+        undefined = ap (λ (u : ℕ). pick (eqb u 0) k u) (g .undefined);
+        report-is = g .report-is;
+      }
+
+pub marked-going : (ws : List ℕ) (u n k : ℕ) (q : Noted) → NotedGoing ws u n q → NotedGoing ws (earlier u k) n (markUndefined k q)
+marked-going ws u n k (noted p report) g = mark-going ws u n p report g k
+
+-- a word of 32 bits
+pub report-sum : (kind i : ℕ) → kind < 16 → i < 2 ^ 28 → reportSum kind i ≡ reportWord kind i
+report-sum kind i h l = omega arith
+
+-- ---- the first object that has an undefined entry
+
+pub earlier-none : (u : ℕ) → earlier u 0 ≡ u
+unfolding earlier
+earlier-none u =
+    ⊎-elim (λ (t : eqb u 0 ≡ true). rw t (sym (eqb-true u 0 t))) (λ (t : eqb u 0 ≡ false). rw t) (decide (eqb u 0))
+
+pub earlier-first : (v : ℕ) → earlier 0 v ≡ v
+unfolding earlier
+earlier-first v = refl
+
+pub earlier-met : (k v : ℕ) → 1 ≤ k → earlier k v ≡ k
+unfolding earlier
+earlier-met k v h = rw (ne-eqb k 0 (λ e. omega arith))
+
+pub earlier-assoc : (u v w : ℕ) → earlier (earlier u v) w ≡ earlier u (earlier v w)
+unfolding earlier
+earlier-assoc u v w =
+    ⊎-elim (λ (t : eqb u 0 ≡ true). rw t) (λ (t : eqb u 0 ≡ false). rw t (rw t)) (decide (eqb u 0))
