@@ -102,6 +102,14 @@ symbol-then true true y rest e = e
 symbol-then true false y rest e = absurd (omega arith)
 symbol-then false b y rest e = absurd (omega arith)
 
+-- a symbol's name
+pub name-is :
+    (image : List ℕ) (r : Record) (index : ℕ) → nameOf image r (symbolAt image (r .symbols) index) ≡ symbolName image (r .symbols) (r .strings) index
+unfolding symbol-specs.symbolFrom
+name-is image r index =
+    let z : r .symbols + 24 * index + 0 ≡ r .symbols + 24 * index = omega arith in
+    ap (λ (at : ℕ). nameAt image (r .strings + leAt 4 (mem image) at)) z
+
 module _ (S : Objs) (k : ℕ) (image : List ℕ) (r : Record) (base : ℕ)
     (inner : (p n : ℕ) → inWritable (r .segments) p n ≡ true → p + n ≤ (obj S k) .span) where
   written : (p n : ℕ) → writtenRefusal r p n ≡ 0 → p + n ≤ (obj S k) .span
@@ -126,12 +134,6 @@ module _ (S : Objs) (k : ℕ) (image : List ℕ) (r : Record) (base : ℕ)
       symbol-then (indexOk (r .known) index) (symbolOk (isTableOf r) image (r .symbols) (r .strings) index)
       (symbolAt image (r .symbols) index) rest e
 
-  name-is : (index : ℕ) → nameOf image r (symbolAt image (r .symbols) index) ≡ symbolName image (r .symbols) (r .strings) index
-  unfolding symbol-specs.symbolFrom
-  name-is index =
-      let z : r .symbols + 24 * index + 0 ≡ r .symbols + 24 * index = omega arith in
-      ap (λ (at : ℕ). nameAt image (r .strings + leAt 4 (mem image) at)) z
-
   entry-inside : (e : Rela) (a : Action) → refusalBy S k image r e a ≡ 0 → Inside S k (entryBy image r base e a)
   unfolding refusalBy entryBy
   entry-inside e Ignored z = tt
@@ -143,7 +145,7 @@ module _ (S : Objs) (k : ℕ) (image : List ℕ) (r : Record) (base : ℕ)
       let rest : Symbol → ℕ = λ y. copyRefusal S k r (e .place) (y .size) (resolveCopy S (nameOf image r y)) in
       let y : Symbol = symbolAt image (r .symbols) (e .symbol) in
       copy-inside (e .place) (y .size) (resolveCopy S (symbolName image (r .symbols) (r .strings) (e .symbol)))
-      (sym (ap (λ (n : List ℕ). copyRefusal S k r (e .place) (y .size) (resolveCopy S n)) (name-is (e .symbol))) ∙ checked-then (e .symbol) rest z)
+      (sym (ap (λ (n : List ℕ). copyRefusal S k r (e .place) (y .size) (resolveCopy S n)) (name-is image r (e .symbol))) ∙ checked-then (e .symbol) rest z)
 
   pub entries-inside :
       (es : List Rela) → entriesVerdict S k image r es ≡ passed → (x : Entry) → List·Memᴰ x (map (entryOf image r base) es)

@@ -21,3 +21,5 @@ pub mod Steady
 pub mod SteadyLaws
 pub mod RelrIs
 pub mod ReportFill
+pub mod Runs
+pub mod EntryIs

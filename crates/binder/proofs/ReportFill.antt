@@ -1,5 +1,5 @@
 -- The words of a report: what has been noted so far, then zeros. Assumes nothing.
-use mathlib.Core.Path.{_≡_, refl, sym, ap, _∙_}
+use mathlib.Core.Path.{_≡_, refl, sym, ap, subst, _∙_}
 use mathlib.Core.Bool.{Bool, true, false}
 use mathlib.Core.Logic.{_⊎_, ⊎-elim}
 use mathlib.Core.List.{List, [], _∷_, _++_}
@@ -74,6 +74,10 @@ fill-full ws n w h =
 
 -- ---- a word is noted
 
+-- a word of 32 bits
+report-sum : (kind i : ℕ) → kind < 16 → i < 2 ^ 28 → reportSum kind i ≡ reportWord kind i
+report-sum kind i h l = omega arith
+
 module _ (ws : List ℕ) (u n : ℕ) (p : Progress) (report : List ℕ) (g : Going ws u n p report) where
   pub going-length : length report ≡ n
   going-length = ap length (g .report-is) ∙ fill-length n ws
@@ -106,8 +110,14 @@ module _ (ws : List ℕ) (u n : ℕ) (p : Progress) (report : List ℕ) (g : Goi
         report-is = g .report-is ∙ fill-full ws n w h;
       }
 
-  pub note-going : (w : ℕ) → NotedGoing (ws ++ (w ∷ [])) u n (noteOf w p report)
+  note-going : (w : ℕ) → NotedGoing (ws ++ (w ∷ [])) u n (noteOf w p report)
   note-going w = elim (decLt (length ws) n) [ yes h ↦ room w h | no h ↦ no-room w (omega arith) ]
+
+  pub word-going :
+      (kind i : ℕ) → kind < 16 → i < 2 ^ 28 → NotedGoing (ws ++ (reportWord kind i ∷ [])) u n (noteOf (reportSum kind i) p report)
+  word-going kind i h l =
+      subst (λ (w : ℕ). NotedGoing (ws ++ (w ∷ [])) u n (noteOf (reportSum kind i) p report)) (report-sum kind i h l)
+      (note-going (reportSum kind i))
 
   -- object `k` has an undefined entry
   pub mark-going : (k : ℕ) → Going ws (earlier u k) n (undefinedIn k p) report
@@ -123,10 +133,6 @@ module _ (ws : List ℕ) (u n : ℕ) (p : Progress) (report : List ℕ) (g : Goi
 
 pub marked-going : (ws : List ℕ) (u n k : ℕ) (q : Noted) → NotedGoing ws u n q → NotedGoing ws (earlier u k) n (markUndefined k q)
 marked-going ws u n k (noted p report) g = mark-going ws u n p report g k
-
--- a word of 32 bits
-pub report-sum : (kind i : ℕ) → kind < 16 → i < 2 ^ 28 → reportSum kind i ≡ reportWord kind i
-report-sum kind i h l = omega arith
 
 -- ---- the first object that has an undefined entry
 

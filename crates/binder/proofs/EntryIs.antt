@@ -1,0 +1,414 @@
+-- One entry of RELA or PLT, over the arena as it is at the entry's turn, does what the definitions say of the placed bytes. Assumes nothing.
+use mathlib.Core.Path.{_≡_, refl, sym, ap, subst, _∙_}
+use mathlib.Core.Bool.{Bool, true, false, not}
+use mathlib.Core.Logic.{_⊎_, inl, inr, ⊎-elim}
+use mathlib.Core.List.{List, [], _∷_, _++_, append-nil}
+use Prim.Native.Nat.{ℕ, _+_, _*_, _^_, _≤_, _<_, min}
+use native.Mathlib.Omega.{arith}
+use borrow.Author.Tests.{eqb-true}
+use lib.Dec.{eqb}
+use lib.ListN.{length}
+use Rattle.words.specs.Choice.{pick}
+use Rattle.words.specs.Memory.{Mem, mem, from, write, patch}
+use Rattle.words.specs.Words.{byteOf, sum64}
+use Rattle.words.proofs.Memory.{write-none}
+use Rattle.model.specs.Symbols.{Sym, Answer, absent, answer}
+use Rattle.model.specs.Objects.{Objs, count, obj}
+use Rattle.model.specs.Scope.{resolve, resolveCopy}
+use Rattle.model.specs.Relocation.{addressOr0, copied, effect}
+use Rattle.model.proofs.Scope.{resolveCopy-range}
+use Rattle.model.proofs.OrderLaws.{decide}
+use Rattle.object.specs.Refusal.{require}
+use Rattle.object.specs.TableBytes.{inWritable}
+use Rattle.object.specs.Symbol.{symbolAt, symbolName, bindingOf}
+use Rattle.object.specs.HashCheck.{symbolOk}
+use Rattle.object.specs.Record.{Record, indexOk, isTableOf, checkedSymbol, nameOf}
+use Rattle.object.specs.declared.symbol.Symbol.{Symbol}
+use Rattle.object.specs.declared.relocate.Rela.{Rela}
+use Rattle.object.specs.declared.relocate.Action.{Action}
+use Rattle.object.specs.declared.relocate.Action.the-variants.{Ignored, Passed, Relative, Symbolic, Copy, Irelative}
+use Rattle.object.specs.declared.dynamic_fields.CheckedSymbol.{CheckedSymbol}
+use Rattle.object.specs.declared.dynamic_fields.CheckedSymbol.the-variants.{Refused, Checked}
+use Rattle.object.specs.declared.hash_tables.Definition.{Definition}
+use Rattle.binder.specs.Instance.{File, imageOf, recordOf, symOf, entryBy}
+use Rattle.binder.specs.Verdict.{Verdict, passed, verdict, writtenRefusal, copyOk, copyRefusal, symbolThen, refusalBy}
+use Rattle.binder.specs.Report.{reportWord, unresolved, undefinedBy, isPassed}
+use Rattle.binder.specs.Seats.{seatAt}
+use Rattle.binder.specs.ScopeCode.{scopedOf}
+use Rattle.binder.specs.Relocating.{Left, left, Wrote, wrote, Noted, noted, withArena, withReport, refusedBy, imageIn, reportSum, noteOf, markUndefined, unresolvedOf, relativeOf, foundOf, copyFits, copyBytes, copyOf, turnOf, soughtFor, soughtForCopy, symbolicOf, copyingOf, runAction}
+use Rattle.binder.specs.declared.seats.Seat.{Seat}
+use Rattle.binder.specs.declared.turn.Turn.{Turn}
+use Rattle.binder.specs.declared.scope.Scoped.{Scoped}
+use Rattle.binder.specs.declared.scope.Scoped.the-variants.{Absent, Found}
+use Rattle.binder.specs.declared.report.Progress.{Progress}
+use Rattle.binder.proofs.InsideLaws.{name-is}
+use Rattle.binder.proofs.Steady.{set, fileAt, LoadedSet, Steady, At, Written}
+use Rattle.binder.proofs.SteadyLaws.{lies, readings, searches, copy-searches, writable-inside, writes, copy-tests}
+use Rattle.binder.proofs.ReportFill.{Going, NotedGoing, earlier, earlier-none, going-length, word-going, marked-going}
+use Rattle.binder.proofs.Runs.{RanTo, Ran, verdict-none, ran-refused, ran-passed}
+
+-- ---- symbols
+
+-- the symbol of an entry is checked, or refused by a number that is not 0
+abbrev SymbolCase : List ℕ → Record → ℕ → Type 0
+SymbolCase image r index =
+    ((checkedSymbol image r index ≡ Checked (symbolAt image (r .symbols) index))
+    × (symbolOk (isTableOf r) image (r .symbols) (r .strings) index ≡ true))
+    ⊎ ((z : ℕ) × (z ≡ 0 → ⊥) × (checkedSymbol image r index ≡ Refused z))
+
+symbol-case : (image : List ℕ) (r : Record) (index : ℕ) → SymbolCase image r index
+unfolding checkedSymbol
+symbol-case image r index =
+    ⊎-elim
+    (λ (s : indexOk (r .known) index ≡ true).
+    ⊎-elim (λ (t : symbolOk (isTableOf r) image (r .symbols) (r .strings) index ≡ true). inl (rw (s, t), t))
+    (λ (t : symbolOk (isTableOf r) image (r .symbols) (r .strings) index ≡ false). inr (15, (λ e. omega arith), rw (s, t)))
+    (decide (symbolOk (isTableOf r) image (r .symbols) (r .strings) index)))
+    (λ (s : indexOk (r .known) index ≡ false). inr (14, (λ e. omega arith), rw s))
+    (decide (indexOk (r .known) index))
+
+refused-checked : {P : Type 0} (z : ℕ) (y : Symbol) → Refused z ≡ Checked y → P
+refused-checked z y e = let z : _≡_ {A = ℕ} 0 1 = cc in absurd (omega arith)
+
+checked-same : (x y : Symbol) → Checked x ≡ Checked y → x ≡ y
+checked-same x y e = cc
+
+-- the same symbol is checked in two images
+same-symbol :
+    (image image′ : List ℕ) (r : Record) (index : ℕ) → checkedSymbol image′ r index ≡ Checked (symbolAt image (r .symbols) index)
+    → symbolAt image (r .symbols) index ≡ symbolAt image′ (r .symbols) index
+same-symbol image image′ r index e =
+    ⊎-elim (λ c. checked-same (symbolAt image (r .symbols) index) (symbolAt image′ (r .symbols) index) (sym e ∙ (c .0)))
+    (λ c. refused-checked (c .0) (symbolAt image (r .symbols) index) (sym (c .2) ∙ e)) (symbol-case image′ r index)
+
+module _ (address size : ℕ) (table : List ℕ) (h pr : File) (fs : List File) where
+  abbrev S : Objs
+  S = set address size table h pr fs
+
+  pub written-then :
+      (a b c : List ℕ) (k : ℕ) → Written address size table h pr fs a b k → Written address size table h pr fs b c k
+      → Written address size table h pr fs a c k
+  written-then a b c k x y = record { steady = y .steady; others = λ j l ne. y .others j l ne ∙ x .others j l ne }
+
+  module _ (L : LoadedSet address size table h pr fs) (k : ℕ) (lo : 1 ≤ k) (hi : k < count (set address size table h pr fs))
+      (n : ℕ) (a₀ : List ℕ) where
+    abbrev t : Turn
+    t = turnOf address table k
+
+    abbrev f : File
+    f = fileAt address size table h pr fs k
+
+    abbrev r : Record
+    r = recordOf f
+
+    abbrev image : List ℕ
+    image = imageOf f
+
+    -- while the object `k` is relocated: the words of the report, the memory, and the other objects' bytes as in `a₀`
+    pub record Doing (ws : List ℕ) (u : ℕ) (m : Mem) (p : Progress) (a report : List ℕ) : Type 0 where
+      pub going : Going ws u n p report
+      pub memory : mem a ≡ m
+      pub written : Written address size table h pr fs a₀ a k
+
+    seat-offset : (d : ℕ) → d < count S → seatAt table d .offset ≡ (obj S d) .offset
+    seat-offset d l = ap (λ (s : Seat). s .offset) ((lies address size table h pr fs L d l) .seat)
+
+    base-is : t .base ≡ (obj S k) .base
+    base-is = (lies address size table h pr fs L k hi) .base
+
+    module _ (ws : List ℕ) (u : ℕ) (m : Mem) (p : Progress) (a report : List ℕ) (d : Doing ws u m p a report) where
+      steady : Steady address size table h pr fs a
+      steady = d .written .steady
+
+      -- a write to the object
+      wrote-to :
+          (q w : ℕ) (g : ℕ → ℕ) → inWritable (r .segments) q w ≡ true
+          → Written address size table h pr fs a₀ (patch a (t .offset + q) w g) k
+          × (mem (patch a (t .offset + q) w g) ≡ write m ((obj S k) .offset + q) w g)
+      wrote-to q w g e =
+          let x = writes address size table h pr fs L a steady k hi q w e g in
+          rw (seat-offset k hi) (
+            written-then a₀ a (patch a ((obj S k) .offset + q) w g) k (d .written) (x .0),
+            x .1 ∙ ap (λ (m : Mem). write m ((obj S k) .offset + q) w g) (d .memory),
+          )
+
+      -- no refusal, and no word
+      plain :
+          (v : Verdict) (m′ : Mem) (a′ : List ℕ) → v ≡ passed → Written address size table h pr fs a₀ a′ k → mem a′ ≡ m′
+          → Ran size n v (Doing (ws ++ []) (earlier u 0) m′) (left p a′ report)
+      plain v m′ a′ e w same =
+          ran-passed size n v (Doing (ws ++ []) (earlier u 0) m′) p a′ report e (d .going .refusal) (w .steady .size-is)
+          (going-length ws u n p report (d .going))
+          record { going = rw (append-nil ws, earlier-none u) (d .going); memory = same; written = w }
+
+      -- no refusal, and what was noted
+      with-words :
+          (v : Verdict) (vs : List ℕ) (u′ : ℕ) (m′ : Mem) (a′ : List ℕ) (q : Noted) → v ≡ passed → NotedGoing vs u′ n q
+          → Written address size table h pr fs a₀ a′ k → mem a′ ≡ m′
+          → Ran size n v (Doing vs u′ m′) (withArena a′ q)
+      with-words v vs u′ m′ a′ (noted p′ report′) e g w same =
+          ran-passed size n v (Doing vs u′ m′) p′ a′ report′ e (g .refusal) (w .steady .size-is) (going-length vs u′ n p′ report′ g)
+          record { going = g; memory = same; written = w }
+
+      -- a refusal
+      stopped :
+          (z : ℕ) (D : Progress → List ℕ → List ℕ → Type 0) → (z ≡ 0 → ⊥) → Ran size n (verdict z k) D (left (refusedBy t z p) a report)
+      stopped z D ne =
+          ran-refused size n z k D (refusedBy t z p) a report ne refl refl (steady .size-is) (going-length ws u n p report (d .going))
+
+      -- a symbol that was found nowhere
+      unresolved-going :
+          (i : ℕ) → i < 2 ^ 28 → (y : Symbol)
+          → NotedGoing (ws ++ pick (not (eqb (bindingOf y) 2)) (reportWord 6 i ∷ []) []) (earlier u (pick (not (eqb (bindingOf y) 2)) k 0)) n
+          (unresolvedOf y k i p report)
+      unfolding unresolvedOf
+      unresolved-going i l y = go (eqb (bindingOf y) 2)
+        where
+          go :
+              (b : Bool)
+              → NotedGoing (ws ++ pick (not b) (reportWord 6 i ∷ []) []) (earlier u (pick (not b) k 0)) n
+              (pick b (noted p report) (markUndefined k (noteOf (reportSum 6 i) p report)))
+          go true = rw (append-nil ws, earlier-none u) (d .going)
+          go false =
+              marked-going (ws ++ (reportWord 6 i ∷ [])) u n k (noteOf (reportSum 6 i) p report)
+              (word-going ws u n p report (d .going) 6 i (omega arith) l)
+
+      -- ---- 8
+
+      relative-ran :
+          (e : Rela) (b : Bool) → inWritable (r .segments) (e .place) 8 ≡ b
+          → Ran size n (verdict (require b 17 0) k)
+          (Doing (ws ++ []) (earlier u 0) (write m ((obj S k) .offset + e .place) 8 (byteOf (sum64 ((obj S k) .base) (e .addend)))))
+          (withReport report
+          (pick b (wrote p (patch a (t .offset + e .place) 8 (byteOf (sum64 (t .base) (e .addend))))) (wrote (refusedBy t 17 p) a)))
+      unfolding require
+      relative-ran e true w =
+          let x = wrote-to (e .place) 8 (byteOf (sum64 (t .base) (e .addend))) w in
+          plain (verdict 0 k) (write m ((obj S k) .offset + e .place) 8 (byteOf (sum64 ((obj S k) .base) (e .addend))))
+          (patch a (t .offset + e .place) 8 (byteOf (sum64 (t .base) (e .addend)))) (verdict-none 0 k refl) (x .0)
+          (x .1 ∙ ap (λ (b : ℕ). write m ((obj S k) .offset + e .place) 8 (byteOf (sum64 b (e .addend)))) base-is)
+      relative-ran e false w = stopped 17 _ (λ e. omega arith)
+
+      -- ---- the entry's symbol
+
+      symbol-step :
+          (index : ℕ) (rest : Symbol → ℕ) (D : Progress → List ℕ → List ℕ → Type 0) (act : CheckedSymbol → Left)
+          → ((z : ℕ) → act (Refused z) ≡ left (refusedBy t z p) a report)
+          → (symbolOk (isTableOf r) image (r .symbols) (r .strings) index ≡ true
+          → symbolAt image (r .symbols) index ≡ symbolAt (imageIn a t) (r .symbols) index
+          → Ran size n (verdict (rest (symbolAt image (r .symbols) index)) k) D (act (Checked (symbolAt image (r .symbols) index))))
+          → Ran size n (verdict (symbolThen (checkedSymbol image r index) rest) k) D (act (checkedSymbol (imageIn a t) r index))
+      symbol-step index rest D act refuses goes =
+          subst
+          (λ (c : CheckedSymbol). Ran size n (verdict (symbolThen (checkedSymbol image r index) rest) k) D (act c))
+          (sym same)
+          (⊎-elim
+          (λ c.
+          subst (λ (x : CheckedSymbol). Ran size n (verdict (symbolThen x rest) k) D (act x)) (sym (c .0))
+          (goes (c .1) (same-symbol image (imageIn a t) r index (same ∙ c .0))))
+          (λ c.
+          subst (λ (x : CheckedSymbol). Ran size n (verdict (symbolThen x rest) k) D (act x)) (sym (c .2))
+          (subst (λ (st : Left). Ran size n (verdict (c .0) k) D st) (sym (refuses (c .0))) (stopped (c .0) D (c .1))))
+          (symbol-case image r index))
+        where
+          same : checkedSymbol (imageIn a t) r index ≡ checkedSymbol image r index
+          same = (readings address size table h pr fs L a steady k hi) .symbols index
+
+      name-same :
+          (index : ℕ) → symbolOk (isTableOf r) image (r .symbols) (r .strings) index ≡ true
+          → symbolAt image (r .symbols) index ≡ symbolAt (imageIn a t) (r .symbols) index
+          → nameOf (imageIn a t) r (symbolAt image (r .symbols) index) ≡ symbolName image (r .symbols) (r .strings) index
+      name-same index ok e =
+          ap (nameOf (imageIn a t) r) e
+          ∙ (name-is (imageIn a t) r index ∙ (readings address size table h pr fs L a steady k hi) .names index ok)
+
+      -- ---- 6 and 7
+
+      module _ (i : ℕ) (l : i < 2 ^ 28) (e : Rela) where
+        abbrev y : Symbol
+        y = symbolAt image (r .symbols) (e .symbol)
+
+        -- the words and the mark of an entry whose search has the answer
+        abbrev After : Answer → Mem → Progress → List ℕ → List ℕ → Type 0
+        After x m′ =
+            Doing (ws ++ pick (unresolved image r e x) (reportWord 6 i ∷ []) []) (earlier u (pick (unresolved image r e x) k 0)) m′
+
+        found-ran :
+            (x : Answer) (s : Scoped) → scopedOf s ≡ x → inWritable (r .segments) (e .place) 8 ≡ true
+            → Ran size n (verdict 0 k) (After x (write m ((obj S k) .offset + e .place) 8 (byteOf (addressOr0 x)))) (foundOf t e i y s p a report)
+        unfolding scopedOf foundOf addressOr0
+        found-ran x Absent eq w =
+            let z = wrote-to (e .place) 8 (byteOf 0) w in
+            subst
+            (λ (x : Answer).
+            Ran size n (verdict 0 k) (After x (write m ((obj S k) .offset + e .place) 8 (byteOf (addressOr0 x)))) (foundOf t e i y Absent p a report))
+            eq
+            (with-words (verdict 0 k) (ws ++ pick (not (eqb (bindingOf y) 2)) (reportWord 6 i ∷ []) []) (earlier u (pick (not (eqb (bindingOf y) 2)) k 0))
+            (write m ((obj S k) .offset + e .place) 8 (byteOf 0)) (patch a (t .offset + e .place) 8 (byteOf 0)) (unresolvedOf y k i p report)
+            (verdict-none 0 k refl) (unresolved-going i l y) (z .0) (z .1))
+        found-ran x (Found d s v) eq w =
+            let z = wrote-to (e .place) 8 (byteOf v) w in
+            subst
+            (λ (x : Answer).
+            Ran size n (verdict 0 k) (After x (write m ((obj S k) .offset + e .place) 8 (byteOf (addressOr0 x)))) (foundOf t e i y (Found d s v) p a report))
+            eq
+            (plain (verdict 0 k) (write m ((obj S k) .offset + e .place) 8 (byteOf v)) (patch a (t .offset + e .place) 8 (byteOf v))
+            (verdict-none 0 k refl) (z .0) (z .1))
+
+        symbolic-by :
+            (x : Answer) (s : Scoped) → scopedOf s ≡ x → (b : Bool) → inWritable (r .segments) (e .place) 8 ≡ b
+            → Ran size n (verdict (require b 17 0) k) (After x (write m ((obj S k) .offset + e .place) 8 (byteOf (addressOr0 x))))
+            (pick b (foundOf t e i y s p a report) (left (refusedBy t 17 p) a report))
+        unfolding require
+        symbolic-by x s eq true w = found-ran x s eq w
+        symbolic-by x s eq false w = stopped 17 _ (λ e. omega arith)
+
+        abbrev name : List ℕ
+        name = symbolName image (r .symbols) (r .strings) (e .symbol)
+
+        symbolic-ran :
+            Ran size n (verdict (symbolThen (checkedSymbol image r (e .symbol)) (λ y. writtenRefusal r (e .place) 8)) k)
+            (After (resolve S k name) (write m ((obj S k) .offset + e .place) 8 (byteOf (addressOr0 (resolve S k name)))))
+            (symbolicOf address table (count S) t r e i (checkedSymbol (imageIn a t) r (e .symbol)) p a report)
+        unfolding symbolicOf
+        symbolic-ran =
+            symbol-step (e .symbol) (λ y. writtenRefusal r (e .place) 8)
+            (After (resolve S k name) (write m ((obj S k) .offset + e .place) 8 (byteOf (addressOr0 (resolve S k name)))))
+            (λ c. symbolicOf address table (count S) t r e i c p a report) (λ z. refl)
+            (λ ok same.
+            symbolic-by (resolve S k name) (soughtFor address table (count S) t a (nameOf (imageIn a t) r y))
+            (ap (λ (x : List ℕ). scopedOf (soughtFor address table (count S) t a x)) (name-same (e .symbol) ok same)
+            ∙ searches address size table h pr fs L a steady k hi name)
+            (inWritable (r .segments) (e .place) 8) refl)
+
+        -- ---- 5
+
+        module _ (o : ℕ) (ol : o < count S) (x : Definition) (v : ℕ) where
+          abbrev many : ℕ
+          many = min (y .size) (x .size)
+
+          abbrev source : Mem → Mem
+          source m = λ i. m ((obj S o) .offset + x .value + i)
+
+          abbrev to : ℕ
+          to = (obj S k) .offset + e .place
+
+          copy-fits :
+              (b : Bool) → inWritable (r .segments) (e .place) many ≡ true
+              → Ran size n (verdict (require b 18 0) k) (Doing (ws ++ []) (earlier u 0) (write m to many (source m)))
+              (withReport report
+              (pick b (wrote p (patch a (t .offset + e .place) many (from (seatAt table o .offset + x .value) (mem a))))
+              (wrote (refusedBy t 18 p) a)))
+          unfolding require
+          copy-fits true w =
+              let z = wrote-to (e .place) many (from (seatAt table o .offset + x .value) (mem a)) w in
+              plain (verdict 0 k) (write m to many (source m))
+              (patch a (t .offset + e .place) many (from (seatAt table o .offset + x .value) (mem a))) (verdict-none 0 k refl) (z .0)
+              (z .1
+              ∙ (ap (λ (s : ℕ). write m to many (from (s + x .value) (mem a))) (seat-offset o ol)
+              ∙ ap (λ (q : Mem). write m to many (source q)) (d .memory)))
+          copy-fits false w = stopped 18 _ (λ e. omega arith)
+
+          fits-is :
+              inWritable (r .segments) (e .place) many ≡ true
+              → copyFits (length a) t (e .place) (seatAt table o) x many ≡ copyOk S k (e .place) o (symOf x) many
+          fits-is w =
+              ap (λ (s : ℕ). copyFits s t (e .place) (seatAt table o) x many) (steady .size-is)
+              ∙ copy-tests address size table h pr fs L k o hi ol (e .place) many
+              (writable-inside address size table h pr fs k (e .place) many w) x
+
+          copy-writable :
+              (b : Bool) → inWritable (r .segments) (e .place) many ≡ b
+              → Ran size n (verdict (require b 17 (require (copyOk S k (e .place) o (symOf x) many) 18 0)) k)
+              (Doing (ws ++ []) (earlier u 0) (write m to many (source m)))
+              (withReport report
+              (pick b
+              (pick (copyFits (length a) t (e .place) (seatAt table o) x many)
+              (wrote p (patch a (t .offset + e .place) many (from (seatAt table o .offset + x .value) (mem a))))
+              (wrote (refusedBy t 18 p) a))
+              (wrote (refusedBy t 17 p) a)))
+          unfolding require
+          copy-writable true w = rw (fits-is w) (copy-fits (copyOk S k (e .place) o (symOf x) many) w)
+          copy-writable false w = stopped 17 _ (λ e. omega arith)
+
+          copy-some :
+              (b : Bool) → eqb many 0 ≡ b
+              → Ran size n
+              (verdict
+              (pick b 0
+              (require (inWritable (r .segments) (e .place) many) 17 (require (copyOk S k (e .place) o (symOf x) many) 18 0))) k)
+              (Doing (ws ++ []) (earlier u 0) (write m to many (source m)))
+              (withReport report
+              (pick b (wrote p a)
+              (pick (inWritable (r .segments) (e .place) many)
+              (pick (copyFits (length a) t (e .place) (seatAt table o) x many)
+              (wrote p (patch a (t .offset + e .place) many (from (seatAt table o .offset + x .value) (mem a))))
+              (wrote (refusedBy t 18 p) a))
+              (wrote (refusedBy t 17 p) a))))
+          copy-some true z =
+              plain (verdict 0 k) (write m to many (source m)) a (verdict-none 0 k refl) (d .written)
+              (d .memory ∙ sym (ap (λ (s : ℕ). write m to s (source m)) (eqb-true many 0 z) ∙ write-none m to (source m)))
+          copy-some false z = copy-writable (inWritable (r .segments) (e .place) many) refl
+
+        copy-by :
+            (x : Answer) (s : Scoped) → scopedOf s ≡ x → ((o : ℕ) (z : Sym) (v : ℕ) → x ≡ answer o z v → o < count S)
+            → Ran size n (verdict (copyRefusal S k r (e .place) (y .size) x) k)
+            (After x (copied S ((obj S k) .offset + e .place) (y .size) x m)) (copyOf table t (r .segments) e i y s p a report)
+        unfolding scopedOf copyOf copyRefusal copied copyBytes
+        copy-by x Absent eq range =
+            subst
+            (λ (x : Answer).
+            Ran size n (verdict (copyRefusal S k r (e .place) (y .size) x) k)
+            (After x (copied S ((obj S k) .offset + e .place) (y .size) x m)) (copyOf table t (r .segments) e i y Absent p a report))
+            eq
+            (with-words (verdict 0 k) (ws ++ pick (not (eqb (bindingOf y) 2)) (reportWord 6 i ∷ []) []) (earlier u (pick (not (eqb (bindingOf y) 2)) k 0))
+            m a (unresolvedOf y k i p report) (verdict-none 0 k refl) (unresolved-going i l y) (d .written) (d .memory))
+        copy-by x (Found o z v) eq range =
+            subst
+            (λ (x : Answer).
+            Ran size n (verdict (copyRefusal S k r (e .place) (y .size) x) k)
+            (After x (copied S ((obj S k) .offset + e .place) (y .size) x m)) (copyOf table t (r .segments) e i y (Found o z v) p a report))
+            eq
+            (copy-some o (range o (symOf z) v (sym eq)) z v (eqb (min (y .size) (z .size)) 0) refl)
+
+        copy-ran :
+            Ran size n
+            (verdict
+            (symbolThen (checkedSymbol image r (e .symbol))
+            (λ y. copyRefusal S k r (e .place) (y .size) (resolveCopy S (nameOf image r y)))) k)
+            (After (resolveCopy S name) (copied S ((obj S k) .offset + e .place) (y .size) (resolveCopy S name) m))
+            (copyingOf address table (count S) t r e i (checkedSymbol (imageIn a t) r (e .symbol)) p a report)
+        unfolding copyingOf
+        copy-ran =
+            symbol-step (e .symbol) (λ y. copyRefusal S k r (e .place) (y .size) (resolveCopy S (nameOf image r y)))
+            (After (resolveCopy S name) (copied S ((obj S k) .offset + e .place) (y .size) (resolveCopy S name) m))
+            (λ c. copyingOf address table (count S) t r e i c p a report) (λ z. refl)
+            (λ ok same.
+            rw (name-is image r (e .symbol))
+            (copy-by (resolveCopy S name) (soughtForCopy address table (count S) a (nameOf (imageIn a t) r y))
+            (ap (λ (x : List ℕ). scopedOf (soughtForCopy address table (count S) a x)) (name-same (e .symbol) ok same)
+            ∙ copy-searches address size table h pr fs L a steady name)
+            (λ o z v q. resolveCopy-range S name o z v q .0)))
+
+        -- ---- any entry
+
+        -- the words of an entry
+        abbrev pub wordsBy : Action → List ℕ
+        wordsBy x =
+            pick (undefinedBy S k image r e x) (reportWord 6 i ∷ []) (pick (isPassed x) (reportWord 7 i ∷ []) [])
+
+        pub entry-ran :
+            (x : Action)
+            → Ran size n (verdict (refusalBy S k image r e x) k)
+            (Doing (ws ++ wordsBy x) (earlier u (pick (undefinedBy S k image r e x) k 0)) (effect S k (entryBy image r ((obj S k) .base) e x) m))
+            (runAction address table (count S) t r i e x p a report)
+        unfolding refusalBy undefinedBy entryBy effect runAction relativeOf
+        entry-ran Ignored = plain (verdict 0 k) m a (verdict-none 0 k refl) (d .written) (d .memory)
+        entry-ran Passed =
+            with-words (verdict 0 k) (ws ++ (reportWord 7 i ∷ [])) (earlier u 0) m a (noteOf (reportSum 7 i) p report) (verdict-none 0 k refl)
+            (rw (earlier-none u) (word-going ws u n p report (d .going) 7 i (omega arith) l))
+            (d .written) (d .memory)
+        entry-ran Irelative = stopped 16 _ (λ e. omega arith)
+        entry-ran Relative = relative-ran e (inWritable (r .segments) (e .place) 8) refl
+        entry-ran Symbolic = symbolic-ran
+        entry-ran Copy = copy-ran
