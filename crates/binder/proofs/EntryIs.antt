@@ -133,7 +133,7 @@ module _ (address size : ℕ) (table : List ℕ) (h pr : File) (fs : List File) 
           )
 
       -- no refusal, and no word
-      plain :
+      pub plain :
           (v : Verdict) (m′ : Mem) (a′ : List ℕ) → v ≡ passed → Written address size table h pr fs a₀ a′ k → mem a′ ≡ m′
           → Ran size n v (Doing (ws ++ []) (earlier u 0) m′) (left p a′ report)
       plain v m′ a′ e w same =

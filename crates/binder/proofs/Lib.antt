@@ -23,3 +23,4 @@ pub mod RelrIs
 pub mod ReportFill
 pub mod Runs
 pub mod EntryIs
+pub mod TableIs

@@ -10,7 +10,7 @@ use borrow.Author.Tests.{eqb-true, ne-eqb, lt-ltb, le-ltb}
 use lib.Dec.{eqb, ltb}
 use lib.ListN.{length, set, take, replicate, length-append, length-replicate}
 use lib.Seq.{length-take-le, take-append-le}
-use Rattle.words.specs.Choice.{pick}
+use Rattle.words.specs.Choice.{pick, either}
 use Rattle.model.proofs.OrderLaws.{decide}
 use Rattle.binder.specs.Report.{reportWord}
 use Rattle.binder.specs.Relocating.{Noted, noted, reportSum, noteOf, markUndefined, undefinedIn}
@@ -153,3 +153,8 @@ pub earlier-assoc : (u v w : ℕ) → earlier (earlier u v) w ≡ earlier u (ear
 unfolding earlier
 earlier-assoc u v w =
     ⊎-elim (λ (t : eqb u 0 ≡ true). rw t) (λ (t : eqb u 0 ≡ false). rw t (rw t)) (decide (eqb u 0))
+
+-- the same object twice
+pub marks-join : (b c : Bool) (u k : ℕ) → 1 ≤ k → earlier (earlier u (pick b k 0)) (pick c k 0) ≡ earlier u (pick (either b c) k 0)
+marks-join true c u k h = earlier-assoc u k (pick c k 0) ∙ ap (earlier u) (earlier-met k (pick c k 0) h)
+marks-join false c u k h = earlier-assoc u 0 (pick c k 0) ∙ ap (earlier u) (earlier-first (pick c k 0))
