@@ -171,7 +171,7 @@ module _ (address size : ℕ) (table : List ℕ) (h pr : File) (fs : List File) 
           go true = rw (append-nil ws, earlier-none u) (d .going)
           go false =
               marked-going (ws ++ (reportWord 6 i ∷ [])) u n k (noteOf (reportSum 6 i) p report)
-              (word-going ws u n p report (d .going) 6 i (omega arith) l)
+              (word-going ws u n p report (d .going) 6 i (omega arith))
 
       -- ---- 8
 
@@ -406,7 +406,7 @@ module _ (address size : ℕ) (table : List ℕ) (h pr : File) (fs : List File) 
         entry-ran Ignored = plain (verdict 0 k) m a (verdict-none 0 k refl) (d .written) (d .memory)
         entry-ran Passed =
             with-words (verdict 0 k) (ws ++ (reportWord 7 i ∷ [])) (earlier u 0) m a (noteOf (reportSum 7 i) p report) (verdict-none 0 k refl)
-            (rw (earlier-none u) (word-going ws u n p report (d .going) 7 i (omega arith) l))
+            (rw (earlier-none u) (word-going ws u n p report (d .going) 7 i (omega arith)))
             (d .written) (d .memory)
         entry-ran Irelative = stopped 16 _ (λ e. omega arith)
         entry-ran Relative = relative-ran e (inWritable (r .segments) (e .place) 8) refl

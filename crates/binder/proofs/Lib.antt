@@ -24,3 +24,4 @@ pub mod ReportFill
 pub mod Runs
 pub mod EntryIs
 pub mod TableIs
+pub mod ObjectIs

@@ -75,8 +75,8 @@ fill-full ws n w h =
 -- ---- a word is noted
 
 -- a word of 32 bits
-report-sum : (kind i : ℕ) → kind < 16 → i < 2 ^ 28 → reportSum kind i ≡ reportWord kind i
-report-sum kind i h l = omega arith
+report-sum : (kind i : ℕ) → reportWord kind i < 2 ^ 32 → reportSum kind i ≡ reportWord kind i
+report-sum kind i l = omega arith
 
 module _ (ws : List ℕ) (u n : ℕ) (p : Progress) (report : List ℕ) (g : Going ws u n p report) where
   pub going-length : length report ≡ n
@@ -114,9 +114,9 @@ module _ (ws : List ℕ) (u n : ℕ) (p : Progress) (report : List ℕ) (g : Goi
   note-going w = elim (decLt (length ws) n) [ yes h ↦ room w h | no h ↦ no-room w (omega arith) ]
 
   pub word-going :
-      (kind i : ℕ) → kind < 16 → i < 2 ^ 28 → NotedGoing (ws ++ (reportWord kind i ∷ [])) u n (noteOf (reportSum kind i) p report)
-  word-going kind i h l =
-      subst (λ (w : ℕ). NotedGoing (ws ++ (w ∷ [])) u n (noteOf (reportSum kind i) p report)) (report-sum kind i h l)
+      (kind i : ℕ) → reportWord kind i < 2 ^ 32 → NotedGoing (ws ++ (reportWord kind i ∷ [])) u n (noteOf (reportSum kind i) p report)
+  word-going kind i l =
+      subst (λ (w : ℕ). NotedGoing (ws ++ (w ∷ [])) u n (noteOf (reportSum kind i) p report)) (report-sum kind i l)
       (note-going (reportSum kind i))
 
   -- object `k` has an undefined entry

@@ -4,7 +4,7 @@ use mathlib.Core.Bool.{Bool, true, false}
 use mathlib.Core.List.{List}
 use Prim.Native.Nat.{ℕ}
 use native.Mathlib.Omega.{arith}
-use borrow.Author.Tests.{eq-eqb}
+use borrow.Author.Tests.{eq-eqb, ne-eqb}
 use lib.Dec.{eqb}
 use lib.ListN.{length}
 use Rattle.words.specs.Choice.{pick}
@@ -22,6 +22,11 @@ first-assoc (refused n k) v w = refl
 pub verdict-none : (n k : ℕ) → n ≡ 0 → verdict n k ≡ passed
 unfolding verdict
 verdict-none n k e = rw (eq-eqb n 0 e)
+
+-- a refusal that was met stays
+pub first-met : (n k : ℕ) (v : Verdict) → (n ≡ 0 → ⊥) → first (verdict n k) v ≡ verdict n k
+unfolding verdict
+first-met n k v ne = rw (ne-eqb n 0 ne)
 
 clash : {P : Type 0} (z k : ℕ) → refused z k ≡ passed → P
 clash z k e = let z : _≡_ {A = ℕ} 0 1 = cc in absurd (omega arith)

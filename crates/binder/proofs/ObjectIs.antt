@@ -1,0 +1,144 @@
+-- An object's turn, over the arena as it is then: its record, RELR, RELA and PLT do what the definitions say of the placed bytes. Assumes
+-- nothing.
+use mathlib.Core.Path.{_≡_, refl, sym, ap, subst, _∙_}
+use mathlib.Core.Bool.{Bool, true, false}
+use mathlib.Core.Logic.{⊎-elim}
+use mathlib.Core.List.{List, [], _∷_, _++_, map, append-assoc}
+use Prim.Native.Nat.{ℕ, _+_, _*_, _^_, _≤_, _<_}
+use native.Mathlib.Omega.{arith}
+use borrow.Author.Tests.{eqb-true, eqb-false, eq-eqb}
+use lib.Dec.{eqb}
+use lib.ListN.{length}
+use Rattle.words.specs.Choice.{pick, some}
+use Rattle.words.specs.Memory.{Mem, mem}
+use Rattle.model.specs.Objects.{Entry, Obj, Objs, count, obj}
+use Rattle.model.specs.Relocation.{addWords, effects, relocate}
+use Rattle.model.proofs.OrderLaws.{decide}
+use Rattle.object.specs.Record.{Record}
+use Rattle.binder.specs.Instance.{File, imageOf, recordOf, placesOf, wordsOf, relasOf, entryOf, objectAt}
+use Rattle.binder.specs.Verdict.{Verdict, passed, first, verdict, wordsVerdict, entriesVerdict, objectVerdict}
+use Rattle.binder.specs.Report.{reportWord, isUndefined, entryWords, objectWords, hasUndefined}
+use Rattle.binder.specs.Relocating.{Left, left, Noted, noted, Summed, summed, refusedBy, reportSum, noteOf, far, cutTo32, addRelrs, turnOf, imageIn, againRefusal, againRecord, runTables, thenTables, runObject, runAt}
+use Rattle.binder.specs.declared.turn.Turn.{Turn}
+use Rattle.binder.specs.declared.report.Progress.{Progress}
+use Rattle.binder.proofs.Steady.{set, fileAt, LoadedSet, PlacedAt, Steady}
+use Rattle.binder.proofs.SteadyLaws.{lies, again}
+use Rattle.binder.proofs.ReportFill.{Going, NotedGoing, earlier, going-length, word-going}
+use Rattle.binder.proofs.Runs.{Ran, verdict-none, first-met, ran-refused, ran-weaker}
+use Rattle.binder.proofs.EntryIs.{Doing}
+use Rattle.binder.proofs.TableIs.{Entered, tables-ran}
+use Rattle.binder.proofs.RelrIs.{RelrEnded, relr-is}
+
+module _ (address size : ℕ) (table : List ℕ) (h pr : File) (fs : List File) (L : LoadedSet address size table h pr fs)
+    (k : ℕ) (lo : 1 ≤ k) (hi : k < count (set address size table h pr fs)) (n : ℕ) where
+  abbrev S : Objs
+  S = set address size table h pr fs
+
+  abbrev t : Turn
+  t = turnOf address table k
+
+  abbrev f : File
+  f = fileAt address size table h pr fs k
+
+  abbrev r : Record
+  r = recordOf f
+
+  abbrev image : List ℕ
+  image = imageOf f
+
+  -- ---- the object of the model
+
+  is : obj S k ≡ objectAt address f ((obj S k) .offset)
+  is = lies address size table h pr fs L k hi .is
+
+  words-are : (obj S k) .words ≡ placesOf (wordsOf image r)
+  unfolding objectAt
+  words-are = ap (λ (o : Obj). o .words) is ∙ ap (λ (b : Bool). pick b [] (placesOf (wordsOf image r))) (L .others k lo hi)
+
+  base-is : (obj S k) .base ≡ address + (obj S k) .offset
+  unfolding objectAt
+  base-is = ap (λ (o : Obj). o .base) is
+
+  entries-are : (obj S k) .entries ≡ map (entryOf image r ((obj S k) .base)) (relasOf image r)
+  unfolding objectAt
+  entries-are =
+      ap (λ (o : Obj). o .entries) is
+      ∙ (ap (λ (b : Bool). pick b [] (map (entryOf image r (address + (obj S k) .offset)) (relasOf image r))) (L .others k lo hi)
+      ∙ ap (λ (b : ℕ). map (entryOf image r b) (relasOf image r)) (sym base-is))
+
+  relocate-is :
+      (m : Mem)
+      → effects S k (map (entryOf image r ((obj S k) .base)) (relasOf image r)) (addWords (obj S k) (placesOf (wordsOf image r)) m) ≡ relocate S k m
+  unfolding relocate
+  relocate-is m =
+      sym
+      (ap (λ (es : List Entry). effects S k es (addWords (obj S k) ((obj S k) .words) m)) entries-are
+      ∙ ap
+      (λ (ps : List ℕ). effects S k (map (entryOf image r ((obj S k) .base)) (relasOf image r)) (addWords (obj S k) ps m))
+      words-are)
+
+  -- ---- its turn
+
+  module _ (ws : List ℕ) (u : ℕ) (p : Progress) (a report : List ℕ) (g : Going ws u n p report) (s : Steady address size table h pr fs a) where
+    -- what its turn leaves
+    abbrev pub Turned : Progress → List ℕ → List ℕ → Type 0
+    Turned =
+        Doing address size table h pr fs L k lo hi n a (ws ++ objectWords S k f) (earlier u (pick (hasUndefined S k f) k 0))
+        (relocate S k (mem a))
+
+    entered-turned :
+        (p′ : Progress) (a′ report′ : List ℕ)
+        → Entered address size table h pr fs L k lo hi n a (ws ++ (reportWord 5 k ∷ [])) u (addWords (obj S k) (placesOf (wordsOf image r)) (mem a))
+        0 (relasOf image r) p′ a′ report′
+        → Turned p′ a′ report′
+    unfolding objectWords hasUndefined
+    entered-turned p′ a′ report′ d =
+        rw (← relocate-is (mem a), ← append-assoc ws (reportWord 5 k ∷ []) (entryWords S k image r 0 (relasOf image r))) d
+
+    after-relr :
+        (z : ℕ) (b : List ℕ) (q : Noted) → RelrEnded address size table h pr fs k z a b → NotedGoing (ws ++ (reportWord 5 k ∷ [])) u n q
+        → Ran size n (objectVerdict S k f) Turned (thenTables address table (count S) t r (summed z b) q)
+    unfolding objectVerdict
+    after-relr z b (noted p′ report′) w g′ =
+        subst
+        (λ (v : Verdict).
+        Ran size n (first v (entriesVerdict S k image r (relasOf image r))) Turned
+        (thenTables address table (count S) t r (summed z b) (noted p′ report′)))
+        (w .verdict-is)
+        (⊎-elim
+        (λ (c : eqb z 0 ≡ true).
+        rw (c, verdict-none z k (eqb-true z 0 c))
+        (ran-weaker size n (entriesVerdict S k image r (relasOf image r))
+        (Entered address size table h pr fs L k lo hi n a (ws ++ (reportWord 5 k ∷ [])) u (addWords (obj S k) (placesOf (wordsOf image r)) (mem a))
+        0 (relasOf image r))
+        Turned entered-turned (runTables address table (count S) t r (left p′ b report′))
+        (tables-ran address size table h pr fs L k lo hi n a (ws ++ (reportWord 5 k ∷ [])) u
+        (addWords (obj S k) (placesOf (wordsOf image r)) (mem a)) p′ b report′
+        record { going = g′; memory = w .done (eqb-true z 0 c) .0; written = w .done (eqb-true z 0 c) .1 })))
+        (λ (c : eqb z 0 ≡ false).
+        rw (c, first-met z k (entriesVerdict S k image r (relasOf image r)) (eqb-false z 0 c))
+        (ran-refused size n z k Turned (refusedBy t z p′) b report′ (eqb-false z 0 c) refl refl (w .length-is)
+        (going-length (ws ++ (reportWord 5 k ∷ [])) u n p′ report′ g′)))
+        (decide (eqb z 0)))
+
+    pub object-ran :
+        5 * 2 ^ 28 + k < 2 ^ 32 → Ran size n (objectVerdict S k f) Turned (runObject address table (count S) t r p a report)
+    unfolding runObject
+    object-ran small =
+        go (addRelrs t r (cutTo32 (r .relrs)) 0 far a) refl
+      where
+        go :
+            (x : Summed) → x ≡ addRelrs t r (cutTo32 (r .relrs)) 0 far a
+            → Ran size n (objectVerdict S k f) Turned (thenTables address table (count S) t r x (noteOf (reportSum 5 k) p report))
+        go (summed z b) e =
+            after-relr z b (noteOf (reportSum 5 k) p report) (relr-is address size table h pr fs L k lo hi a s z b e)
+            (word-going ws u n p report g 5 k small)
+
+    -- with the record that is read again
+    pub turn-ran :
+        5 * 2 ^ 28 + k < 2 ^ 32 → PlacedAt address size table h pr fs a k
+        → Ran size n (objectVerdict S k f) Turned (runAt address table (count S) k (f .bytes) p a report)
+    unfolding runAt
+    turn-ran small placed =
+        let x = again address size table h pr fs L a k lo hi placed in
+        rw (eq-eqb (againRefusal (imageIn a t) (f .bytes)) 0 (x .0), x .1) (object-ran small)
