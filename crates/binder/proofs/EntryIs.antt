@@ -3,7 +3,7 @@ use mathlib.Core.Path.{_≡_, refl, sym, ap, subst, _∙_}
 use mathlib.Core.Bool.{Bool, true, false, not}
 use mathlib.Core.Logic.{_⊎_, inl, inr, ⊎-elim}
 use mathlib.Core.List.{List, [], _∷_, _++_, append-nil}
-use Prim.Native.Nat.{ℕ, _+_, _*_, _^_, _≤_, _<_, min}
+use Prim.Native.Nat.{ℕ, _+_, _^_, _≤_, _<_, min}
 use native.Mathlib.Omega.{arith}
 use borrow.Author.Tests.{eqb-true}
 use lib.Dec.{eqb}
@@ -12,7 +12,7 @@ use Rattle.words.specs.Choice.{pick}
 use Rattle.words.specs.Memory.{Mem, mem, from, write, patch}
 use Rattle.words.specs.Words.{byteOf, sum64}
 use Rattle.words.proofs.Memory.{write-none}
-use Rattle.model.specs.Symbols.{Sym, Answer, absent, answer}
+use Rattle.model.specs.Symbols.{Sym, Answer, answer}
 use Rattle.model.specs.Objects.{Objs, count, obj}
 use Rattle.model.specs.Scope.{resolve, resolveCopy}
 use Rattle.model.specs.Relocation.{addressOr0, copied, effect}
@@ -35,17 +35,17 @@ use Rattle.binder.specs.Verdict.{Verdict, passed, verdict, writtenRefusa
 use Rattle.binder.specs.Report.{reportWord, unresolved, undefinedBy, isPassed}
 use Rattle.binder.specs.Seats.{seatAt}
 use Rattle.binder.specs.ScopeCode.{scopedOf}
-use Rattle.binder.specs.Relocating.{Left, left, Wrote, wrote, Noted, noted, withArena, withReport, refusedBy, imageIn, reportSum, noteOf, markUndefined, unresolvedOf, relativeOf, foundOf, copyFits, copyBytes, copyOf, turnOf, soughtFor, soughtForCopy, symbolicOf, copyingOf, runAction}
+use Rattle.binder.specs.Relocating.{Left, left, wrote, Noted, noted, withArena, withReport, refusedBy, imageIn, reportSum, noteOf, markUndefined, unresolvedOf, relativeOf, foundOf, copyFits, copyBytes, copyOf, turnOf, soughtFor, soughtForCopy, symbolicOf, copyingOf, runAction}
 use Rattle.binder.specs.declared.seats.Seat.{Seat}
 use Rattle.binder.specs.declared.turn.Turn.{Turn}
 use Rattle.binder.specs.declared.scope.Scoped.{Scoped}
 use Rattle.binder.specs.declared.scope.Scoped.the-variants.{Absent, Found}
 use Rattle.binder.specs.declared.report.Progress.{Progress}
 use Rattle.binder.proofs.InsideLaws.{name-is}
-use Rattle.binder.proofs.Steady.{set, fileAt, LoadedSet, Steady, At, Written}
+use Rattle.binder.proofs.Steady.{set, fileAt, LoadedSet, Steady, Written}
 use Rattle.binder.proofs.SteadyLaws.{lies, readings, searches, copy-searches, writable-inside, writes, copy-tests}
 use Rattle.binder.proofs.ReportFill.{Going, NotedGoing, earlier, earlier-none, going-length, word-going, marked-going}
-use Rattle.binder.proofs.Runs.{RanTo, Ran, verdict-none, ran-refused, ran-passed}
+use Rattle.binder.proofs.Runs.{Ran, verdict-none, ran-refused, ran-passed}
 
 -- ---- symbols
 

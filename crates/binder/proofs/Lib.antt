@@ -25,3 +25,5 @@ pub mod Runs
 pub mod EntryIs
 pub mod TableIs
 pub mod ObjectIs
+pub mod ObjectCount
+pub mod RelocatedIs

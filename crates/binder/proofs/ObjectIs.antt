@@ -5,20 +5,18 @@ use mathlib.Core.Bool.{Bool, true, false}
 use mathlib.Core.Logic.{⊎-elim}
 use mathlib.Core.List.{List, [], _∷_, _++_, map, append-assoc}
 use Prim.Native.Nat.{ℕ, _+_, _*_, _^_, _≤_, _<_}
-use native.Mathlib.Omega.{arith}
 use borrow.Author.Tests.{eqb-true, eqb-false, eq-eqb}
 use lib.Dec.{eqb}
-use lib.ListN.{length}
-use Rattle.words.specs.Choice.{pick, some}
+use Rattle.words.specs.Choice.{pick}
 use Rattle.words.specs.Memory.{Mem, mem}
 use Rattle.model.specs.Objects.{Entry, Obj, Objs, count, obj}
 use Rattle.model.specs.Relocation.{addWords, effects, relocate}
 use Rattle.model.proofs.OrderLaws.{decide}
 use Rattle.object.specs.Record.{Record}
 use Rattle.binder.specs.Instance.{File, imageOf, recordOf, placesOf, wordsOf, relasOf, entryOf, objectAt}
-use Rattle.binder.specs.Verdict.{Verdict, passed, first, verdict, wordsVerdict, entriesVerdict, objectVerdict}
-use Rattle.binder.specs.Report.{reportWord, isUndefined, entryWords, objectWords, hasUndefined}
-use Rattle.binder.specs.Relocating.{Left, left, Noted, noted, Summed, summed, refusedBy, reportSum, noteOf, far, cutTo32, addRelrs, turnOf, imageIn, againRefusal, againRecord, runTables, thenTables, runObject, runAt}
+use Rattle.binder.specs.Verdict.{Verdict, first, entriesVerdict, objectVerdict}
+use Rattle.binder.specs.Report.{reportWord, entryWords, objectWords, hasUndefined}
+use Rattle.binder.specs.Relocating.{left, Noted, noted, Summed, summed, refusedBy, reportSum, noteOf, far, cutTo32, addRelrs, turnOf, imageIn, againRefusal, runTables, thenTables, runObject, runAt}
 use Rattle.binder.specs.declared.turn.Turn.{Turn}
 use Rattle.binder.specs.declared.report.Progress.{Progress}
 use Rattle.binder.proofs.Steady.{set, fileAt, LoadedSet, PlacedAt, Steady}

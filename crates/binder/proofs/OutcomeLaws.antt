@@ -21,7 +21,7 @@ use Rattle.binder.specs.Bind.{filesOf, namesOf, objectsOf, unless, prepa
 
 -- ---- verdicts that passed
 
-refused-not : {P : Type 0} (n k : ℕ) → refused n k ≡ passed → P
+pub refused-not : {P : Type 0} (n k : ℕ) → refused n k ≡ passed → P
 refused-not n k e = let z : _≡_ {A = ℕ} 0 1 = cc in absurd (omega arith)
 
 pub first-passed : (v w : Verdict) → first v w ≡ passed → (v ≡ passed) × (w ≡ passed)

@@ -1,9 +1,9 @@
 -- The words of a report: what has been noted so far, then zeros. Assumes nothing.
 use mathlib.Core.Path.{_≡_, refl, sym, ap, subst, _∙_}
 use mathlib.Core.Bool.{Bool, true, false}
-use mathlib.Core.Logic.{_⊎_, ⊎-elim}
+use mathlib.Core.Logic.{⊎-elim}
 use mathlib.Core.List.{List, [], _∷_, _++_}
-use Prim.Native.Nat.{ℕ, zero, suc, _+_, _-_, _*_, _%_, _^_, _≤_, _<_, min}
+use Prim.Native.Nat.{ℕ, zero, suc, _+_, _^_, _≤_, _<_, min}
 use native.Mathlib.Omega.{arith}
 use native.Mathlib.Decide.{decLt}
 use borrow.Author.Tests.{eqb-true, ne-eqb, lt-ltb, le-ltb}
@@ -145,16 +145,20 @@ pub earlier-first : (v : ℕ) → earlier 0 v ≡ v
 unfolding earlier
 earlier-first v = refl
 
-pub earlier-met : (k v : ℕ) → 1 ≤ k → earlier k v ≡ k
+earlier-met : (k v : ℕ) → 1 ≤ k → earlier k v ≡ k
 unfolding earlier
 earlier-met k v h = rw (ne-eqb k 0 (λ e. omega arith))
 
-pub earlier-assoc : (u v w : ℕ) → earlier (earlier u v) w ≡ earlier u (earlier v w)
+earlier-assoc : (u v w : ℕ) → earlier (earlier u v) w ≡ earlier u (earlier v w)
 unfolding earlier
 earlier-assoc u v w =
     ⊎-elim (λ (t : eqb u 0 ≡ true). rw t) (λ (t : eqb u 0 ≡ false). rw t (rw t)) (decide (eqb u 0))
 
--- the same object twice
-pub marks-join : (b c : Bool) (u k : ℕ) → 1 ≤ k → earlier (earlier u (pick b k 0)) (pick c k 0) ≡ earlier u (pick (either b c) k 0)
-marks-join true c u k h = earlier-assoc u k (pick c k 0) ∙ ap (earlier u) (earlier-met k (pick c k 0) h)
-marks-join false c u k h = earlier-assoc u 0 (pick c k 0) ∙ ap (earlier u) (earlier-first (pick c k 0))
+-- object `k`, where it has one, before what follows
+pub mark-first : (b : Bool) (u k v : ℕ) → 1 ≤ k → earlier (earlier u (pick b k 0)) v ≡ earlier u (pick b k v)
+mark-first true u k v h = earlier-assoc u k v ∙ ap (earlier u) (earlier-met k v h)
+mark-first false u k v h = earlier-assoc u 0 v ∙ ap (earlier u) (earlier-first v)
+
+pub mark-twice : (b c : Bool) (u k : ℕ) → 1 ≤ k → earlier (earlier u (pick b k 0)) (pick c k 0) ≡ earlier u (pick (either b c) k 0)
+mark-twice true c u k h = mark-first true u k (pick c k 0) h
+mark-twice false c u k h = mark-first false u k (pick c k 0) h

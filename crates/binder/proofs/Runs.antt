@@ -1,9 +1,8 @@
 -- Steps of binding one after another, until a refusal: what a step left, and a step after it. Assumes nothing.
-use mathlib.Core.Path.{_≡_, refl, sym, ap, _∙_}
+use mathlib.Core.Path.{_≡_, refl, sym, _∙_}
 use mathlib.Core.Bool.{Bool, true, false}
 use mathlib.Core.List.{List}
 use Prim.Native.Nat.{ℕ}
-use native.Mathlib.Omega.{arith}
 use borrow.Author.Tests.{eq-eqb, ne-eqb}
 use lib.Dec.{eqb}
 use lib.ListN.{length}
@@ -11,7 +10,7 @@ use Rattle.words.specs.Choice.{pick}
 use Rattle.binder.specs.Verdict.{Verdict, passed, refused, first, verdict}
 use Rattle.binder.specs.Relocating.{Left, left, unlessRefused}
 use Rattle.binder.specs.declared.report.Progress.{Progress}
-use Rattle.binder.proofs.OutcomeLaws.{verdict-passed}
+use Rattle.binder.proofs.OutcomeLaws.{refused-not, verdict-passed}
 
 -- ---- the first of two refusals
 
@@ -28,11 +27,8 @@ pub first-met : (n k : ℕ) (v : Verdict) → (n ≡ 0 → ⊥) → first (verdi
 unfolding verdict
 first-met n k v ne = rw (ne-eqb n 0 ne)
 
-clash : {P : Type 0} (z k : ℕ) → refused z k ≡ passed → P
-clash z k e = let z : _≡_ {A = ℕ} 0 1 = cc in absurd (omega arith)
-
 picked : (t : Bool) (x o z k : ℕ) → pick t passed (refused x o) ≡ refused z k → t ≡ false
-picked true x o z k e = clash z k (sym e)
+picked true x o z k e = refused-not z k (sym e)
 picked false x o z k e = refl
 
 met : (x o z k : ℕ) → verdict x o ≡ refused z k → eqb x 0 ≡ false
@@ -100,5 +96,5 @@ module _ (size n : ℕ) where
         verdict-is = r .verdict-is;
         arena-length = r .arena-length;
         report-length = r .report-length;
-        done = λ e. clash z k e;
+        done = λ e. refused-not z k e;
       }

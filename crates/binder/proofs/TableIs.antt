@@ -1,6 +1,6 @@
 -- The entries of RELA and PLT, one after another over the arena as it is then, do what the definitions say of the placed bytes. Assumes nothing.
-use mathlib.Core.Path.{_≡_, refl, sym, ap, subst, _∙_}
-use mathlib.Core.Bool.{Bool, true, false}
+use mathlib.Core.Path.{_≡_, refl, sym, ap, _∙_}
+use mathlib.Core.Bool.{Bool}
 use mathlib.Core.List.{List, [], _∷_, _++_, map, append-assoc}
 use Prim.Native.Nat.{ℕ, zero, suc, _+_, _*_, _%_, _^_, _≤_, _<_}
 use native.Mathlib.Omega.{arith}
@@ -14,14 +14,14 @@ use Rattle.object.specs.Entries.{relaAt, relasFrom, actionOf}
 use Rattle.object.specs.Record.{Record}
 use Rattle.object.specs.declared.relocate.Rela.{Rela}
 use Rattle.binder.specs.Instance.{File, imageOf, recordOf, relasOf, entryOf}
-use Rattle.binder.specs.Verdict.{Verdict, passed, first, verdict, entryRefusal, entriesVerdict}
+use Rattle.binder.specs.Verdict.{passed, first, verdict, entryRefusal, entriesVerdict}
 use Rattle.binder.specs.Report.{reportWord, isUndefined, isPassed, entryWords}
-use Rattle.binder.specs.Relocating.{Left, left, unlessRefused, imageIn, cutTo32, turnOf, runAction, runTable, runTables}
+use Rattle.binder.specs.Relocating.{left, imageIn, cutTo32, turnOf, runAction, runTable, runTables}
 use Rattle.binder.specs.declared.turn.Turn.{Turn}
 use Rattle.binder.specs.declared.report.Progress.{Progress}
 use Rattle.binder.proofs.Steady.{set, fileAt, LoadedSet, Steady}
 use Rattle.binder.proofs.SteadyLaws.{readings, counts}
-use Rattle.binder.proofs.ReportFill.{earlier, marks-join}
+use Rattle.binder.proofs.ReportFill.{earlier, mark-twice}
 use Rattle.binder.proofs.Runs.{Ran, first-assoc, ran-weaker, ran-then}
 use Rattle.binder.proofs.EntryIs.{Doing, plain, entry-ran}
 
@@ -118,7 +118,7 @@ module _ (address size : ℕ) (table : List ℕ) (h pr : File) (fs : List File) 
   entered-more ws u m i x ys p a report d =
       rw (
         ← append-assoc ws (entryWord S k image r i x) (entryWords S k image r (i + 1) ys),
-        ← marks-join (isUndefined S k image r x) (some (isUndefined S k image r) ys) u k lo,
+        ← mark-twice (isUndefined S k image r x) (some (isUndefined S k image r) ys) u k lo,
       )
       d
 
@@ -133,7 +133,7 @@ module _ (address size : ℕ) (table : List ℕ) (h pr : File) (fs : List File) 
         some-append (isUndefined S k image r) xs ys,
         effects-append S k image r (entryOf image r ((obj S k) .base)) xs ys m,
         ← append-assoc ws (entryWords S k image r i xs) (entryWords S k image r j ys),
-        ← marks-join (some (isUndefined S k image r) xs) (some (isUndefined S k image r) ys) u k lo,
+        ← mark-twice (some (isUndefined S k image r) xs) (some (isUndefined S k image r) ys) u k lo,
       )
       d
 

@@ -31,7 +31,7 @@ place-append (o ∷ os) more m = place-append os more _
 pub times-head : (j : ℕ) (js : List ℕ) → 0 < times j (j ∷ js)
 times-head j js = rw (eq-eqb j j refl) (omega arith)
 
-times-tail : (j k : ℕ) (js : List ℕ) → times j js ≤ times j (k ∷ js)
+pub times-tail : (j k : ℕ) (js : List ℕ) → times j js ≤ times j (k ∷ js)
 times-tail j k js = go (eqb k j)
   where
     go : (b : Bool) → times j js ≤ pick b (suc (times j js)) (times j js)

@@ -1,0 +1,61 @@
+-- A set that was loaded has no more objects than the arena has bytes: each has a dynamic array in its span. Assumes nothing.
+use mathlib.Core.Path.{_≡_, sym}
+use mathlib.Core.Bool.{Bool, true, true≢false}
+use mathlib.Core.List.{List, [], _∷_}
+use Prim.Native.Nat.{ℕ, zero, suc, _+_, _-_, _≤_, _<_}
+use native.Mathlib.Omega.{arith}
+use lib.ListN.{length}
+use Rattle.words.proofs.Slices.{length-tab}
+use Rattle.object.specs.DynamicArray.{itemRoom, endIn, endsInside}
+use Rattle.object.specs.DynamicArray as arrays
+use Rattle.object.specs.DynamicFields.{fieldsOf}
+use Rattle.object.specs.DynamicFields as fields
+use Rattle.object.specs.ProgramHeader.{dynamicOf}
+use Rattle.object.specs.Placed.{segmentsOf, objectSpan, objectBytes, objectImage, placeRefusal}
+use Rattle.object.specs.Record.{fieldsRefusal, readRefusal}
+use Rattle.object.specs.Record as records
+use Rattle.object.specs.Loaded.{objectRefusal}
+use Rattle.object.specs.Loaded as loading
+use Rattle.object.specs.declared.program_header.Segment.{Segment}
+use Rattle.object.specs.declared.program_header.Dynamic.{Dynamic}
+use Rattle.object.specs.declared.program_header.Dynamic.the-variants.{Missing, At}
+use Rattle.object.proofs.RefusalLaws.{required, after-zero}
+use Rattle.binder.specs.Instance.{File}
+use Rattle.binder.specs.Verdict.{passed, verdict, loadVerdict}
+use Rattle.binder.proofs.OutcomeLaws.{first-passed, verdict-passed}
+use Rattle.binder.proofs.SoundLaws.{load-fits}
+
+-- the entry of tag 0 is inside the span
+end-room : (n : ℕ) (image : List ℕ) (at : ℕ) → endIn n image at ≡ true → 0 < n
+unfolding arrays.endIn
+end-room zero image at e = absurd (true≢false (sym e))
+end-room (suc n) image at e = omega arith
+
+read-some : (host : Bool) (image : List ℕ) (segments : List Segment) (d : Dynamic) → readRefusal host image segments d ≡ 0 → 0 < length image
+unfolding records.readRefusal records.fieldsRefusal fields.fieldsFrom
+read-some host image segments Missing e = absurd (omega arith)
+read-some host image segments (At at) e =
+    let a = after-zero (fieldsRefusal (fieldsOf image at)) _ e in
+    let b = required (endsInside image at) 8 _ (a .0) in
+    omega (arith, end-room (itemRoom image at) image at (b .0))
+
+span-some : (f : File) (room : ℕ) → objectRefusal (f .host) room (f .bytes) ≡ 0 → 0 < objectSpan (f .host) (f .bytes)
+unfolding loading.objectRefusal
+span-some f room e =
+    let a = after-zero (placeRefusal (f .host) room (f .bytes)) _ e in
+    omega (
+      arith,
+      read-some (f .host) (objectImage (f .host) (f .bytes)) (segmentsOf (f .host) (f .bytes)) (dynamicOf (f .bytes)) (a .1),
+      length-tab (objectSpan (f .host) (f .bytes)) (objectBytes (f .host) (f .bytes)),
+    )
+
+-- the files from object `n` on, the first at the offset `off`
+pub few-files : (size : ℕ) (files : List File) (n off : ℕ) → off ≤ size → loadVerdict size n off files ≡ passed → off + length files ≤ size
+unfolding loadVerdict
+few-files size [] n off l v = omega arith
+few-files size (f ∷ fs) n off l v =
+    let a = first-passed (verdict (objectRefusal (f .host) (size - off) (f .bytes)) n) _ v in
+    let z = verdict-passed (objectRefusal (f .host) (size - off) (f .bytes)) n (a .0) in
+    let b = load-fits f (size - off) z in
+    let c = span-some f (size - off) z in
+    omega (arith, few-files size fs (n + 1) (off + objectSpan (f .host) (f .bytes)) (omega arith) (a .1))
