@@ -27,3 +27,4 @@ pub mod TableIs
 pub mod ObjectIs
 pub mod ObjectCount
 pub mod RelocatedIs
+pub mod RunLaws

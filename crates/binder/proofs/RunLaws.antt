@@ -1,0 +1,115 @@
+-- One turn of the runs of specs/Relocating.antt: over the entries of a table, and over the objects of an order; and what an object's turn
+-- comes to once its record is read again. Assumes nothing.
+use mathlib.Core.Bool.{false}
+use mathlib.Core.List.{List}
+use mathlib.Core.Path.{_≡_, sym, _∙_}
+use Prim.Native.Nat.{ℕ, suc, _+_, _-_, _%_, _^_, _≤_, _<_}
+use native.Mathlib.Omega.{arith}
+use native.Mathlib.Numerals.{add-one}
+use borrow.Author.Tests.{eq-eqb, ne-eqb, le-leb, lt-leb}
+use lib.ListN.{length, getD, take, drop, length-take, drop-of-length-le}
+use lib.Seq.{drop-cons, getD-take}
+use Rattle.object.specs.LoadTable.{Loaded, segmentsIn}
+use Rattle.object.specs.ProgramHeader.{loadsOf, dynamicOf}
+use Rattle.object.specs.Entries.{relaAt, actionOf}
+use Rattle.object.specs.Record.{Record, ReadBy, heldBy}
+use Rattle.object.specs.declared.program_header.Dynamic.{Dynamic}
+use Rattle.object.specs.declared.program_header.Loads.{Loads}
+use Rattle.object.specs.declared.dynamic_fields.Read.{Read}
+use Rattle.object.specs.declared.relocate.Rela.{Rela}
+use Rattle.object.specs.declared.relocate.Action.{Action}
+use Rattle.sheet.specs.Sheet.{Input, noInput}
+use Rattle.binder.specs.declared.report.Progress.{Progress}
+use Rattle.binder.specs.declared.turn.Turn.{Turn}
+use Rattle.binder.specs.Relocating.{Left, left, unlessRefused, refusedBy, imageIn, turnOf, againRefusal, againRecord, runAction, runTable, runObject, runAt, runOrder}
+
+-- ---- the entries of a table
+
+module _ (address : ℕ) (table : List ℕ) (count : ℕ) (t : Turn) (r : Record) (at first : ℕ) where
+  -- what is left of a table of `n` entries from entry `i` on
+  abbrev pub entriesLeft : ℕ → ℕ → Left → Left
+  entriesLeft n i st = runTable address table count t r at first (n - i) i st
+
+  module _ (n i : ℕ) (p : Progress) (a report : List ℕ) {q : Progress} {b noted : List ℕ} {e : Rela} {act : Action} {number : ℕ} (some : i < n)
+      (he : e ≡ relaAt (imageIn a t) at i) (ha : act ≡ actionOf (e .kind)) (hn : number ≡ (first + i) % 2 ^ 32)
+      (run : left q b noted ≡ runAction address table count t r number e act p a report) {end : Left} (all : entriesLeft n i (left p a report) ≡ end) where
+    entry-step : entriesLeft n i (left p a report) ≡ unlessRefused (entriesLeft n (i + 1)) (left q b noted)
+    unfolding runTable
+    entry-step =
+        let s : n - i ≡ suc (n - (i + 1)) = omega arith in
+        rw (s, ← he, ← ha, ← hn, ← run)
+
+    -- the entry was refused
+    pub entry-stops : (q .refusal ≡ 0 → ⊥) → left q b noted ≡ end
+    entry-stops h = rw (ne-eqb _ _ h) at (sym entry-step ∙ all)
+
+    -- it was not
+    pub entry-goes : q .refusal ≡ 0 → entriesLeft n (i + 1) (left q b noted) ≡ end
+    entry-goes h = rw (eq-eqb _ _ h) at (sym entry-step ∙ all)
+
+  pub entries-end : (n i : ℕ) {st end : Left} → n ≤ i → entriesLeft n i st ≡ end → st ≡ end
+  unfolding runTable
+  entries-end n i h all =
+      let s : n - i ≡ 0 = omega arith in
+      rw s at all
+
+-- ---- the objects of an order
+
+module _ (address : ℕ) (table : List ℕ) (count : ℕ) (os : List Input) (list : List ℕ) where
+  -- what is left of the first `n` of a list from object `i` of it on
+  abbrev pub objectsLeft : ℕ → ℕ → Left → Left
+  objectsLeft n i st = runOrder address table count os (drop i (take n list)) st
+
+  module _ (n i : ℕ) (p : Progress) (a report : List ℕ) {q : Progress} {b noted : List ℕ} {k : ℕ} {file : List ℕ} (room : n ≤ length list) (some : i < n)
+      (hk : k ≡ getD list i 0) (hf : file ≡ getD os k noInput .file)
+      (run : left q b noted ≡ runAt address table count k file p a report) {end : Left} (all : objectsLeft n i (left p a report) ≡ end) where
+    object-step : objectsLeft n i (left p a report) ≡ unlessRefused (objectsLeft n (i + 1)) (left q b noted)
+    unfolding runOrder
+    object-step =
+        let s : i < length (take n list) = simp length-take (omega arith) in
+        let g : getD (take n list) i 0 ≡ k = getD-take n list i 0 some ∙ sym hk in
+        rw (add-one, drop-cons (take n list) i 0 s, g, ← hf, ← run)
+
+    -- the object was refused
+    pub object-stops : (q .refusal ≡ 0 → ⊥) → left q b noted ≡ end
+    object-stops h = rw (ne-eqb _ _ h) at (sym object-step ∙ all)
+
+    -- it was not
+    pub object-goes : q .refusal ≡ 0 → objectsLeft n (i + 1) (left q b noted) ≡ end
+    object-goes h = rw (eq-eqb _ _ h) at (sym object-step ∙ all)
+
+  pub objects-end : (n i : ℕ) {st end : Left} → n ≤ i → objectsLeft n i st ≡ end → st ≡ end
+  unfolding runOrder
+  objects-end n i h all =
+      let s : length (take n list) ≤ i = simp length-take (omega arith) in
+      rw (drop-of-length-le (take n list) s) at all
+
+-- ---- an object's turn, once its record is read again
+
+module _ (image file : List ℕ) (l : Loads) (loaded : Loaded (loadsOf file) l) where
+  -- more load segments than the record holds
+  pub again-many : 16 < l .count → againRefusal image file ≡ 7
+  unfolding againRefusal
+  again-many h =
+      let m : 16 < length (loadsOf file) = omega (arith, loaded .count) in
+      rw (lt-leb _ _ m)
+
+  module _ (few : l .count ≤ 16) (d : Dynamic) (found : d ≡ dynamicOf file) (r : Read) (read : ReadBy false image (segmentsIn l) d r) where
+    few-loads : length (loadsOf file) ≤ 16
+    few-loads = omega (arith, loaded .count)
+
+    pub again-refusal : againRefusal image file ≡ r .refusal
+    unfolding againRefusal
+    again-refusal = rw (le-leb _ _ few-loads, ← found, ← loaded .list few-loads) (sym (read .refusal))
+
+    pub again-record : r .refusal ≡ 0 → heldBy (r .object) ≡ againRecord image file
+    again-record z = rw (← found, ← loaded .list few-loads) (read .object z)
+
+module _ (address : ℕ) (table : List ℕ) (count k : ℕ) (file : List ℕ) (p : Progress) (a report : List ℕ) where
+  pub turn-stops : {t : Turn} {n : ℕ} → t ≡ turnOf address table k → againRefusal (imageIn a t) file ≡ n → (n ≡ 0 → ⊥) → left (refusedBy t n p) a report ≡ runAt address table count k file p a report
+  unfolding runAt
+  turn-stops e h ne = rw (e, rw e at h, ne-eqb _ _ ne)
+
+  pub turn-goes : {t : Turn} {r : Record} {out : Left} → t ≡ turnOf address table k → againRefusal (imageIn a t) file ≡ 0 → r ≡ againRecord (imageIn a t) file → out ≡ runObject address table count t r p a report → out ≡ runAt address table count k file p a report
+  unfolding runAt
+  turn-goes e h hr run = rw (rw e at h) (rw (e, rw e at hr) at run)

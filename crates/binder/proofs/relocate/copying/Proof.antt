@@ -1,0 +1,33 @@
+-- `binder::relocate::copying` meets its contract. Assumes nothing.
+use Rattle.binder.specs.Relocating.{copyingOf}
+use borrow.Author.Needs.{needs}
+use Rattle.binder.proofs.relocate.copying.Statement.{statement}
+use Rattle.binder.proofs.relocate.copying.Tie as tie
+
+returns : tie.Need-returns
+unfolding copyingOf
+returns c =
+    rw (c .refused .ensures, c .before .symbol-refusal .ensures, ← c .before .before .before .before .symbol-of .ensures, c .before .before .enum-told .given .1)
+
+returns-2 : tie.Need-returns-2
+unfolding copyingOf
+returns-2 c =
+    rw (← c .before .before .before .before .before .before .before .before .before .before .before .before .before .symbol-of .ensures, c .before .before .before .before .before .before .before .before .before .before .before .c .given .1, ← c .before .before .before .before .before .before .before .before .before .bounds-of .ensures .segments, ← c .before .before .before .before .before .before .before .search-copy .ensures) (c .before .before .before .before .copy-answer .ensures)
+
+pub copying-spec : {M : Type 1} → statement M
+copying-spec =
+    tie.close
+    (tie.spec
+    (λ c κs. search needs)
+    (λ c. search needs)
+    (λ c. search needs)
+    (λ c κs. search needs)
+    (λ c κs. search needs)
+    (λ c. search needs)
+    returns
+    (λ c κs. search needs)
+    (λ c κs. search needs)
+    (λ c κs. search needs)
+    (λ c. search needs)
+    (λ c. search needs)
+    returns-2)

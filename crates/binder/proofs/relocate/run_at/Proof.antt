@@ -1,0 +1,44 @@
+-- `binder::relocate::run_at` meets its contract. Assumes nothing.
+use denote.Ref.{now}
+use native.Mathlib.Omega.{arith}
+use mathlib.Core.Path.{_∙_}
+use Rattle.binder.proofs.RunLaws.{again-many, again-refusal, again-record, turn-stops, turn-goes}
+use borrow.Author.Needs.{needs}
+use Rattle.binder.proofs.relocate.run_at.Statement.{statement}
+use Rattle.binder.proofs.relocate.run_at.Tie as tie
+
+returns : tie.Need-returns
+returns c =
+    let a = c .before .before .before .before .before .before .before .before .before .args in
+    rw (c .refused .ensures) (turn-stops (a .address) (now (a .table)) (a .count) (a .k) (now (a .file)) (a .p) (now (a .arena)) (now (a .report)) (c .before .before .before .before .turn-of .ensures) (again-many _ (now (a .file)) (c .before .before .before .read-loads .result) (c .before .before .before .read-loads .ensures) (c .before .if1 .taken)) (λ e. omega arith))
+
+returns-2 : tie.Need-returns-2
+returns-2 c =
+    let a = c .before .before .before .before .before .before .before .before .before .before .before .before .before .before .before .args in
+    rw (c .refused2 .ensures) (turn-stops (a .address) (now (a .table)) (a .count) (a .k) (now (a .file)) (a .p) (now (a .arena)) (now (a .report)) (c .before .before .before .before .before .before .before .before .before .before .turn-of .ensures) (again-refusal _ (now (a .file)) (c .before .before .before .before .before .before .before .before .before .read-loads .result) (c .before .before .before .before .before .before .before .before .before .read-loads .ensures) (c .before .before .before .before .before .before .before .if1 .left) (c .before .before .before .before .before .before .dynamic-at .result) (c .before .before .before .before .before .before .dynamic-at .ensures) (c .before .before .before .read-object .result) (rw (c .before .before .before .before .image-of .ensures) at (c .before .before .before .read-object .ensures))) (c .before .if2 .taken))
+
+returns-3 : tie.Need-returns-3
+returns-3 c =
+    let a = c .before .before .before .before .before .before .before .before .before .before .before .before .before .before .before .before .before .before .before .before .before .before .args in
+    let h = rw (c .before .before .before .before .before .before .before .before .before .before .before .image-of .ensures) at (c .before .before .before .before .before .before .before .before .before .before .read-object .ensures) in
+    turn-goes (a .address) (now (a .table)) (a .count) (a .k) (now (a .file)) (a .p) (now (a .arena)) (now (a .report)) (c .before .before .before .before .before .before .before .before .before .before .before .before .before .before .before .before .before .turn-of .ensures) (again-refusal _ (now (a .file)) (c .before .before .before .before .before .before .before .before .before .before .before .before .before .before .before .before .read-loads .result) (c .before .before .before .before .before .before .before .before .before .before .before .before .before .before .before .before .read-loads .ensures) (c .before .before .before .before .before .before .before .before .before .before .before .before .before .before .if1 .left) (c .before .before .before .before .before .before .before .before .before .before .before .before .before .dynamic-at .result) (c .before .before .before .before .before .before .before .before .before .before .before .before .before .dynamic-at .ensures) (c .before .before .before .before .before .before .before .before .before .before .read-object .result) h ∙ c .before .before .before .before .before .before .before .before .if2 .left)
+    (again-record _ (now (a .file)) (c .before .before .before .before .before .before .before .before .before .before .before .before .before .before .before .before .read-loads .result) (c .before .before .before .before .before .before .before .before .before .before .before .before .before .before .before .before .read-loads .ensures) (c .before .before .before .before .before .before .before .before .before .before .before .before .before .before .if1 .left) (c .before .before .before .before .before .before .before .before .before .before .before .before .before .dynamic-at .result) (c .before .before .before .before .before .before .before .before .before .before .before .before .before .dynamic-at .ensures) (c .before .before .before .before .before .before .before .before .before .before .read-object .result) h (c .before .before .before .before .before .before .before .before .if2 .left)) (c .before .before .before .before .run-object .ensures)
+
+pub run-at-spec : {M : Type 1} → statement M
+run-at-spec =
+    tie.close
+    (tie.spec
+    (λ c κs. search needs)
+    (λ c κs. search needs)
+    (λ c κs. search needs)
+    returns
+    (λ c κs. search needs)
+    (λ c κs. search needs)
+    (λ c κs. search needs)
+    (λ c κs. search needs)
+    (λ c. search needs)
+    returns-2
+    (λ c κs. search needs)
+    (λ c. search needs)
+    (λ c. search needs)
+    returns-3)

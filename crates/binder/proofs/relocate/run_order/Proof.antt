@@ -1,0 +1,66 @@
+-- `binder::relocate::run_order` meets its contract. The invariant: what is left of the order comes to what the whole does. Assumes nothing.
+use Prim.Native.Nat.{_-_, _≤_}
+use native.Mathlib.Omega.{arith}
+use mathlib.Core.Path.{_≡_, refl, _∙_}
+use denote.Ref.{now}
+use lib.ListN.{length, take}
+use Rattle.sheet.specs.Parts.{inputsIn}
+use Rattle.binder.specs.Relocating.{left, started, runOrder}
+use Rattle.binder.proofs.RunLaws.{objectsLeft, object-stops, object-goes, objects-end}
+use borrow.Author.Needs.{needs}
+use Rattle.binder.proofs.relocate.run_order.Statement.{statement}
+use Rattle.binder.proofs.relocate.run_order.Tie as tie
+
+abbrev Inv-loop : tie.InvT-loop
+Inv-loop bytes parts arena₀ report₀ table address count list n p₀ i₀ arena report p i =
+    (length arena ≡ length arena₀) × (length report ≡ length report₀) × (n ≤ length list) × (objectsLeft address table count (inputsIn bytes parts) list n i (left p arena report) ≡ runOrder address table count (inputsIn bytes parts) (take n list) (left started arena₀ report₀))
+
+abbrev μ-loop : tie.MeasureT-loop
+μ-loop bytes parts arena₀ report₀ table address count list n p₀ i₀ arena report p i =
+    n - i
+
+loop-holds : tie.Need-loop-holds Inv-loop μ-loop
+loop-holds c =
+    let whole : length (c .before .before .before .before .before .args .order .list) ≡ 64 = search needs in
+    (refl, refl, omega (arith, c .before .before .before .before .before .pre), refl)
+
+returns : tie.Need-returns Inv-loop μ-loop
+returns c =
+    let a = c .before .before .before .before .before .before .before .before .before .before .before .before .before .before .before .before .before .args in
+    object-stops (a .address) (now (a .table)) (a .parts .count) (inputsIn (now (a .bytes)) (a .parts)) (a .order .list) (a .order .count) (c .before .before .before .before .before .before .before .before .before .before .before .loop .i) (c .before .before .before .before .before .before .before .before .before .before .before .loop .p) (c .before .before .before .before .before .before .before .before .before .before .before .loop .arena) (c .before .before .before .before .before .before .before .before .before .before .before .loop .report) (c .before .before .before .before .before .before .before .before .before .before .before .loop .inv .2) (c .before .before .before .before .before .before .before .before .before .before .loop-test .taken) refl (c .before .before .before .before .before .before .before .before .before .file-of .ensures) (c .before .before .before .before .before .before .run-at .ensures) (c .before .before .before .before .before .before .before .before .before .before .before .loop .inv .3) (c .if1 .taken)
+
+loop-again : tie.Need-loop-again Inv-loop μ-loop
+loop-again c =
+    let a = c .before .before .before .before .before .before .before .before .before .before .before .before .before .before .before .before .before .args in (
+      c .before .before .before .before .before .before .run-at .kept .0 ∙ c .before .before .before .before .before .before .before .before .before .before .before .loop .inv .0,
+      c .before .before .before .before .before .before .run-at .kept .1 .0 ∙ c .before .before .before .before .before .before .before .before .before .before .before .loop .inv .1,
+      c .before .before .before .before .before .before .before .before .before .before .before .loop .inv .2,
+      object-goes (a .address) (now (a .table)) (a .parts .count) (inputsIn (now (a .bytes)) (a .parts)) (a .order .list) (a .order .count) (c .before .before .before .before .before .before .before .before .before .before .before .loop .i) (c .before .before .before .before .before .before .before .before .before .before .before .loop .p) (c .before .before .before .before .before .before .before .before .before .before .before .loop .arena) (c .before .before .before .before .before .before .before .before .before .before .before .loop .report) (c .before .before .before .before .before .before .before .before .before .before .before .loop .inv .2) (c .before .before .before .before .before .before .before .before .before .before .loop-test .taken) refl (c .before .before .before .before .before .before .before .before .before .file-of .ensures) (c .before .before .before .before .before .before .run-at .ensures) (c .before .before .before .before .before .before .before .before .before .before .before .loop .inv .3) (c .if1 .left),
+    )
+
+returns-2 : tie.Need-returns-2 Inv-loop μ-loop
+returns-2 c =
+    let a = c .before .before .before .before .before .before .before .args in
+    objects-end (a .address) (now (a .table)) (a .parts .count) (inputsIn (now (a .bytes)) (a .parts)) (a .order .list) (a .order .count) (c .before .loop .i) (c .loop-test .left) (c .before .loop .inv .3)
+
+pub run-order-spec : {M : Type 1} → statement M
+run-order-spec =
+    tie.close
+    (tie.spec
+    Inv-loop
+    μ-loop
+    loop-holds
+    (λ c. search needs)
+    (λ c. search needs)
+    (λ c. search needs)
+    (λ c κs. search needs)
+    (λ c κs. search needs)
+    (λ c. search needs)
+    (λ c. search needs)
+    returns
+    (λ c. search needs)
+    (λ c. search needs)
+    loop-again
+    (λ c. search needs)
+    (λ c. search needs)
+    returns-2)

@@ -1,0 +1,19 @@
+-- `binder::relocate::search_copy` meets its contract. Assumes nothing.
+use borrow.Author.Needs.{needs}
+use Rattle.binder.proofs.relocate.search_copy.Statement.{statement}
+use Rattle.binder.proofs.relocate.search_copy.Tie as tie
+
+returns : tie.Need-returns
+returns c =
+    rw (← c .before .before .before .before .image-of .ensures, ← c .before .before .before .name-off .ensures, ← c .before .before .gnu-hash .ensures, ← c .before .elf-hash .ensures) (c .resolve-copy .ensures)
+
+pub search-copy-spec : {M : Type 1} → statement M
+search-copy-spec =
+    tie.close
+    (tie.spec
+    (λ c κs. search needs)
+    (λ c κs. search needs)
+    (λ c κs. search needs)
+    (λ c κs. search needs)
+    (λ c κs. search needs)
+    returns)

@@ -1,0 +1,31 @@
+-- `binder::relocate::write_found` meets its contract. Assumes nothing.
+use mathlib.Core.Path.{ap}
+use Rattle.binder.specs.Relocating.{withArena, foundOf}
+use borrow.Author.Needs.{needs}
+use Rattle.binder.proofs.relocate.write_found.Statement.{statement}
+use Rattle.binder.proofs.relocate.write_found.Tie as tie
+
+returns : tie.Need-returns
+unfolding foundOf
+returns c =
+    rw (c .before .before .before .before .before .before .before .before .enum-told .given .1, ← c .before .before .before .before .before .before .write-word .ensures) (ap (withArena _) (c .before .before .unresolved .ensures))
+
+returns-2 : tie.Need-returns-2
+unfolding foundOf
+returns-2 c =
+    rw (c .before .before .before .before .before .s .given .1, c .before .before .write-word2 .ensures)
+
+pub write-found-spec : {M : Type 1} → statement M
+write-found-spec =
+    tie.close
+    (tie.spec
+    (λ c. search needs)
+    (λ c. search needs)
+    (λ c κs. search needs)
+    (λ c κs. search needs)
+    (λ c. search needs)
+    (λ c. search needs)
+    returns
+    (λ c κs. search needs)
+    (λ c. search needs)
+    returns-2)
