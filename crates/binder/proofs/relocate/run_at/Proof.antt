@@ -10,19 +10,31 @@ use Rattle.binder.proofs.relocate.run_at.Tie as tie
 returns : tie.Need-returns
 returns c =
     let a = c .before .before .before .before .before .before .before .before .before .args in
-    rw (c .refused .ensures) (turn-stops (a .address) (now (a .table)) (a .count) (a .k) (now (a .file)) (a .p) (now (a .arena)) (now (a .report)) (c .before .before .before .before .turn-of .ensures) (again-many _ (now (a .file)) (c .before .before .before .read-loads .result) (c .before .before .before .read-loads .ensures) (c .before .if1 .taken)) (λ e. omega arith))
+    let l = c .before .before .before .read-loads in
+    rw (c .refused .ensures)
+    (turn-stops (a .address) (now (a .table)) (a .count) (a .k) (now (a .file)) (a .p) (now (a .arena)) (now (a .report)) (c .before .before .before .before .turn-of .ensures)
+    (again-many _ (now (a .file)) (l .result) (l .ensures) (c .before .if1 .taken)) (λ e. omega arith))
 
 returns-2 : tie.Need-returns-2
 returns-2 c =
     let a = c .before .before .before .before .before .before .before .before .before .before .before .before .before .before .before .args in
-    rw (c .refused2 .ensures) (turn-stops (a .address) (now (a .table)) (a .count) (a .k) (now (a .file)) (a .p) (now (a .arena)) (now (a .report)) (c .before .before .before .before .before .before .before .before .before .before .turn-of .ensures) (again-refusal _ (now (a .file)) (c .before .before .before .before .before .before .before .before .before .read-loads .result) (c .before .before .before .before .before .before .before .before .before .read-loads .ensures) (c .before .before .before .before .before .before .before .if1 .left) (c .before .before .before .before .before .before .dynamic-at .result) (c .before .before .before .before .before .before .dynamic-at .ensures) (c .before .before .before .read-object .result) (rw (c .before .before .before .before .image-of .ensures) at (c .before .before .before .read-object .ensures))) (c .before .if2 .taken))
+    let l = c .before .before .before .before .before .before .before .before .before .read-loads in
+    let d = c .before .before .before .before .before .before .dynamic-at in
+    let read = rw (c .before .before .before .before .image-of .ensures) at (c .before .before .before .read-object .ensures) in
+    rw (c .refused2 .ensures)
+    (turn-stops (a .address) (now (a .table)) (a .count) (a .k) (now (a .file)) (a .p) (now (a .arena)) (now (a .report)) (c .before .before .before .before .before .before .before .before .before .before .turn-of .ensures)
+    (again-refusal _ (now (a .file)) (l .result) (l .ensures) (c .before .before .before .before .before .before .before .if1 .left) (d .result) (d .ensures) (c .before .before .before .read-object .result) read) (c .before .if2 .taken))
 
 returns-3 : tie.Need-returns-3
 returns-3 c =
     let a = c .before .before .before .before .before .before .before .before .before .before .before .before .before .before .before .before .before .before .before .before .before .before .args in
-    let h = rw (c .before .before .before .before .before .before .before .before .before .before .before .image-of .ensures) at (c .before .before .before .before .before .before .before .before .before .before .read-object .ensures) in
-    turn-goes (a .address) (now (a .table)) (a .count) (a .k) (now (a .file)) (a .p) (now (a .arena)) (now (a .report)) (c .before .before .before .before .before .before .before .before .before .before .before .before .before .before .before .before .before .turn-of .ensures) (again-refusal _ (now (a .file)) (c .before .before .before .before .before .before .before .before .before .before .before .before .before .before .before .before .read-loads .result) (c .before .before .before .before .before .before .before .before .before .before .before .before .before .before .before .before .read-loads .ensures) (c .before .before .before .before .before .before .before .before .before .before .before .before .before .before .if1 .left) (c .before .before .before .before .before .before .before .before .before .before .before .before .before .dynamic-at .result) (c .before .before .before .before .before .before .before .before .before .before .before .before .before .dynamic-at .ensures) (c .before .before .before .before .before .before .before .before .before .before .read-object .result) h ∙ c .before .before .before .before .before .before .before .before .if2 .left)
-    (again-record _ (now (a .file)) (c .before .before .before .before .before .before .before .before .before .before .before .before .before .before .before .before .read-loads .result) (c .before .before .before .before .before .before .before .before .before .before .before .before .before .before .before .before .read-loads .ensures) (c .before .before .before .before .before .before .before .before .before .before .before .before .before .before .if1 .left) (c .before .before .before .before .before .before .before .before .before .before .before .before .before .dynamic-at .result) (c .before .before .before .before .before .before .before .before .before .before .before .before .before .dynamic-at .ensures) (c .before .before .before .before .before .before .before .before .before .before .read-object .result) h (c .before .before .before .before .before .before .before .before .if2 .left)) (c .before .before .before .before .run-object .ensures)
+    let l = c .before .before .before .before .before .before .before .before .before .before .before .before .before .before .before .before .read-loads in
+    let d = c .before .before .before .before .before .before .before .before .before .before .before .before .before .dynamic-at in
+    let read = rw (c .before .before .before .before .before .before .before .before .before .before .before .image-of .ensures) at (c .before .before .before .before .before .before .before .before .before .before .read-object .ensures) in
+    turn-goes (a .address) (now (a .table)) (a .count) (a .k) (now (a .file)) (a .p) (now (a .arena)) (now (a .report)) (c .before .before .before .before .before .before .before .before .before .before .before .before .before .before .before .before .before .turn-of .ensures)
+    (again-refusal _ (now (a .file)) (l .result) (l .ensures) (c .before .before .before .before .before .before .before .before .before .before .before .before .before .before .if1 .left) (d .result) (d .ensures) (c .before .before .before .before .before .before .before .before .before .before .read-object .result) read ∙ c .before .before .before .before .before .before .before .before .if2 .left)
+    (again-record _ (now (a .file)) (l .result) (l .ensures) (c .before .before .before .before .before .before .before .before .before .before .before .before .before .before .if1 .left) (d .result) (d .ensures) (c .before .before .before .before .before .before .before .before .before .before .read-object .result) read (c .before .before .before .before .before .before .before .before .if2 .left))
+    (c .before .before .before .before .run-object .ensures)
 
 pub run-at-spec : {M : Type 1} → statement M
 run-at-spec =

@@ -1,7 +1,7 @@
 -- `binder::relocate::run_order` meets its contract. The invariant: what is left of the order comes to what the whole does. Assumes nothing.
 use Prim.Native.Nat.{_-_, _≤_}
 use native.Mathlib.Omega.{arith}
-use mathlib.Core.Path.{_≡_, refl, _∙_}
+use mathlib.Core.Path.{_≡_, refl}
 use denote.Ref.{now}
 use lib.ListN.{length, take}
 use Rattle.sheet.specs.Parts.{inputsIn}
@@ -27,15 +27,19 @@ loop-holds c =
 returns : tie.Need-returns Inv-loop μ-loop
 returns c =
     let a = c .before .before .before .before .before .before .before .before .before .before .before .before .before .before .before .before .before .args in
-    object-stops (a .address) (now (a .table)) (a .parts .count) (inputsIn (now (a .bytes)) (a .parts)) (a .order .list) (a .order .count) (c .before .before .before .before .before .before .before .before .before .before .before .loop .i) (c .before .before .before .before .before .before .before .before .before .before .before .loop .p) (c .before .before .before .before .before .before .before .before .before .before .before .loop .arena) (c .before .before .before .before .before .before .before .before .before .before .before .loop .report) (c .before .before .before .before .before .before .before .before .before .before .before .loop .inv .2) (c .before .before .before .before .before .before .before .before .before .before .loop-test .taken) refl (c .before .before .before .before .before .before .before .before .before .file-of .ensures) (c .before .before .before .before .before .before .run-at .ensures) (c .before .before .before .before .before .before .before .before .before .before .before .loop .inv .3) (c .if1 .taken)
+    let l = c .before .before .before .before .before .before .before .before .before .before .before .loop in
+    object-stops (a .address) (now (a .table)) (a .parts .count) (inputsIn (now (a .bytes)) (a .parts)) (a .order .list) (a .order .count) (l .i) (l .p) (l .arena) (l .report) {b = c .before .before .before .before .before .before .run-at .last .0} {noted = c .before .before .before .before .before .before .run-at .last .1 .0}
+    (l .inv .2) (c .before .before .before .before .before .before .before .before .before .before .loop-test .taken) refl (c .before .before .before .before .before .before .before .before .before .file-of .ensures) (c .before .before .before .before .before .before .run-at .ensures) (l .inv .3) (c .if1 .taken)
 
 loop-again : tie.Need-loop-again Inv-loop μ-loop
 loop-again c =
-    let a = c .before .before .before .before .before .before .before .before .before .before .before .before .before .before .before .before .before .args in (
-      c .before .before .before .before .before .before .run-at .kept .0 ∙ c .before .before .before .before .before .before .before .before .before .before .before .loop .inv .0,
-      c .before .before .before .before .before .before .run-at .kept .1 .0 ∙ c .before .before .before .before .before .before .before .before .before .before .before .loop .inv .1,
-      c .before .before .before .before .before .before .before .before .before .before .before .loop .inv .2,
-      object-goes (a .address) (now (a .table)) (a .parts .count) (inputsIn (now (a .bytes)) (a .parts)) (a .order .list) (a .order .count) (c .before .before .before .before .before .before .before .before .before .before .before .loop .i) (c .before .before .before .before .before .before .before .before .before .before .before .loop .p) (c .before .before .before .before .before .before .before .before .before .before .before .loop .arena) (c .before .before .before .before .before .before .before .before .before .before .before .loop .report) (c .before .before .before .before .before .before .before .before .before .before .before .loop .inv .2) (c .before .before .before .before .before .before .before .before .before .before .loop-test .taken) refl (c .before .before .before .before .before .before .before .before .before .file-of .ensures) (c .before .before .before .before .before .before .run-at .ensures) (c .before .before .before .before .before .before .before .before .before .before .before .loop .inv .3) (c .if1 .left),
+    let a = c .before .before .before .before .before .before .before .before .before .before .before .before .before .before .before .before .before .args in
+    let l = c .before .before .before .before .before .before .before .before .before .before .before .loop in (
+      omega (arith, c .before .before .before .before .before .before .run-at .kept .0, l .inv .0),
+      omega (arith, c .before .before .before .before .before .before .run-at .kept .1 .0, l .inv .1),
+      l .inv .2,
+      object-goes (a .address) (now (a .table)) (a .parts .count) (inputsIn (now (a .bytes)) (a .parts)) (a .order .list) (a .order .count) (l .i) (l .p) (l .arena) (l .report) {b = c .before .before .before .before .before .before .run-at .last .0} {noted = c .before .before .before .before .before .before .run-at .last .1 .0}
+          (l .inv .2) (c .before .before .before .before .before .before .before .before .before .before .loop-test .taken) refl (c .before .before .before .before .before .before .before .before .before .file-of .ensures) (c .before .before .before .before .before .before .run-at .ensures) (l .inv .3) (c .if1 .left),
     )
 
 returns-2 : tie.Need-returns-2 Inv-loop μ-loop

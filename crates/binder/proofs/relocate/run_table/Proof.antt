@@ -27,7 +27,9 @@ loop-holds c =
 returns : tie.Need-returns Inv-loop μ-loop
 returns c =
     let a = c .before .before .before .before .before .before .before .before .before .before .before .before .before .before .before .before .before .before .args in
-    entry-stops (a .address) (now (a .table)) (a .count) (a .t) (heldBy (a .o)) (a .at) (a .first) (a .n) (c .before .before .before .before .before .before .before .before .before .before .before .before .before .before .loop .i) (c .before .before .before .before .before .before .before .before .before .before .before .before .before .before .loop .q) (c .before .before .before .before .before .before .before .before .before .before .before .before .before .before .loop .arena) (c .before .before .before .before .before .before .before .before .before .before .before .before .before .before .loop .report) {b = c .before .before .before .before .before .before .run-action .last .0} {noted = c .before .before .before .before .before .before .run-action .last .1 .0} (c .before .before .before .before .before .before .before .before .before .before .before .before .before .loop-test .taken) (c .before .before .before .before .before .before .before .before .before .before .before .rela-in .ensures) (c .before .before .before .before .before .before .before .before .before .before .action-of .ensures) (c .before .before .before .before .before .before .before .before .before .wrapping-add-u32 .ensures) (c .before .before .before .before .before .before .run-action .ensures) (c .before .before .before .before .before .before .before .before .before .before .before .before .before .before .loop .inv .2) (c .if1 .taken)
+    let l = c .before .before .before .before .before .before .before .before .before .before .before .before .before .before .loop in
+    entry-stops (a .address) (now (a .table)) (a .count) (a .t) (heldBy (a .o)) (a .at) (a .first) (a .n) (l .i) (l .q) (l .arena) (l .report) {b = c .before .before .before .before .before .before .run-action .last .0} {noted = c .before .before .before .before .before .before .run-action .last .1 .0}
+    (c .before .before .before .before .before .before .before .before .before .before .before .before .before .loop-test .taken) (c .before .before .before .before .before .before .before .before .before .before .before .rela-in .ensures) (c .before .before .before .before .before .before .before .before .before .before .action-of .ensures) (c .before .before .before .before .before .before .before .before .before .wrapping-add-u32 .ensures) (c .before .before .before .before .before .before .run-action .ensures) (l .inv .2) (c .if1 .taken)
 
 add-i : tie.Need-add-i Inv-loop μ-loop
 add-i c =
@@ -35,10 +37,12 @@ add-i c =
 
 loop-again : tie.Need-loop-again Inv-loop μ-loop
 loop-again c =
-    let a = c .before .before .before .before .before .before .before .before .before .before .before .before .before .before .before .before .before .before .args in (
-      omega (arith, c .before .before .before .before .before .before .run-action .kept .0, c .before .before .before .before .before .before .before .before .before .before .before .before .before .before .loop .inv .0),
-      omega (arith, c .before .before .before .before .before .before .run-action .kept .1 .0, c .before .before .before .before .before .before .before .before .before .before .before .before .before .before .loop .inv .1),
-      entry-goes (a .address) (now (a .table)) (a .count) (a .t) (heldBy (a .o)) (a .at) (a .first) (a .n) (c .before .before .before .before .before .before .before .before .before .before .before .before .before .before .loop .i) (c .before .before .before .before .before .before .before .before .before .before .before .before .before .before .loop .q) (c .before .before .before .before .before .before .before .before .before .before .before .before .before .before .loop .arena) (c .before .before .before .before .before .before .before .before .before .before .before .before .before .before .loop .report) {b = c .before .before .before .before .before .before .run-action .last .0} {noted = c .before .before .before .before .before .before .run-action .last .1 .0} (c .before .before .before .before .before .before .before .before .before .before .before .before .before .loop-test .taken) (c .before .before .before .before .before .before .before .before .before .before .before .rela-in .ensures) (c .before .before .before .before .before .before .before .before .before .before .action-of .ensures) (c .before .before .before .before .before .before .before .before .before .wrapping-add-u32 .ensures) (c .before .before .before .before .before .before .run-action .ensures) (c .before .before .before .before .before .before .before .before .before .before .before .before .before .before .loop .inv .2) (c .if1 .left),
+    let a = c .before .before .before .before .before .before .before .before .before .before .before .before .before .before .before .before .before .before .args in
+    let l = c .before .before .before .before .before .before .before .before .before .before .before .before .before .before .loop in (
+      omega (arith, c .before .before .before .before .before .before .run-action .kept .0, l .inv .0),
+      omega (arith, c .before .before .before .before .before .before .run-action .kept .1 .0, l .inv .1),
+      entry-goes (a .address) (now (a .table)) (a .count) (a .t) (heldBy (a .o)) (a .at) (a .first) (a .n) (l .i) (l .q) (l .arena) (l .report) {b = c .before .before .before .before .before .before .run-action .last .0} {noted = c .before .before .before .before .before .before .run-action .last .1 .0}
+          (c .before .before .before .before .before .before .before .before .before .before .before .before .before .loop-test .taken) (c .before .before .before .before .before .before .before .before .before .before .before .rela-in .ensures) (c .before .before .before .before .before .before .before .before .before .before .action-of .ensures) (c .before .before .before .before .before .before .before .before .before .wrapping-add-u32 .ensures) (c .before .before .before .before .before .before .run-action .ensures) (l .inv .2) (c .if1 .left),
     )
 
 returns-2 : tie.Need-returns-2 Inv-loop μ-loop
