@@ -37,7 +37,11 @@ use Rattle.binder.proofs.QueryLaws.{placed-is}
 use Rattle.binder.proofs.QueryIs.{zero-at, passed-of}
 use Rattle.binder.proofs.Steady.{LoadedSet}
 use Rattle.binder.proofs.RelocatedIs as relocated
-use Rattle.binder.proofs.RelocatedIs.{fillOf, Going}
+use Rattle.binder.proofs.ReportFill as fills
+use Rattle.binder.proofs.ReportFill.{fillOf, Going}
+use Rattle.binder.proofs.FileLaws.{hostFile, fileOf}
+use Rattle.binder.proofs.SteadyLaws.{lies, starts}
+use Rattle.binder.proofs.NeedsIs.{order-loaded}
 
 -- ---- settling
 
@@ -91,7 +95,7 @@ fits-in (suc n) k (w ∷ ws) l g =
     ap (λ (xs : List ℕ). w ∷ xs) (fits-in n k ws (omega arith) (omega arith) ∙ ap (λ (i : ℕ). ws ++ replicate i 0) z)
 
 filled : (n : ℕ) (ws : List ℕ) → length ws ≤ n → fillOf n ws ≡ ws ++ replicate (n - length ws) 0
-unfolding relocated.fillOf
+unfolding fills.fillOf
 filled n ws l = fits-in n n ws l (omega arith)
 
 module _ (address size : ℕ) (table : List ℕ) (hf pf : File) (fs : List File) (policy : Policy) (order : List ℕ) (words : ℕ) where
@@ -143,12 +147,6 @@ bytes-of [] j l = absurd (omega arith)
 bytes-of (o ∷ ls) zero l = refl
 bytes-of (o ∷ ls) (suc j) l = bytes-of ls j (omega arith)
 
-abbrev hostOf : Input → File
-hostOf o = record { host = true; bytes = o .file }
-
-abbrev fileOf : Input → File
-fileOf o = record { host = false; bytes = o .file }
-
 -- refusals 4 to 12
 pub load-refused :
     (os : List Input) (size address : ℕ) (policy : Policy) (words : ℕ) (m : Met) (a report : List ℕ) → metBy m ≡ loadVerdict size 0 0 (filesOf os)
@@ -157,11 +155,6 @@ pub load-refused :
     ≡ bindIn (loadVerdict size 0 0 (filesOf os)) (filesOf os) (setOrder (filesOf os) (namesOf os)) size address policy words
 unfolding bindIn settledOf outcomeOf verdict
 load-refused os size address policy words m a report e ne la lr = rw (← e, ne-eqb (m .number) 0 ne, la, lr)
-
-ordered-stub :
-    (address size : ℕ) (table : List ℕ) (h p : Input) (ls : List Input) (arena a : List ℕ) (order : Order)
-    → take (order .count) (order .list) ≡ setOrder (filesOf (h ∷ (p ∷ ls))) (namesOf (h ∷ (p ∷ ls)))
-ordered-stub = ?
 
 -- a set that was loaded
 module _
@@ -173,30 +166,30 @@ module _
     fs = map fileOf ls
 
     abbrev made-set : objects.Objs
-    made-set = objsOf (objectAt address) (hostOf h) (fileOf p) fs
+    made-set = objsOf (objectAt address) (hostFile h) (fileOf p) fs
 
     many : objects.count made-set ≡ length ls + 2
     many =
         let n : length fs ≡ length ls = length-map ls fileOf in
-        omega (arith, count-is address size (hostOf h) (fileOf p) fs)
+        omega (arith, count-is address size (hostFile h) (fileOf p) fs)
 
-    not-host : (k : ℕ) → 1 ≤ k → k < length ls + 2 → getD (hostOf h ∷ (fileOf p ∷ fs)) k noFile .host ≡ false
+    not-host : (k : ℕ) → 1 ≤ k → k < length ls + 2 → getD (hostFile h ∷ (fileOf p ∷ fs)) k noFile .host ≡ false
     not-host zero l g = absurd (omega arith)
     not-host (suc zero) l g = refl
     not-host (suc (suc j)) l g = hosts ls j (omega arith)
 
     pub files-are :
-        (k : ℕ) → k < length ls + 2 → getD (h ∷ (p ∷ ls)) k noInput .file ≡ getD (hostOf h ∷ (fileOf p ∷ fs)) k noFile .bytes
+        (k : ℕ) → k < length ls + 2 → getD (h ∷ (p ∷ ls)) k noInput .file ≡ getD (hostFile h ∷ (fileOf p ∷ fs)) k noFile .bytes
     files-are zero g = refl
     files-are (suc zero) g = refl
     files-are (suc (suc j)) g = bytes-of ls j (omega arith)
 
-    pub loaded : LoadedSet address size table (hostOf h) (fileOf p) fs
+    pub loaded : LoadedSet address size table (hostFile h) (fileOf p) fs
     unfolding filesOf
     loaded =
         record {
           others = λ k l g. not-host k l (omega (arith, many));
-          loads = subst (λ (n : ℕ). loadVerdict n 0 0 (hostOf h ∷ (fileOf p ∷ fs)) ≡ passed) len (sym (made .met) ∙ passed-of r z);
+          loads = subst (λ (n : ℕ). loadVerdict n 0 0 (hostFile h ∷ (fileOf p ∷ fs)) ≡ passed) len (sym (made .met) ∙ passed-of r z);
           seats = made .table z;
           end = omega (arith, ready .end);
           small = omega (arith, ready .small);
@@ -206,14 +199,20 @@ module _
     unfolding filesOf
     placed-arena =
         made .arena z
-        ∙ (ap (placeFiles (hostOf h ∷ (fileOf p ∷ fs)) 0) (ap mem (ready .zeros) ∙ fun-ext (zero-at (length arena)))
-        ∙ sym (placed-is address (hostOf h) (fileOf p) fs))
+        ∙ (ap (placeFiles (hostFile h ∷ (fileOf p ∷ fs)) 0) (ap mem (ready .zeros) ∙ fun-ext (zero-at (length arena)))
+        ∙ sym (placed-is address (hostFile h) (fileOf p) fs))
 
     -- the order that the code made is the order of the set
     pub ordered :
         (order : Order) → Arranged (h ∷ (p ∷ ls)) (length ls + 2) a table order
         → take (order .count) (order .list) ≡ setOrder (filesOf (h ∷ (p ∷ ls))) (namesOf (h ∷ (p ∷ ls)))
-    ordered order o = ordered-stub address size table h p ls arena a order
+    unfolding filesOf
+    ordered order o =
+        let n : length ls + 2 ≡ length (h ∷ (p ∷ ls)) = omega arith in
+        order-loaded address size table a h p ls loaded
+        (λ k l. lies address size table (hostFile h) (fileOf p) fs loaded k l)
+        (λ k l. starts address size table (hostFile h) (fileOf p) fs loaded a (mem arena) (kept ∙ len) (made .arena z) k l)
+        order (subst (λ (i : ℕ). Arranged (h ∷ (p ∷ ls)) i a table order) n o)
 
     -- 14 to 20: the objects were relocated in the order of the set
     pub bound-set :
@@ -228,12 +227,12 @@ module _
     unfolding filesOf bindIn objectsOf
     bound-set policy words order o report zeros q a′ report′ e m me =
         let once : OnceEach (objects.count made-set) order = subst (λ (l : List ℕ). OnceEach (objects.count made-set) l) (sym o)
-        (order-is address (hostOf h) (fileOf p) fs (namesOf (h ∷ (p ∷ ls))) (names-length h p ls ∙ sym (length-map ls fileOf))) in
+        (order-is address (hostFile h) (fileOf p) fs (namesOf (h ∷ (p ∷ ls))) (names-length h p ls ∙ sym (length-map ls fileOf))) in
         let n : length a ≡ size = kept ∙ len in
         let run : left q a′ report′ ≡ runOrder address table (objects.count made-set) (h ∷ (p ∷ ls)) order (left started a report) = rw many e in
-        let ended = relocated.relocated-is address size table (hostOf h) (fileOf p) fs loaded (h ∷ (p ∷ ls)) (λ k l. files-are k (omega (arith, many)))
+        let ended = relocated.relocated-is address size table (hostFile h) (fileOf p) fs loaded (h ∷ (p ∷ ls)) (λ k l. files-are k (omega (arith, many)))
         order once words a report placed-arena n zeros q a′ report′ run in
-        relocated-set address size table (hostOf h) (fileOf p) fs policy order words q a′ report′ ended m me
+        relocated-set address size table (hostFile h) (fileOf p) fs policy order words q a′ report′ ended m me
         ∙ rw (o, loaded .loads)
 
 -- whatever objects the table of parts names

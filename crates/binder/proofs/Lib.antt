@@ -28,3 +28,4 @@ pub mod ObjectIs
 pub mod ObjectCount
 pub mod RelocatedIs
 pub mod RunLaws
+pub mod BindIs
