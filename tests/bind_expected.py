@@ -1,4 +1,4 @@
-"""What document 01's program must answer: its rules for a set, on top of the reader of object_cases.py, which knows nothing of the crates."""
+"""What document 01's program must answer: its rules for whole sets, on top of the reader of object_cases.py. Knows nothing of the crates."""
 from object_cases import M64, Object, Refused, headers, le, need
 
 ADDRESS, ARENA, WORDS, INPUT = 0x10000000, 32768, 1024, 65536
