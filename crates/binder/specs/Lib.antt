@@ -7,6 +7,7 @@ pub mod Report
 pub mod SetOrder
 pub mod Bind
 pub mod LongerSet
+pub mod Cases
 pub mod OrderReport
 pub mod Prepared
 pub mod ScopeCode
