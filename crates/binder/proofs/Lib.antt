@@ -10,6 +10,7 @@ pub mod InsideLaws
 pub mod SoundLaws
 pub mod OrderIs
 pub mod LongerSetLaw
+pub mod LongerQueryLaw
 pub mod CasesHold
 pub mod OrderReported
 pub mod ScopeLaws

@@ -3,14 +3,18 @@
 -- lengths". `Kept` and `OnlyProgramCopies` are the model's (model/specs/Longer). Assumes nothing.
 use mathlib.Core.List.{List, [], _∷_, _++_}
 use mathlib.Core.Path.{_≡_}
+use mathlib.Core.Logic.{_≢_}
 use Prim.Native.Nat.{ℕ}
-use Rattle.words.specs.Memory.{mem}
+use Rattle.words.specs.Memory.{mem, tab}
 use Rattle.model.specs.Objects.{Objs}
+use Rattle.model.specs.Relocation.{placed}
 use Rattle.model.specs.Longer.{OnlyProgramCopies, Kept}
 use Rattle.binder.specs.declared.Policy.{Policy}
 use Rattle.binder.specs.declared.Answer.the-variants.{Bound}
+use Rattle.binder.specs.declared.Reply.the-variants.{Found}
 use Rattle.sheet.specs.Sheet.{setOf}
-use Rattle.binder.specs.Bind.{filesOf, objectsOf, bindOf, outcome}
+use Rattle.binder.specs.Verdict.{passed}
+use Rattle.binder.specs.Bind.{filesOf, objectsOf, prepareVerdict, bindOf, outcome, queryOf, replied}
 
 -- the objects of a sheet and its bytes, in an arena at `address`
 abbrev pub setObjects : ℕ → List ℕ → List ℕ → Objs
@@ -32,3 +36,26 @@ LongerSet =
     → (fileWord nameWord : ℕ) (added : List ℕ) (size′ words′ : ℕ) (arena′ report′ : List ℕ)
     → BoundBy (sheet ++ (fileWord ∷ (nameWord ∷ []))) (bytes ++ added) size′ address policy words′ arena′ report′
     → Kept (setObjects address sheet bytes) (setObjects address (sheet ++ (fileWord ∷ (nameWord ∷ []))) (bytes ++ added)) (mem arena) (mem arena′)
+
+-- ---- the same for the public query
+
+-- the set meets none of refusals 1 to 12 in an arena of `size` bytes: only 13 is left to a query
+abbrev pub LoadedBy : List ℕ → List ℕ → ℕ → ℕ → Type 0
+LoadedBy sheet bytes size address = prepareVerdict sheet bytes size address ≡ passed
+
+-- demand 3's clause on names, for what `query` answers; document 01: "An answer is what a lookup yields". S and T are asked in arenas of any
+-- sizes in which they meet none of refusals 1 to 12. They need not be bound; a set that is bound can be asked in the arena of that call.
+pub record LongerQuery : Type 0 where
+  pub bound-loaded :
+      (sheet bytes : List ℕ) (size address : ℕ) (policy : Policy) (words : ℕ) (arena report : List ℕ)
+      → BoundBy sheet bytes size address policy words arena report → LoadedBy sheet bytes size address
+  -- "every name that S answers from its program or a library, for any object of S as requester": the answer is of an object other than
+  -- 0; a requester that is no object of S is refused
+  pub same-answer :
+      (address : ℕ) (sheet bytes : List ℕ) (size requester : ℕ) (name : List ℕ) (k i a : ℕ) (arena : List ℕ)
+      → queryOf sheet bytes size address requester name ≡ replied (Found k i a) arena → k ≢ 0
+      → (fileWord nameWord : ℕ) (added : List ℕ) (size′ : ℕ)
+      → LoadedBy (sheet ++ (fileWord ∷ (nameWord ∷ []))) (bytes ++ added) size′ address
+      -- "has the same answer in T, the same object, symbol and address"
+      → queryOf (sheet ++ (fileWord ∷ (nameWord ∷ []))) (bytes ++ added) size′ address requester name
+      ≡ replied (Found k i a) (tab size′ (placed (setObjects address (sheet ++ (fileWord ∷ (nameWord ∷ []))) (bytes ++ added))))
