@@ -17,4 +17,3 @@ pub mod KnownLaws
 pub mod CountLaws
 pub mod LookupSame
 pub mod ReadingsSame
-pub mod RelrCases
