@@ -19,8 +19,7 @@ same-requires : tie.Need-same-requires
 same-requires c κs = search needs
 
 returns : tie.Need-returns
-returns c =
-    cc
+returns c = rw (c .same .ensures, c .before .name-off .ensures, c .before .before .u32-off .ensures)
 
 pub named-spec : {M : Type 1} → statement M
 named-spec =

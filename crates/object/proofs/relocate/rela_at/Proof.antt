@@ -34,7 +34,12 @@ u64-off-requires-2 c κs = search needs
 returns : tie.Need-returns
 unfolding relaAt
 returns c =
-    cc
+    rw (
+      c .before .before .before .u64-off .ensures,
+      c .before .before .u32-off .ensures,
+      c .before .u32-off2 .ensures,
+      c .u64-off2 .ensures,
+    )
 
 pub rela-at-spec : {M : Type 1} → statement M
 rela-at-spec =

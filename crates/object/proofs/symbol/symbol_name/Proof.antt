@@ -16,8 +16,7 @@ name-off-requires : tie.Need-name-off-requires
 name-off-requires c κs = search needs
 
 returns : tie.Need-returns
-returns c =
-    cc
+returns c = rw (c .name-off .ensures, c .before .u32-off .ensures)
 
 pub symbol-name-spec : {M : Type 1} → statement M
 symbol-name-spec =

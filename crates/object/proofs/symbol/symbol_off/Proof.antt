@@ -33,7 +33,15 @@ returns : tie.Need-returns
 unfolding symbolFrom
 returns c =
     let a = c .before .before .before .before .before .before .before .before .args in
-    (cc) ∙ symbol-end-at (now (a .image)) (a .at + a .k) (c .before .before .before .before .before .before .place .result) (c .before .before .before .before .before .before .place .ensures)
+    rw (
+      c .before .before .before .before .before .u32-off .ensures,
+      c .before .before .before .before .byte-at .ensures,
+      c .before .before .before .byte-at2 .ensures,
+      c .before .before .u16-off .ensures,
+      c .before .u64-off .ensures,
+      c .u64-off2 .ensures,
+    )
+    (symbol-end-at (now (a .image)) (a .at + a .k) (c .before .before .before .before .before .before .place .result) (c .before .before .before .before .before .before .place .ensures))
 
 pub symbol-off-spec : {M : Type 1} → statement M
 symbol-off-spec =
