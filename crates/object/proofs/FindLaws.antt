@@ -1,16 +1,22 @@
 -- The turns of a lookup, for any table. No contract cites this file. Assumes nothing.
-use mathlib.Core.Path.{_≡_, refl}
+use mathlib.Core.Path.{_≡_, refl, sym, _∙_}
 use mathlib.Core.Bool.{Bool, true, false}
 use mathlib.Core.List.{List}
-use Prim.Native.Nat.{ℕ, zero, suc, _/_, _^_, _≤_, _<_}
+use Prim.Native.Nat.{ℕ, zero, suc, _+_, _-_, _*_, _/_, _%_, _^_, _≤_, _<_}
 use native.Mathlib.Nat.{not-suc-le-zero, pow-le-pow-right, div-eq-of-lt}
 use native.Mathlib.Omega.{arith}
-use borrow.Author.Tests.{ne-eqb}
-use lib.Dec.{lit<}
+use borrow.Author.Tests.{eq-eqb, ne-eqb}
+use lib.Bits.{bitOr}
+use lib.Dec.{eqb, lit<}
 use Rattle.words.specs.Memory.{mem}
+use Rattle.words.specs.Choice.{both}
 use Rattle.words.specs.Words.{leAt}
+use Rattle.words.specs.Names.{sameBytes}
 use Rattle.object.specs.declared.hash_tables.HashTable.{HashTable}
+use Rattle.object.specs.declared.hash_tables.HashTable.the-variants.{Gnu}
+use Rattle.object.specs.declared.hash_tables.Found.{Found}
 use Rattle.object.specs.declared.hash_tables.Found.the-variants.{Hit, Miss}
+use Rattle.object.specs.Symbol.{symbolName}
 use Rattle.object.specs.HashTable.{bucketAt, chainAt, isLast, next, fuel, walk, walkFrom, mayHold, bucketOf, isHit, firstIn, findBy}
 
 -- a shift by 32 or more leaves nothing of a 32-bit number
@@ -58,3 +64,28 @@ module _ (m : List ℕ) (symbols strings : ℕ) (t : HashTable) (name : List ℕ
       → findBy m symbols strings t name g e ≡ firstIn (isHit m symbols strings t name g) (walk m t f b)
   unfolding findBy walkFrom
   find-start b f q h z nz = rw (q, h, ← z, ne-eqb b 0 nz)
+
+-- ---- one turn over a GNU table
+
+module _ (m : List ℕ) (symbols strings at n first blooms shift : ℕ) (name : List ℕ) (g : ℕ) (f : Found) (s k d w : ℕ) (h : Bool)
+    (left : f ≡ firstIn (isHit m symbols strings (Gnu at n first blooms shift) name g) (walk m (Gnu at n first blooms shift) k s))
+    (more : 0 < k) (de : d ≡ s - first) (we : w ≡ leAt 4 (mem m) (at + (16 + 8 * blooms + 4 * n + 4 * d)))
+    (he : h ≡ both (eqb (bitOr w 1) (bitOr g 1)) (sameBytes (symbolName m symbols strings s) name)) where
+  chain-word : w ≡ leAt 4 (mem m) (chainAt (Gnu at n first blooms shift) s)
+  chain-word = rw de at we
+
+  hit-is : isHit m symbols strings (Gnu at n first blooms shift) name g s ≡ h
+  unfolding isHit
+  hit-is = rw (← chain-word, he)
+
+  pub gnu-hit : h ≡ true → Hit s ≡ f
+  gnu-hit e = sym (left ∙ find-here m (Gnu at n first blooms shift) (isHit m symbols strings (Gnu at n first blooms shift) name g) s k more (hit-is ∙ e))
+
+  pub gnu-end : h ≡ false → w % 2 ≡ 1 → Miss ≡ f
+  gnu-end e o =
+      sym (left ∙ find-last m (Gnu at n first blooms shift) (isHit m symbols strings (Gnu at n first blooms shift) name g) s k w more chain-word (hit-is ∙ e) (eq-eqb _ _ o))
+
+  pub gnu-on : h ≡ false → (w % 2 ≡ 1 → ⊥)
+      → f ≡ firstIn (isHit m symbols strings (Gnu at n first blooms shift) name g) (walk m (Gnu at n first blooms shift) (k - 1) (s + 1))
+  gnu-on e o =
+      left ∙ find-on m (Gnu at n first blooms shift) (isHit m symbols strings (Gnu at n first blooms shift) name g) s k w (k - 1) (omega arith) chain-word (hit-is ∙ e) (ne-eqb _ _ o)

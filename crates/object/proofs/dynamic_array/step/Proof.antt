@@ -1,9 +1,16 @@
 -- `object::dynamic_array::step` meets its contract: each arm is the definition at its tag.
 -- Assumes nothing.
+use mathlib.Core.Path.{_≡_, sym, ap}
+use Prim.Native.Nat.{ℕ}
 use borrow.Author.Tests.{ne-eqb}
+use Rattle.object.specs.declared.dynamic_array.DynamicFields.{DynamicFields}
 use Rattle.object.specs.FieldSteps.{stepOf}
 use Rattle.object.proofs.dynamic_array.step.Statement.{statement}
 use Rattle.object.proofs.dynamic_array.step.Tie as tie
+
+-- an entry whose tag is `k`
+step-at : (o : DynamicFields) (v : ℕ) {tag k : ℕ} → tag ≡ k → stepOf o k v ≡ stepOf o tag v
+step-at o v e = ap (λ (t : ℕ). stepOf o t v) (sym e)
 
 returns-15 : tie.Need-returns-15
 unfolding stepOf
@@ -31,16 +38,16 @@ step-spec =
     (tie.spec
     (λ c. simp (c .before .match .keys1, c .if1 .taken))
     (λ c. simp (c .before .match .keys1, c .if1 .left))
-    (λ c. simp (c .match .keys2))
-    (λ c. simp (c .match .keys3))
-    (λ c. simp (c .match .keys4))
-    (λ c. simp (c .match .keys5))
-    (λ c. simp (c .match .keys6))
-    (λ c. simp (c .match .keys7))
-    (λ c. simp (c .match .keys8))
-    (λ c. simp (c .match .keys9))
-    (λ c. simp (c .match .keys10))
-    (λ c. simp (c .match .keys11))
-    (λ c. simp (c .match .keys12))
-    (λ c. simp (c .match .keys13))
+    (λ c. step-at (c .before .args .o) (c .before .args .v) (c .match .keys2))
+    (λ c. step-at (c .before .args .o) (c .before .args .v) (c .match .keys3))
+    (λ c. step-at (c .before .args .o) (c .before .args .v) (c .match .keys4))
+    (λ c. step-at (c .before .args .o) (c .before .args .v) (c .match .keys5))
+    (λ c. step-at (c .before .args .o) (c .before .args .v) (c .match .keys6))
+    (λ c. step-at (c .before .args .o) (c .before .args .v) (c .match .keys7))
+    (λ c. step-at (c .before .args .o) (c .before .args .v) (c .match .keys8))
+    (λ c. step-at (c .before .args .o) (c .before .args .v) (c .match .keys9))
+    (λ c. step-at (c .before .args .o) (c .before .args .v) (c .match .keys10))
+    (λ c. step-at (c .before .args .o) (c .before .args .v) (c .match .keys11))
+    (λ c. step-at (c .before .args .o) (c .before .args .v) (c .match .keys12))
+    (λ c. step-at (c .before .args .o) (c .before .args .v) (c .match .keys13))
     returns-15)

@@ -7,7 +7,7 @@ use borrow.Author.Needs.{needs}
 use denote.Ref.{now}
 use Rattle.object.specs.HashTable.{findBy, firstIn, isHit, walk, mayHold}
 use Rattle.object.specs.declared.hash_tables.HashTable.the-variants.{Gnu}
-use Rattle.object.proofs.FindLaws.{find-here, find-last, find-on, find-out, find-not, find-empty, find-start}
+use Rattle.object.proofs.FindLaws.{gnu-hit, gnu-end, gnu-on, find-out, find-not, find-empty, find-start}
 use Rattle.object.proofs.hash_tables.find_gnu.Statement.{statement}
 use Rattle.object.proofs.hash_tables.find_gnu.Tie as tie
 
@@ -128,29 +128,16 @@ hit-gnu-requires : tie.Need-hit-gnu-requires Inv-loop μ-loop
 hit-gnu-requires c κs = search needs
 
 returns-5 : tie.Need-returns-5 Inv-loop μ-loop
-unfolding isHit
 returns-5 c =
     let a = c .before .before .before .before .before .before .before .before .before .before .before .before .before .before .before .before .args in
     let l = c .before .before .before .before .before .loop in
-    let m = now (a .image) in
-    let t = Gnu (a .at) (a .buckets) (a .first) (a .blooms) (a .shift) in
-    let p = isHit m (a .symbols) (a .strings) t (now (a .name)) (a .gnu) in
-    let we = rw (c .before .before .before .monus .ensures) at (c .before .before .u32-off2 .ensures) in
-    (sym (l .inv .1 ∙ find-here m t p (l .s) (l .left) (c .before .before .before .before .loop-test .taken) (rw (← we) (sym (c .before .hit-gnu .ensures) ∙ c .if5 .taken))), omega arith)
+    (gnu-hit (now (a .image)) (a .symbols) (a .strings) (a .at) (a .buckets) (a .first) (a .blooms) (a .shift) (now (a .name)) (a .gnu) _ (l .s) (l .left) _ _ _ (l .inv .1) (c .before .before .before .before .loop-test .taken) (c .before .before .before .monus .ensures) (c .before .before .u32-off2 .ensures) (c .before .hit-gnu .ensures) (c .if5 .taken), omega arith)
 
 returns-6 : tie.Need-returns-6 Inv-loop μ-loop
-unfolding isHit
 returns-6 c =
     let a = c .before .before .before .before .before .before .before .before .before .before .before .before .before .before .before .before .before .args in
     let l = c .before .before .before .before .before .before .loop in
-    let m = now (a .image) in
-    let t = Gnu (a .at) (a .buckets) (a .first) (a .blooms) (a .shift) in
-    let p = isHit m (a .symbols) (a .strings) t (now (a .name)) (a .gnu) in
-    let we = rw (c .before .before .before .before .monus .ensures) at (c .before .before .before .u32-off2 .ensures) in (
-      sym (l .inv .1 ∙ find-last m t p (l .s) (l .left) (c .before .before .before .u32-off2 .result) (c .before .before .before .before .before .loop-test .taken) we
-          (rw (← we) (sym (c .before .before .hit-gnu .ensures) ∙ c .before .if5 .left)) (eq-eqb _ _ (c .if6 .taken))),
-      tt,
-    )
+    (gnu-end (now (a .image)) (a .symbols) (a .strings) (a .at) (a .buckets) (a .first) (a .blooms) (a .shift) (now (a .name)) (a .gnu) _ (l .s) (l .left) _ _ _ (l .inv .1) (c .before .before .before .before .before .loop-test .taken) (c .before .before .before .before .monus .ensures) (c .before .before .before .u32-off2 .ensures) (c .before .before .hit-gnu .ensures) (c .before .if5 .left) (c .if6 .taken), tt)
 
 add-s : tie.Need-add-s Inv-loop μ-loop
 add-s c = search needs
@@ -162,18 +149,10 @@ loop-less : tie.Need-loop-less Inv-loop μ-loop
 loop-less c = search needs
 
 loop-again : tie.Need-loop-again Inv-loop μ-loop
-unfolding isHit
 loop-again c =
     let a = c .before .before .before .before .before .before .before .before .before .before .before .before .before .before .before .before .before .args in
     let l = c .before .before .before .before .before .before .loop in
-    let m = now (a .image) in
-    let t = Gnu (a .at) (a .buckets) (a .first) (a .blooms) (a .shift) in
-    let p = isHit m (a .symbols) (a .strings) t (now (a .name)) (a .gnu) in
-    let we = rw (c .before .before .before .before .monus .ensures) at (c .before .before .before .u32-off2 .ensures) in (
-      search needs,
-      l .inv .1 ∙ find-on m t p (l .s) (l .left) (c .before .before .before .u32-off2 .result) (l .left - 1) (omega arith) we
-          (rw (← we) (sym (c .before .before .hit-gnu .ensures) ∙ c .before .if5 .left)) (ne-eqb _ _ (c .if6 .left)),
-    )
+    (search needs, gnu-on (now (a .image)) (a .symbols) (a .strings) (a .at) (a .buckets) (a .first) (a .blooms) (a .shift) (now (a .name)) (a .gnu) _ (l .s) (l .left) _ _ _ (l .inv .1) (c .before .before .before .before .before .loop-test .taken) (c .before .before .before .before .monus .ensures) (c .before .before .before .u32-off2 .ensures) (c .before .before .hit-gnu .ensures) (c .before .if5 .left) (c .if6 .left))
 
 returns-7 : tie.Need-returns-7 Inv-loop μ-loop
 returns-7 c =
