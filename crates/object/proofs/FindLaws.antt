@@ -13,8 +13,7 @@ use Rattle.words.specs.Choice.{both}
 use Rattle.words.specs.Words.{leAt}
 use Rattle.words.specs.Names.{sameBytes}
 use Rattle.object.specs.declared.hash_tables.HashTable.{HashTable}
-use Rattle.object.specs.declared.hash_tables.HashTable.the-variants.{Gnu}
-use Rattle.object.specs.declared.hash_tables.Found.{Found}
+use Rattle.object.specs.declared.hash_tables.HashTable.the-variants.{SysV, Gnu}
 use Rattle.object.specs.declared.hash_tables.Found.the-variants.{Hit, Miss}
 use Rattle.object.specs.Symbol.{symbolName}
 use Rattle.object.specs.HashTable.{bucketAt, chainAt, isLast, next, fuel, walk, walkFrom, mayHold, bucketOf, isHit, firstIn, findBy}
@@ -67,8 +66,8 @@ module _ (m : List ℕ) (symbols strings : ℕ) (t : HashTable) (name : List ℕ
 
 -- ---- one turn over a GNU table
 
-module _ (m : List ℕ) (symbols strings at n first blooms shift : ℕ) (name : List ℕ) (g : ℕ) (f : Found) (s k d w : ℕ) (h : Bool)
-    (left : f ≡ firstIn (isHit m symbols strings (Gnu at n first blooms shift) name g) (walk m (Gnu at n first blooms shift) k s))
+module _ (m : List ℕ) (symbols strings at n first blooms shift : ℕ) (name : List ℕ) (g e s k d w : ℕ) (h : Bool)
+    (left : findBy m symbols strings (Gnu at n first blooms shift) name g e ≡ firstIn (isHit m symbols strings (Gnu at n first blooms shift) name g) (walk m (Gnu at n first blooms shift) k s))
     (more : 0 < k) (de : d ≡ s - first) (we : w ≡ leAt 4 (mem m) (at + (16 + 8 * blooms + 4 * n + 4 * d)))
     (he : h ≡ both (eqb (bitOr w 1) (bitOr g 1)) (sameBytes (symbolName m symbols strings s) name)) where
   chain-word : w ≡ leAt 4 (mem m) (chainAt (Gnu at n first blooms shift) s)
@@ -78,14 +77,34 @@ module _ (m : List ℕ) (symbols strings at n first blooms shift : ℕ) (name : 
   unfolding isHit
   hit-is = rw (← chain-word, he)
 
-  pub gnu-hit : h ≡ true → Hit s ≡ f
-  gnu-hit e = sym (left ∙ find-here m (Gnu at n first blooms shift) (isHit m symbols strings (Gnu at n first blooms shift) name g) s k more (hit-is ∙ e))
+  pub gnu-hit : h ≡ true → Hit s ≡ findBy m symbols strings (Gnu at n first blooms shift) name g e
+  gnu-hit y = sym (left ∙ find-here m (Gnu at n first blooms shift) (isHit m symbols strings (Gnu at n first blooms shift) name g) s k more (hit-is ∙ y))
 
-  pub gnu-end : h ≡ false → w % 2 ≡ 1 → Miss ≡ f
-  gnu-end e o =
-      sym (left ∙ find-last m (Gnu at n first blooms shift) (isHit m symbols strings (Gnu at n first blooms shift) name g) s k w more chain-word (hit-is ∙ e) (eq-eqb _ _ o))
+  pub gnu-end : h ≡ false → w % 2 ≡ 1 → Miss ≡ findBy m symbols strings (Gnu at n first blooms shift) name g e
+  gnu-end y o =
+      sym (left ∙ find-last m (Gnu at n first blooms shift) (isHit m symbols strings (Gnu at n first blooms shift) name g) s k w more chain-word (hit-is ∙ y) (eq-eqb _ _ o))
 
   pub gnu-on : h ≡ false → (w % 2 ≡ 1 → ⊥)
-      → f ≡ firstIn (isHit m symbols strings (Gnu at n first blooms shift) name g) (walk m (Gnu at n first blooms shift) (k - 1) (s + 1))
-  gnu-on e o =
-      left ∙ find-on m (Gnu at n first blooms shift) (isHit m symbols strings (Gnu at n first blooms shift) name g) s k w (k - 1) (omega arith) chain-word (hit-is ∙ e) (ne-eqb _ _ o)
+      → findBy m symbols strings (Gnu at n first blooms shift) name g e ≡ firstIn (isHit m symbols strings (Gnu at n first blooms shift) name g) (walk m (Gnu at n first blooms shift) (k - 1) (s + 1))
+  gnu-on y o =
+      left ∙ find-on m (Gnu at n first blooms shift) (isHit m symbols strings (Gnu at n first blooms shift) name g) s k w (k - 1) (omega arith) chain-word (hit-is ∙ y) (ne-eqb _ _ o)
+
+-- ---- one turn over a System V table
+
+module _ (m : List ℕ) (symbols strings at n c : ℕ) (name : List ℕ) (g e s k : ℕ) (h : Bool)
+    (left : findBy m symbols strings (SysV at n c) name g e ≡ firstIn (isHit m symbols strings (SysV at n c) name g) (walk m (SysV at n c) k s))
+    (more : 0 < k) (he : h ≡ sameBytes (symbolName m symbols strings s) name) where
+  same-is : isHit m symbols strings (SysV at n c) name g s ≡ h
+  unfolding isHit
+  same-is = sym he
+
+  pub sysv-hit : h ≡ true → Hit s ≡ findBy m symbols strings (SysV at n c) name g e
+  sysv-hit y = sym (left ∙ find-here m (SysV at n c) (isHit m symbols strings (SysV at n c) name g) s k more (same-is ∙ y))
+
+  module _ (w : ℕ) (we : w ≡ leAt 4 (mem m) (at + (8 + 4 * n + 4 * s))) where
+    pub sysv-end : h ≡ false → w ≡ 0 → Miss ≡ findBy m symbols strings (SysV at n c) name g e
+    sysv-end y o = sym (left ∙ find-last m (SysV at n c) (isHit m symbols strings (SysV at n c) name g) s k w more we (same-is ∙ y) (eq-eqb _ _ o))
+
+    pub sysv-on : h ≡ false → (w ≡ 0 → ⊥)
+        → findBy m symbols strings (SysV at n c) name g e ≡ firstIn (isHit m symbols strings (SysV at n c) name g) (walk m (SysV at n c) (k - 1) w)
+    sysv-on y o = left ∙ find-on m (SysV at n c) (isHit m symbols strings (SysV at n c) name g) s k w (k - 1) (omega arith) we (same-is ∙ y) (ne-eqb _ _ o)

@@ -77,10 +77,7 @@ gnu-bucket-requires c κs = search needs
 
 returns-5 : tie.Need-returns-5 Inv-loop μ-loop
 returns-5 c =
-    let a = c .before .before .before .before .before .before .before .before .before .before .before .args in
-    let l = c .before .before .before .before .loop in
-    let p = walkOk (isTable (a .b .span) (take (a .b .count) (a .b .segments))) (now (a .image)) (a .symbols) (a .strings) (Gnu (a .at) (a .buckets) (a .first) (a .blooms) (a .shift)) in
-    sym (l .inv .2 ∙ below-no p (a .buckets) (l .i) (c .before .before .before .loop-test .taken) (sym (c .before .before .gnu-bucket .ensures .0) ∙ not-true _ (c .if5 .taken)))
+    rw (c .before .before .before .before .loop .inv .2) (sym (below-no _ _ _ (c .before .before .before .loop-test .taken) (rw (← c .before .before .gnu-bucket .ensures .0) (not-true _ (c .if5 .taken)))))
 
 add-i : tie.Need-add-i Inv-loop μ-loop
 add-i c = search needs
@@ -90,10 +87,9 @@ loop-less c = search needs
 
 loop-again : tie.Need-loop-again Inv-loop μ-loop
 loop-again c =
-    let a = c .before .before .before .before .before .before .before .before .before .before .before .args in
     let l = c .before .before .before .before .loop in
-    let p = walkOk (isTable (a .b .span) (take (a .b .count) (a .b .segments))) (now (a .image)) (a .symbols) (a .strings) (Gnu (a .at) (a .buckets) (a .first) (a .blooms) (a .shift)) in
-    (search needs, below-more p (l .i) (l .inv .1) (sym (c .before .before .gnu-bucket .ensures .0) ∙ not-false _ (c .if5 .left)), l .inv .2, c .before .before .gnu-bucket .ensures .1)
+    let g = c .before .before .gnu-bucket .ensures in
+    (search needs, below-more _ _ (l .inv .1) (rw (← g .0) (not-false _ (c .if5 .left))), l .inv .2, g .1)
 
 returns-6 : tie.Need-returns-6 Inv-loop μ-loop
 returns-6 c =

@@ -154,12 +154,8 @@ loop-again c =
 
 returns-5 : tie.Need-returns-5 Inv-loop μ-loop
 returns-5 c =
-    let a = c .before .before .before .before .args in
     let l = c .before .loop in
-    let m = now (a .image) in
-    let t = Gnu (a .at) (a .buckets) (a .first) (a .blooms) (a .shift) in
-    let p = stepOk (isTable (a .b .span) (take (a .b .count) (a .b .segments))) m (a .symbols) (a .strings) t in
-    (sym (l .inv .3 ∙ every-out m t p (l .s) (l .left) (omega arith)), λ h. absurd (omega arith))
+    (rw (l .inv .3) (sym (every-out _ _ _ (l .s) (l .left) (c .loop-test .left))), λ h. absurd (omega arith))
 
 pub gnu-walk-spec : {M : Type 1} → statement M
 gnu-walk-spec =

@@ -59,10 +59,7 @@ sysv-walk-ok-requires c κs = search needs
 
 returns-3 : tie.Need-returns-3 Inv-loop μ-loop
 returns-3 c =
-    let a = c .before .before .before .before .before .before .before .before .args in
-    let l = c .before .before .before .loop in
-    let p = walkOk (isTable (a .b .span) (take (a .b .count) (a .b .segments))) (now (a .image)) (a .symbols) (a .strings) (SysV (a .at) (a .buckets) (a .chains)) in
-    sym (l .inv .2 ∙ below-no p (a .buckets) (l .i) (c .before .before .loop-test .taken) (sym (c .before .sysv-walk-ok .ensures) ∙ not-true _ (c .if3 .taken)))
+    rw (c .before .before .before .loop .inv .2) (sym (below-no _ _ _ (c .before .before .loop-test .taken) (rw (← c .before .sysv-walk-ok .ensures) (not-true _ (c .if3 .taken)))))
 
 add-i : tie.Need-add-i Inv-loop μ-loop
 add-i c = search needs
@@ -72,10 +69,8 @@ loop-less c = search needs
 
 loop-again : tie.Need-loop-again Inv-loop μ-loop
 loop-again c =
-    let a = c .before .before .before .before .before .before .before .before .args in
     let l = c .before .before .before .loop in
-    let p = walkOk (isTable (a .b .span) (take (a .b .count) (a .b .segments))) (now (a .image)) (a .symbols) (a .strings) (SysV (a .at) (a .buckets) (a .chains)) in
-    (search needs, below-more p (l .i) (l .inv .1) (sym (c .before .sysv-walk-ok .ensures) ∙ not-false _ (c .if3 .left)), l .inv .2)
+    (search needs, below-more _ _ (l .inv .1) (rw (← c .before .sysv-walk-ok .ensures) (not-false _ (c .if3 .left))), l .inv .2)
 
 returns-4 : tie.Need-returns-4 Inv-loop μ-loop
 returns-4 c =

@@ -124,12 +124,8 @@ loop-again c =
 
 returns-5 : tie.Need-returns-5 Inv-loop μ-loop
 returns-5 c =
-    let a = c .before .before .before .before .before .args in
     let l = c .before .loop in
-    let m = now (a .image) in
-    let t = SysV (a .at) (a .buckets) (a .chains) in
-    let p = stepOk (isTable (a .b .span) (take (a .b .count) (a .b .segments))) m (a .symbols) (a .strings) t in
-    sym (l .inv .2 ∙ within-out m t p (l .s) (l .left) (omega arith))
+    rw (l .inv .2) (sym (within-out _ _ _ (l .s) (l .left) (c .loop-test .left)))
 
 pub sysv-walk-ok-spec : {M : Type 1} → statement M
 sysv-walk-ok-spec =

@@ -131,13 +131,13 @@ returns-5 : tie.Need-returns-5 Inv-loop μ-loop
 returns-5 c =
     let a = c .before .before .before .before .before .before .before .before .before .before .before .before .before .before .before .before .args in
     let l = c .before .before .before .before .before .loop in
-    (gnu-hit (now (a .image)) (a .symbols) (a .strings) (a .at) (a .buckets) (a .first) (a .blooms) (a .shift) (now (a .name)) (a .gnu) _ (l .s) (l .left) _ _ _ (l .inv .1) (c .before .before .before .before .loop-test .taken) (c .before .before .before .monus .ensures) (c .before .before .u32-off2 .ensures) (c .before .hit-gnu .ensures) (c .if5 .taken), omega arith)
+    (gnu-hit (now (a .image)) (a .symbols) (a .strings) (a .at) (a .buckets) (a .first) (a .blooms) (a .shift) (now (a .name)) (a .gnu) (a .elf) (l .s) (l .left) (c .before .before .before .monus .result) (c .before .before .u32-off2 .result) (c .before .hit-gnu .result) (l .inv .1) (c .before .before .before .before .loop-test .taken) (c .before .before .before .monus .ensures) (c .before .before .u32-off2 .ensures) (c .before .hit-gnu .ensures) (c .if5 .taken), omega arith)
 
 returns-6 : tie.Need-returns-6 Inv-loop μ-loop
 returns-6 c =
     let a = c .before .before .before .before .before .before .before .before .before .before .before .before .before .before .before .before .before .args in
     let l = c .before .before .before .before .before .before .loop in
-    (gnu-end (now (a .image)) (a .symbols) (a .strings) (a .at) (a .buckets) (a .first) (a .blooms) (a .shift) (now (a .name)) (a .gnu) _ (l .s) (l .left) _ _ _ (l .inv .1) (c .before .before .before .before .before .loop-test .taken) (c .before .before .before .before .monus .ensures) (c .before .before .before .u32-off2 .ensures) (c .before .before .hit-gnu .ensures) (c .before .if5 .left) (c .if6 .taken), tt)
+    (gnu-end (now (a .image)) (a .symbols) (a .strings) (a .at) (a .buckets) (a .first) (a .blooms) (a .shift) (now (a .name)) (a .gnu) (a .elf) (l .s) (l .left) (c .before .before .before .before .monus .result) (c .before .before .before .u32-off2 .result) (c .before .before .hit-gnu .result) (l .inv .1) (c .before .before .before .before .before .loop-test .taken) (c .before .before .before .before .monus .ensures) (c .before .before .before .u32-off2 .ensures) (c .before .before .hit-gnu .ensures) (c .before .if5 .left) (c .if6 .taken), tt)
 
 add-s : tie.Need-add-s Inv-loop μ-loop
 add-s c = search needs
@@ -152,16 +152,12 @@ loop-again : tie.Need-loop-again Inv-loop μ-loop
 loop-again c =
     let a = c .before .before .before .before .before .before .before .before .before .before .before .before .before .before .before .before .before .args in
     let l = c .before .before .before .before .before .before .loop in
-    (search needs, gnu-on (now (a .image)) (a .symbols) (a .strings) (a .at) (a .buckets) (a .first) (a .blooms) (a .shift) (now (a .name)) (a .gnu) _ (l .s) (l .left) _ _ _ (l .inv .1) (c .before .before .before .before .before .loop-test .taken) (c .before .before .before .before .monus .ensures) (c .before .before .before .u32-off2 .ensures) (c .before .before .hit-gnu .ensures) (c .before .if5 .left) (c .if6 .left))
+    (search needs, gnu-on (now (a .image)) (a .symbols) (a .strings) (a .at) (a .buckets) (a .first) (a .blooms) (a .shift) (now (a .name)) (a .gnu) (a .elf) (l .s) (l .left) (c .before .before .before .before .monus .result) (c .before .before .before .u32-off2 .result) (c .before .before .hit-gnu .result) (l .inv .1) (c .before .before .before .before .before .loop-test .taken) (c .before .before .before .before .monus .ensures) (c .before .before .before .u32-off2 .ensures) (c .before .before .hit-gnu .ensures) (c .before .if5 .left) (c .if6 .left))
 
 returns-7 : tie.Need-returns-7 Inv-loop μ-loop
 returns-7 c =
-    let a = c .before .before .before .before .before .before .before .before .before .before .before .before .args in
     let l = c .before .loop in
-    let m = now (a .image) in
-    let t = Gnu (a .at) (a .buckets) (a .first) (a .blooms) (a .shift) in
-    let p = isHit m (a .symbols) (a .strings) t (now (a .name)) (a .gnu) in
-    (sym (l .inv .1 ∙ find-out m t p (l .s) (l .left) (omega arith)), tt)
+    (rw (l .inv .1) (sym (find-out _ _ _ (l .s) (l .left) (c .loop-test .left))), tt)
 
 pub find-gnu-spec : {M : Type 1} → statement M
 find-gnu-spec =

@@ -7,7 +7,7 @@ use borrow.Author.Needs.{needs}
 use denote.Ref.{now}
 use Rattle.object.specs.HashTable.{findBy, firstIn, isHit, walk, mayHold}
 use Rattle.object.specs.declared.hash_tables.HashTable.the-variants.{SysV}
-use Rattle.object.proofs.FindLaws.{find-here, find-last, find-on, find-out, find-not, find-empty, find-start}
+use Rattle.object.proofs.FindLaws.{sysv-hit, sysv-end, sysv-on, find-out, find-not, find-empty, find-start}
 use Rattle.object.proofs.hash_tables.find_sysv.Statement.{statement}
 use Rattle.object.proofs.hash_tables.find_sysv.Tie as tie
 
@@ -72,14 +72,10 @@ named-requires : tie.Need-named-requires Inv-loop μ-loop
 named-requires c κs = search needs
 
 returns-3 : tie.Need-returns-3 Inv-loop μ-loop
-unfolding isHit
 returns-3 c =
     let a = c .before .before .before .before .before .before .before .before .before .before .args in
     let l = c .before .before .before .loop in
-    let m = now (a .image) in
-    let t = SysV (a .at) (a .buckets) (a .chains) in
-    let p = isHit m (a .symbols) (a .strings) t (now (a .name)) (a .gnu) in
-    (sym (l .inv .1 ∙ find-here m t p (l .s) (l .left) (c .before .before .loop-test .taken) (sym (c .before .named .ensures) ∙ c .if3 .taken)), omega arith)
+    (sysv-hit (now (a .image)) (a .symbols) (a .strings) (a .at) (a .buckets) (a .chains) (now (a .name)) (a .gnu) (a .elf) (l .s) (l .left) (c .before .named .result) (l .inv .1) (c .before .before .loop-test .taken) (c .before .named .ensures) (c .if3 .taken), omega arith)
 
 mul-u32-off-2 : tie.Need-mul-u32-off-2 Inv-loop μ-loop
 mul-u32-off-2 c = search needs
@@ -97,17 +93,10 @@ u32-off-requires-2 : tie.Need-u32-off-requires-2 Inv-loop μ-loop
 u32-off-requires-2 c κs = search needs
 
 returns-4 : tie.Need-returns-4 Inv-loop μ-loop
-unfolding isHit
 returns-4 c =
     let a = c .before .before .before .before .before .before .before .before .before .before .before .before .args in
     let l = c .before .before .before .before .before .loop in
-    let m = now (a .image) in
-    let t = SysV (a .at) (a .buckets) (a .chains) in
-    let p = isHit m (a .symbols) (a .strings) t (now (a .name)) (a .gnu) in (
-      sym (l .inv .1 ∙ find-last m t p (l .s) (l .left) (c .before .u32-off2 .result) (c .before .before .before .before .loop-test .taken) (c .before .u32-off2 .ensures)
-          (sym (c .before .before .before .named .ensures) ∙ c .before .before .if3 .left) (eq-eqb _ _ (c .if4 .taken))),
-      tt,
-    )
+    (sysv-end (now (a .image)) (a .symbols) (a .strings) (a .at) (a .buckets) (a .chains) (now (a .name)) (a .gnu) (a .elf) (l .s) (l .left) (c .before .before .before .named .result) (l .inv .1) (c .before .before .before .before .loop-test .taken) (c .before .before .before .named .ensures) (c .before .u32-off2 .result) (c .before .u32-off2 .ensures) (c .before .before .if3 .left) (c .if4 .taken), tt)
 
 cast-s-2 : tie.Need-cast-s-2 Inv-loop μ-loop
 cast-s-2 c = search needs
@@ -119,26 +108,15 @@ loop-less : tie.Need-loop-less Inv-loop μ-loop
 loop-less c = search needs
 
 loop-again : tie.Need-loop-again Inv-loop μ-loop
-unfolding isHit
 loop-again c =
     let a = c .before .before .before .before .before .before .before .before .before .before .before .before .args in
     let l = c .before .before .before .before .before .loop in
-    let m = now (a .image) in
-    let t = SysV (a .at) (a .buckets) (a .chains) in
-    let p = isHit m (a .symbols) (a .strings) t (now (a .name)) (a .gnu) in (
-      search needs,
-      l .inv .1 ∙ find-on m t p (l .s) (l .left) (c .before .u32-off2 .result) (l .left - 1) (omega arith) (c .before .u32-off2 .ensures)
-          (sym (c .before .before .before .named .ensures) ∙ c .before .before .if3 .left) (ne-eqb _ _ (c .if4 .left)),
-    )
+    (search needs, sysv-on (now (a .image)) (a .symbols) (a .strings) (a .at) (a .buckets) (a .chains) (now (a .name)) (a .gnu) (a .elf) (l .s) (l .left) (c .before .before .before .named .result) (l .inv .1) (c .before .before .before .before .loop-test .taken) (c .before .before .before .named .ensures) (c .before .u32-off2 .result) (c .before .u32-off2 .ensures) (c .before .before .if3 .left) (c .if4 .left))
 
 returns-5 : tie.Need-returns-5 Inv-loop μ-loop
 returns-5 c =
-    let a = c .before .before .before .before .before .before .before .before .args in
     let l = c .before .loop in
-    let m = now (a .image) in
-    let t = SysV (a .at) (a .buckets) (a .chains) in
-    let p = isHit m (a .symbols) (a .strings) t (now (a .name)) (a .gnu) in
-    (sym (l .inv .1 ∙ find-out m t p (l .s) (l .left) (omega arith)), tt)
+    (rw (l .inv .1) (sym (find-out _ _ _ (l .s) (l .left) (c .loop-test .left))), tt)
 
 pub find-sysv-spec : {M : Type 1} → statement M
 find-sysv-spec =

@@ -85,11 +85,8 @@ loop-again c =
 
 returns-2 : tie.Need-returns-2 Inv-loop μ-loop
 returns-2 c =
-    let a = c .before .before .before .before .args in
     let l = c .before .loop in
-    let m = now (a .image) in
-    let t = Gnu (a .at) (a .buckets) (a .first) (a .blooms) (a .shift) in
-    (sym (l .inv .2 ∙ last-out m t (l .s) (l .last) (l .left) (omega arith)), omega arith)
+    (rw (l .inv .2) (sym (last-out _ _ (l .s) (l .last) (l .left) (c .loop-test .left))), omega arith)
 
 pub walk-last-spec : {M : Type 1} → statement M
 walk-last-spec =
