@@ -1,11 +1,12 @@
 -- The turns of a check of a walk. No contract cites this file. Assumes nothing.
-use mathlib.Core.Path.{_≡_, refl}
-use mathlib.Core.Bool.{Bool, true, false}
+use mathlib.Core.Path.{_≡_, refl, sym, _∙_}
+use mathlib.Core.Bool.{Bool, true, false, not}
 use mathlib.Core.List.{List, []}
-use Prim.Native.Nat.{ℕ, zero, suc, _+_, _*_, _≤_, _<_}
+use Prim.Native.Nat.{ℕ, zero, suc, _+_, _-_, _*_, _≤_, _<_}
 use native.Mathlib.Nat.{not-suc-le-zero}
 use native.Mathlib.Numerals.{add-one}
-use borrow.Author.Tests.{ne-eqb, le-leb, lt-leb}
+use native.Mathlib.Omega.{arith}
+use borrow.Author.Tests.{eq-eqb, ne-eqb, le-leb, lt-leb, lt-ltb, not-true, not-false}
 use lib.Dec.{leb, leb·zero, leb·suc-suc, leb·suc-zero}
 use lib.ListN.{length}
 use Rattle.words.specs.Choice.{both, pick, every}
@@ -14,7 +15,8 @@ use Rattle.words.specs.Words.{leAt}
 use Rattle.words.proofs.Choice.{both-false}
 use Rattle.object.specs.declared.hash_tables.HashTable.{HashTable}
 use Rattle.object.specs.declared.hash_tables.HashTable.the-variants.{SysV, Gnu}
-use Rattle.object.specs.HashCheck.{bucketOk, lengthOk, stepOk, walkOk}
+use Rattle.object.specs.TableBytes.{tableBytes}
+use Rattle.object.specs.HashCheck.{bucketOk, lengthOk, chainOk, symbolOk, stepOk, walkOk}
 use Rattle.object.specs.HashTable.{chainAt, isLast, next, fuel, walk, walkFrom}
 
 module _ (m : List ℕ) (t : HashTable) (p : ℕ → Bool) (s : ℕ) where
@@ -90,3 +92,41 @@ module _ (isT : ℕ → Bool) (m : List ℕ) (symbols strings at n : ℕ) where
         ≡ every (stepOk isT m symbols strings (Gnu at n first blooms shift)) (walk m (Gnu at n first blooms shift) (fuel m (Gnu at n first blooms shift)) b)
     unfolding walkOk walkFrom bucketOk lengthOk
     gnu-start b e nz l = rw (← e, ne-eqb b 0 nz, le-leb first b l)
+
+-- ---- one turn of the check of a System V walk
+
+module _ (isT : ℕ → Bool) (m : List ℕ) (symbols strings at n c i s k : ℕ) (y : Bool)
+    (left : walkOk isT m symbols strings (SysV at n c) i ≡ within m (SysV at n c) (stepOk isT m symbols strings (SysV at n c)) s k)
+    (lt : s < c) (ye : y ≡ symbolOk isT m symbols strings s) where
+  step-is : stepOk isT m symbols strings (SysV at n c) s ≡ y
+  unfolding chainOk
+  step-is = rw (lt-ltb s c lt) (sym ye)
+
+  pub sysv-no-symbol : not y ≡ true → false ≡ walkOk isT m symbols strings (SysV at n c) i
+  sysv-no-symbol o = sym (left ∙ within-no m (SysV at n c) (stepOk isT m symbols strings (SysV at n c)) s k (step-is ∙ not-true y o))
+
+  module _ (w : ℕ) (more : 0 < k) (we : w ≡ leAt 4 (mem m) (at + (8 + 4 * n + 4 * s))) (o : not y ≡ false) where
+    pub sysv-last : w ≡ 0 → true ≡ walkOk isT m symbols strings (SysV at n c) i
+    sysv-last z =
+        sym (left ∙ within-last m (SysV at n c) (stepOk isT m symbols strings (SysV at n c)) s k w more we (step-is ∙ not-false y o) (eq-eqb w 0 z))
+
+    pub sysv-next : (w ≡ 0 → ⊥)
+        → walkOk isT m symbols strings (SysV at n c) i ≡ within m (SysV at n c) (stepOk isT m symbols strings (SysV at n c)) w (k - 1)
+    sysv-next z =
+        left ∙ within-on m (SysV at n c) (stepOk isT m symbols strings (SysV at n c)) s k w (k - 1) (omega arith) we (step-is ∙ not-false y o) (ne-eqb w 0 z)
+
+-- ---- one turn of the check of a GNU walk
+
+pub gnu-step : (isT : ℕ → Bool) (m : List ℕ) (symbols strings at n first blooms shift s : ℕ) (d y : Bool)
+    → d ≡ tableBytes isT (at + (16 + 8 * blooms + 4 * n + 4 * (s - first))) 4 → y ≡ symbolOk isT m symbols strings s → not d ≡ false → not y ≡ false
+    → stepOk isT m symbols strings (Gnu at n first blooms shift) s ≡ true
+unfolding chainOk
+gnu-step isT m symbols strings at n first blooms shift s d y de ye nd ny = rw (← de, not-false d nd) (sym ye ∙ not-false y ny)
+
+module _ (m : List ℕ) (t : HashTable) (p : ℕ → Bool) (f : Bool) (s k w : ℕ) (left : f ≡ every p (walk m t k s)) (more : 0 < k)
+    (we : w ≡ leAt 4 (mem m) (chainAt t s)) (st : p s ≡ true) where
+  pub left-last : isLast t w ≡ true → true ≡ f
+  left-last la = sym (left ∙ every-last m t p s k w more we st la)
+
+  pub left-on : isLast t w ≡ false → f ≡ every p (walk m t (k - 1) (next t s w))
+  left-on la = left ∙ every-on m t p s k w (k - 1) (omega arith) we st la

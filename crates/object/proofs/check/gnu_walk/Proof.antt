@@ -12,7 +12,7 @@ use Rattle.object.specs.TableBytes.{isTable}
 use Rattle.object.specs.HashTable.{walk, fuel}
 use Rattle.object.specs.HashCheck.{chainOk, stepOk}
 use Rattle.object.specs.declared.hash_tables.HashTable.the-variants.{Gnu}
-use Rattle.object.proofs.WalkLaws.{every-no, every-out, every-last, every-on}
+use Rattle.object.proofs.WalkLaws.{every-no, every-out, gnu-step, left-last, left-on}
 use Rattle.object.proofs.KnownLaws.{more, join, known-walk}
 use Rattle.object.proofs.check.gnu_walk.Statement.{statement}
 use Rattle.object.proofs.check.gnu_walk.Tie as tie
@@ -122,8 +122,9 @@ returns-4 c =
     let m = now (a .image) in
     let t = Gnu (a .at) (a .buckets) (a .first) (a .blooms) (a .shift) in
     let p = stepOk (isTable (a .b .span) (take (a .b .count) (a .b .segments))) m (a .symbols) (a .strings) t in
-    let st : p (l .s) ≡ true = (rw (sym (c .before .before .before .before .before .table-off .ensures) ∙ not-false _ (c .before .before .before .before .if3 .left)) (sym (c .before .before .before .symbol-fits .ensures) ∙ not-false _ (c .before .before .if4 .left))) in (
-      sym (l .inv .3 ∙ every-last m t p (l .s) (l .left) (c .before .u32-off .result) (c .before .before .before .before .before .before .before .loop-test .taken) (c .before .u32-off .ensures) st (eq-eqb _ _ (c .if5 .taken))),
+    let st = gnu-step (isTable (a .b .span) (take (a .b .count) (a .b .segments))) m (a .symbols) (a .strings) (a .at) (a .buckets) (a .first) (a .blooms) (a .shift) (l .s) (c .before .before .before .before .before .table-off .result) (c .before .before .before .symbol-fits .result) (c .before .before .before .before .before .table-off .ensures) (c .before .before .before .symbol-fits .ensures) (c .before .before .before .before .if3 .left) (c .before .before .if4 .left) in
+    let f = every p (walk m t (fuel m t) (a .word)) in (
+      left-last m t p f (l .s) (l .left) (c .before .u32-off .result) (l .inv .3) (c .before .before .before .before .before .before .before .loop-test .taken) (c .before .u32-off .ensures) st (eq-eqb _ _ (c .if5 .taken)),
       λ h. (more p (a .word) (l .s) (l .inv .4) st, rw (← c .before .u32-off .ensures) (eq-eqb _ _ (c .if5 .taken))),
     )
 
@@ -144,11 +145,12 @@ loop-again c =
     let m = now (a .image) in
     let t = Gnu (a .at) (a .buckets) (a .first) (a .blooms) (a .shift) in
     let p = stepOk (isTable (a .b .span) (take (a .b .count) (a .b .segments))) m (a .symbols) (a .strings) t in
-    let st : p (l .s) ≡ true = (rw (sym (c .before .before .before .before .before .table-off .ensures) ∙ not-false _ (c .before .before .before .before .if3 .left)) (sym (c .before .before .before .symbol-fits .ensures) ∙ not-false _ (c .before .before .if4 .left))) in (
+    let st = gnu-step (isTable (a .b .span) (take (a .b .count) (a .b .segments))) m (a .symbols) (a .strings) (a .at) (a .buckets) (a .first) (a .blooms) (a .shift) (l .s) (c .before .before .before .before .before .table-off .result) (c .before .before .before .symbol-fits .result) (c .before .before .before .before .before .table-off .ensures) (c .before .before .before .symbol-fits .ensures) (c .before .before .before .before .if3 .left) (c .before .before .if4 .left) in
+    let f = every p (walk m t (fuel m t) (a .word)) in (
       omega arith,
       omega arith,
       omega arith,
-      l .inv .3 ∙ every-on m t p (l .s) (l .left) (c .before .u32-off .result) (l .left - 1) (omega arith) (c .before .u32-off .ensures) st (ne-eqb _ _ (c .if5 .left)),
+      left-on m t p f (l .s) (l .left) (c .before .u32-off .result) (l .inv .3) (c .before .before .before .before .before .before .before .loop-test .taken) (c .before .u32-off .ensures) st (ne-eqb _ _ (c .if5 .left)),
       λ k lo hi. more p (a .word) (l .s) (l .inv .4) st k lo (omega arith),
     )
 

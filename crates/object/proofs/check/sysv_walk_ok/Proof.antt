@@ -3,13 +3,13 @@ use mathlib.Core.Path.{_≡_, sym, _∙_}
 use Prim.Native.Nat.{_-_, _^_, _≤_, _<_}
 use native.Mathlib.Omega.{arith}
 use borrow.Author.Needs.{needs}
-use borrow.Author.Tests.{eq-eqb, ne-eqb, not-true, not-false, lt-ltb, le-ltb}
+use borrow.Author.Tests.{le-ltb}
 use denote.Ref.{now}
 use lib.ListN.{take}
 use Rattle.object.specs.TableBytes.{isTable}
 use Rattle.object.specs.HashCheck.{chainOk, stepOk, walkOk}
 use Rattle.object.specs.declared.hash_tables.HashTable.the-variants.{SysV}
-use Rattle.object.proofs.WalkLaws.{within, within-no, within-out, within-last, within-on, sysv-empty, sysv-start}
+use Rattle.object.proofs.WalkLaws.{within, within-no, within-out, sysv-empty, sysv-start, sysv-no-symbol, sysv-last, sysv-next}
 use Rattle.object.proofs.check.sysv_walk_ok.Statement.{statement}
 use Rattle.object.proofs.check.sysv_walk_ok.Tie as tie
 
@@ -61,15 +61,10 @@ symbol-fits-requires : tie.Need-symbol-fits-requires Inv-loop μ-loop
 symbol-fits-requires c κs = search needs
 
 returns-3 : tie.Need-returns-3 Inv-loop μ-loop
-unfolding chainOk
 returns-3 c =
     let a = c .before .before .before .before .before .before .before .before .args in
     let l = c .before .before .before .before .loop in
-    let m = now (a .image) in
-    let t = SysV (a .at) (a .buckets) (a .chains) in
-    let p = stepOk (isTable (a .b .span) (take (a .b .count) (a .b .segments))) m (a .symbols) (a .strings) t in
-    sym (l .inv .2 ∙ within-no m t p (l .s) (l .left)
-    (rw (lt-ltb (l .s) (a .chains) (omega arith)) (sym (c .before .symbol-fits .ensures) ∙ not-true _ (c .if3 .taken))))
+    sysv-no-symbol (isTable (a .b .span) (take (a .b .count) (a .b .segments))) (now (a .image)) (a .symbols) (a .strings) (a .at) (a .buckets) (a .chains) (a .i) (l .s) (l .left) (c .before .symbol-fits .result) (l .inv .2) (c .before .before .if2 .left) (c .before .symbol-fits .ensures) (c .if3 .taken)
 
 mul-u32-off-2 : tie.Need-mul-u32-off-2 Inv-loop μ-loop
 mul-u32-off-2 c = search needs
@@ -87,16 +82,11 @@ u32-off-requires-2 : tie.Need-u32-off-requires-2 Inv-loop μ-loop
 u32-off-requires-2 c κs = search needs
 
 returns-4 : tie.Need-returns-4 Inv-loop μ-loop
-unfolding chainOk
 returns-4 c =
     let a = c .before .before .before .before .before .before .before .before .before .before .args in
     let l = c .before .before .before .before .before .before .loop in
-    let m = now (a .image) in
-    let t = SysV (a .at) (a .buckets) (a .chains) in
-    let p = stepOk (isTable (a .b .span) (take (a .b .count) (a .b .segments))) m (a .symbols) (a .strings) t in
-    sym (l .inv .2 ∙ within-last m t p (l .s) (l .left) (c .before .u32-off2 .result) (c .before .before .before .before .before .loop-test .taken) (c .before .u32-off2 .ensures)
-    (rw (lt-ltb (l .s) (a .chains) (omega arith)) (sym (c .before .before .before .symbol-fits .ensures) ∙ not-false _ (c .before .before .if3 .left)))
-    (eq-eqb _ _ (c .if4 .taken)))
+    sysv-last (isTable (a .b .span) (take (a .b .count) (a .b .segments))) (now (a .image)) (a .symbols) (a .strings) (a .at) (a .buckets) (a .chains) (a .i) (l .s) (l .left) (c .before .before .before .symbol-fits .result) (l .inv .2) (c .before .before .before .before .if2 .left) (c .before .before .before .symbol-fits .ensures)
+    (c .before .u32-off2 .result) (c .before .before .before .before .before .loop-test .taken) (c .before .u32-off2 .ensures) (c .before .before .if3 .left) (c .if4 .taken)
 
 cast-s-2 : tie.Need-cast-s-2 Inv-loop μ-loop
 cast-s-2 c = search needs
@@ -108,18 +98,13 @@ loop-less : tie.Need-loop-less Inv-loop μ-loop
 loop-less c = search needs
 
 loop-again : tie.Need-loop-again Inv-loop μ-loop
-unfolding chainOk
 loop-again c =
     let a = c .before .before .before .before .before .before .before .before .before .before .args in
-    let l = c .before .before .before .before .before .before .loop in
-    let m = now (a .image) in
-    let t = SysV (a .at) (a .buckets) (a .chains) in
-    let p = stepOk (isTable (a .b .span) (take (a .b .count) (a .b .segments))) m (a .symbols) (a .strings) t in (
+    let l = c .before .before .before .before .before .before .loop in (
       search needs,
       omega arith,
-      l .inv .2 ∙ within-on m t p (l .s) (l .left) (c .before .u32-off2 .result) (l .left - 1) (omega arith) (c .before .u32-off2 .ensures)
-          (rw (lt-ltb (l .s) (a .chains) (omega arith)) (sym (c .before .before .before .symbol-fits .ensures) ∙ not-false _ (c .before .before .if3 .left)))
-          (ne-eqb _ _ (c .if4 .left)),
+      sysv-next (isTable (a .b .span) (take (a .b .count) (a .b .segments))) (now (a .image)) (a .symbols) (a .strings) (a .at) (a .buckets) (a .chains) (a .i) (l .s) (l .left) (c .before .before .before .symbol-fits .result) (l .inv .2) (c .before .before .before .before .if2 .left) (c .before .before .before .symbol-fits .ensures)
+          (c .before .u32-off2 .result) (c .before .before .before .before .before .loop-test .taken) (c .before .u32-off2 .ensures) (c .before .before .if3 .left) (c .if4 .left),
     )
 
 returns-5 : tie.Need-returns-5 Inv-loop μ-loop
