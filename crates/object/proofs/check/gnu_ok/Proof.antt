@@ -5,7 +5,6 @@ use Prim.Native.Nat.{_-_, _≤_}
 use native.Mathlib.Omega.{arith}
 use borrow.Author.Needs.{needs}
 use borrow.Author.Tests.{eq-eqb, ne-eqb, not-true, not-false, le-leb, lt-leb}
-use denote.Ref.{now}
 use lib.ListN.{take}
 use Rattle.words.specs.Choice.{below}
 use Rattle.object.specs.TableBytes.{isTable}
@@ -59,18 +58,16 @@ table-bytes-requires c κs = search needs
 returns-4 : tie.Need-returns-4 Inv-loop μ-loop
 unfolding tableOk numbersOk
 returns-4 c =
-    let le : c .before .before .before .before .before .before .args .shift ≤ 31 = omega arith in
-    rw (ne-eqb _ _ (c .before .before .before .before .if1 .left), ne-eqb _ _ (c .before .before .before .if2 .left), le-leb _ _ le, sym (c .before .table-bytes .ensures) ∙ not-true _ (c .if4 .taken))
+    rw (ne-eqb _ _ (c .before .before .before .before .if1 .left), ne-eqb _ _ (c .before .before .before .if2 .left), le-leb _ _ (c .before .before .if3 .left), ← c .before .table-bytes .ensures, not-true (c .before .table-bytes .result) (c .if4 .taken))
 
 loop-holds : tie.Need-loop-holds Inv-loop μ-loop
 unfolding tableOk numbersOk below
-loop-holds c =
-    let le : c .before .before .before .before .before .before .args .shift ≤ 31 = omega arith in (
-      search needs,
-      refl,
-      rw (ne-eqb _ _ (c .before .before .before .before .if1 .left), ne-eqb _ _ (c .before .before .before .if2 .left), le-leb _ _ le, sym (c .before .table-bytes .ensures) ∙ not-false _ (c .if4 .left)),
-      λ h. absurd (omega arith),
-    )
+loop-holds c = (
+  search needs,
+  refl,
+  rw (ne-eqb _ _ (c .before .before .before .before .if1 .left), ne-eqb _ _ (c .before .before .before .if2 .left), le-leb _ _ (c .before .before .if3 .left), sym (c .before .table-bytes .ensures) ∙ not-false _ (c .if4 .left)),
+  λ h. absurd (omega arith),
+)
 
 gnu-bucket-requires : tie.Need-gnu-bucket-requires Inv-loop μ-loop
 gnu-bucket-requires c κs = search needs
@@ -93,10 +90,9 @@ loop-again c =
 
 returns-6 : tie.Need-returns-6 Inv-loop μ-loop
 returns-6 c =
-    let a = c .before .before .before .before .before .before .before .before .args in
     let l = c .before .loop in
-    let e : l .i ≡ a .buckets = omega arith in
-    sym (l .inv .2 ∙ (rw e at (l .inv .1)))
+    let e : l .i ≡ c .before .before .before .before .before .before .before .before .args .buckets = omega (arith, c .loop-test .left, l .inv .0) in
+    rw (l .inv .2) (sym (rw e at (l .inv .1)))
 
 pub gnu-ok-spec : {M : Type 1} → statement M
 gnu-ok-spec =

@@ -5,7 +5,6 @@ use Prim.Native.Nat.{_-_, _≤_}
 use native.Mathlib.Omega.{arith}
 use borrow.Author.Needs.{needs}
 use borrow.Author.Tests.{eq-eqb, ne-eqb, not-true, not-false}
-use denote.Ref.{now}
 use lib.ListN.{take}
 use Rattle.words.specs.Choice.{below}
 use Rattle.object.specs.TableBytes.{isTable}

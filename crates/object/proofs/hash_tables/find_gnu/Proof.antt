@@ -1,6 +1,6 @@
 -- `object::hash_tables::find_gnu` meets its contract. The invariant: the answer is the first hit of what is left of the walk. Assumes nothing.
 use mathlib.Core.Path.{_≡_, sym, _∙_}
-use Prim.Native.Nat.{_+_, _-_, _^_, _≤_}
+use Prim.Native.Nat.{_+_, _^_, _≤_}
 use native.Mathlib.Omega.{arith}
 use borrow.Author.Tests.{eq-eqb, ne-eqb, not-true, not-false}
 use borrow.Author.Needs.{needs}
@@ -27,7 +27,6 @@ returns c =
     let a = c .before .before .before .args in
     let m = now (a .image) in
     let t = Gnu (a .at) (a .buckets) (a .first) (a .blooms) (a .shift) in
-    let p = isHit m (a .symbols) (a .strings) t (now (a .name)) (a .gnu) in
     (sym (find-not m (a .symbols) (a .strings) t (now (a .name)) (a .gnu) (a .elf) (rw (eq-eqb _ _ (c .if1 .taken)))), tt)
 
 returns-2 : tie.Need-returns-2 Inv-loop μ-loop
@@ -36,7 +35,6 @@ returns-2 c =
     let a = c .before .before .before .before .args in
     let m = now (a .image) in
     let t = Gnu (a .at) (a .buckets) (a .first) (a .blooms) (a .shift) in
-    let p = isHit m (a .symbols) (a .strings) t (now (a .name)) (a .gnu) in
     (sym (find-not m (a .symbols) (a .strings) t (now (a .name)) (a .gnu) (a .elf) (rw (ne-eqb _ _ (c .before .if1 .left), eq-eqb _ _ (c .if2 .taken)))), tt)
 
 bloom-has-requires : tie.Need-bloom-has-requires Inv-loop μ-loop
@@ -47,8 +45,7 @@ unfolding mayHold
 returns-3 c =
     let a = c .before .before .before .before .before .before .args in
     let m = now (a .image) in
-    let t = Gnu (a .at) (a .buckets) (a .first) (a .blooms) (a .shift) in
-    let p = isHit m (a .symbols) (a .strings) t (now (a .name)) (a .gnu) in (
+    let t = Gnu (a .at) (a .buckets) (a .first) (a .blooms) (a .shift) in (
       sym (find-not m (a .symbols) (a .strings) t (now (a .name)) (a .gnu) (a .elf)
           (rw (ne-eqb _ _ (c .before .before .before .if1 .left), ne-eqb _ _ (c .before .before .if2 .left)) (sym (c .before .bloom-has .ensures) ∙ not-true _ (c .if3 .taken)))),
       tt,
@@ -78,7 +75,6 @@ returns-4 c =
     let a = c .before .before .before .before .before .before .before .before .before .args in
     let m = now (a .image) in
     let t = Gnu (a .at) (a .buckets) (a .first) (a .blooms) (a .shift) in
-    let p = isHit m (a .symbols) (a .strings) t (now (a .name)) (a .gnu) in
     let e = rw (c .before .before .slot .ensures .0) at (c .before .u32-off .ensures) in (
       sym (find-empty m (a .symbols) (a .strings) t (now (a .name)) (a .gnu) (a .elf)
           (rw (ne-eqb _ _ (c .before .before .before .before .before .before .if1 .left), ne-eqb _ _ (c .before .before .before .before .before .if2 .left)) (sym (c .before .before .before .before .bloom-has .ensures) ∙ not-false _ (c .before .before .before .if3 .left)))
@@ -104,7 +100,6 @@ loop-holds c =
     let a = c .before .before .before .before .before .before .before .before .before .before .args in
     let m = now (a .image) in
     let t = Gnu (a .at) (a .buckets) (a .first) (a .blooms) (a .shift) in
-    let p = isHit m (a .symbols) (a .strings) t (now (a .name)) (a .gnu) in
     let e = rw (c .before .before .before .slot .ensures .0) at (c .before .before .u32-off .ensures) in (
       search needs,
       find-start m (a .symbols) (a .strings) t (now (a .name)) (a .gnu) (a .elf) (c .before .before .u32-off .result) _ (c .smaller .ensures)

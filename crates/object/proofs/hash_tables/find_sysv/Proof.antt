@@ -1,6 +1,6 @@
 -- `object::hash_tables::find_sysv` meets its contract. The invariant: the answer is the first hit of what is left of the walk. Assumes nothing.
 use mathlib.Core.Path.{_≡_, refl, sym, _∙_}
-use Prim.Native.Nat.{_-_, _^_, _<_}
+use Prim.Native.Nat.{_^_, _<_}
 use native.Mathlib.Omega.{arith}
 use borrow.Author.Tests.{eq-eqb, ne-eqb}
 use borrow.Author.Needs.{needs}
@@ -27,7 +27,6 @@ returns c =
     let a = c .before .before .before .args in
     let m = now (a .image) in
     let t = SysV (a .at) (a .buckets) (a .chains) in
-    let p = isHit m (a .symbols) (a .strings) t (now (a .name)) (a .gnu) in
     (sym (find-not m (a .symbols) (a .strings) t (now (a .name)) (a .gnu) (a .elf) (rw (eq-eqb _ _ (c .if1 .taken)))), tt)
 
 slot-requires : tie.Need-slot-requires Inv-loop μ-loop
@@ -48,7 +47,6 @@ returns-2 c =
     let a = c .before .before .before .before .before .before .args in
     let m = now (a .image) in
     let t = SysV (a .at) (a .buckets) (a .chains) in
-    let p = isHit m (a .symbols) (a .strings) t (now (a .name)) (a .gnu) in
     let e = rw (c .before .before .slot .ensures .0) at (c .before .u32-off .ensures) in
     (sym (find-empty m (a .symbols) (a .strings) t (now (a .name)) (a .gnu) (a .elf) (rw (ne-eqb _ _ (c .before .before .before .if1 .left))) (sym e ∙ c .if2 .taken)), tt)
 
@@ -64,7 +62,6 @@ loop-holds c =
     let a = c .before .before .before .before .before .before .args in
     let m = now (a .image) in
     let t = SysV (a .at) (a .buckets) (a .chains) in
-    let p = isHit m (a .symbols) (a .strings) t (now (a .name)) (a .gnu) in
     let e = rw (c .before .before .slot .ensures .0) at (c .before .u32-off .ensures) in
     (search needs, find-start m (a .symbols) (a .strings) t (now (a .name)) (a .gnu) (a .elf) (c .before .u32-off .result) _ refl (rw (ne-eqb _ _ (c .before .before .before .if1 .left))) e (c .if2 .left))
 

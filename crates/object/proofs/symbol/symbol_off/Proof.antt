@@ -1,5 +1,4 @@
 -- `object::symbol::symbol_off` meets its contract. Assumes nothing.
-use mathlib.Core.Path.{_∙_}
 use Prim.Native.Nat.{_+_}
 use borrow.Author.Needs.{needs}
 use denote.Ref.{now}
