@@ -1,11 +1,8 @@
+-- `object::relocate::rela_at` meets its contract. Assumes nothing.
 use Rattle.object.specs.Entries.{relaAt}
 use borrow.Author.Needs.{needs}
 use Rattle.object.proofs.relocate.rela_at.Statement.{statement}
 use Rattle.object.proofs.relocate.rela_at.Tie as tie
-use Rattle.object.proofs.relocate.rela_at.Reads as reads
-use Rattle.object.proofs.relocate.rela_at.Lts as lts
-use Rattle.words.proofs.bytes.u32_off.Reads as u32-off-reads
-use Rattle.words.proofs.bytes.u64_off.Reads as u64-off-reads
 
 mul-k : tie.Need-mul-k
 mul-k c = search needs
