@@ -33,13 +33,13 @@ use Rattle.object.specs.declared.hash_tables.Definition.{Definition}
 use Rattle.binder.specs.Instance.{File, imageOf, recordOf, symOf, entryBy}
 use Rattle.binder.specs.Verdict.{Verdict, passed, verdict, writtenRefusal, copyOk, copyRefusal, symbolThen, refusalBy}
 use Rattle.binder.specs.Report.{reportWord, unresolved, undefinedBy, isPassed}
-use Rattle.binder.specs.Seats.{seatAt}
-use Rattle.binder.specs.ScopeCode.{scopedOf}
+use Rattle.scope.specs.Seats.{seatAt}
+use Rattle.binder.specs.ScopeModel.{scopedOf}
 use Rattle.binder.specs.Relocating.{Left, left, wrote, Noted, noted, withArena, withReport, refusedBy, imageIn, reportSum, noteOf, markUndefined, unresolvedOf, relativeOf, foundOf, copyFits, copyBytes, copyOf, turnOf, soughtFor, soughtForCopy, symbolicOf, copyingOf, runAction}
-use Rattle.binder.specs.declared.seats.Seat.{Seat}
+use Rattle.scope.specs.declared.seats.Seat.{Seat}
 use Rattle.binder.specs.declared.turn.Turn.{Turn}
-use Rattle.binder.specs.declared.scope.Scoped.{Scoped}
-use Rattle.binder.specs.declared.scope.Scoped.the-variants.{Absent, Found}
+use Rattle.scope.specs.declared.scope.Scoped.{Scoped}
+use Rattle.scope.specs.declared.scope.Scoped.the-variants.{Absent, Found}
 use Rattle.binder.specs.declared.report.Progress.{Progress}
 use Rattle.binder.proofs.InsideLaws.{name-is}
 use Rattle.binder.proofs.Steady.{set, fileAt, LoadedSet, Steady, Written}

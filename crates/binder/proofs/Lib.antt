@@ -2,7 +2,6 @@
 pub mod VisitSteps
 pub mod ArrangeSteps
 pub mod ArrangeUses
-pub mod SeatLaws
 pub mod PrepareLaws
 pub mod OutcomeLaws
 pub mod FileLaws
@@ -13,7 +12,6 @@ pub mod LongerSetLaw
 pub mod LongerQueryLaw
 pub mod CasesHold
 pub mod OrderReported
-pub mod ScopeLaws
 pub mod ScopeIs
 pub mod QueryLaws
 pub mod NeedsLaws

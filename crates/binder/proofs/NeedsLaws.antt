@@ -29,14 +29,14 @@ use Rattle.sheet.specs.Parts as parts
 use Rattle.sheet.specs.Parts.{noPart, inputIn, inputsIn}
 use Rattle.sheet.proofs.SheetLaws.{drop-next}
 use Rattle.sheet.proofs.PartLaws.{take-short, input-at, inputs-length}
-use Rattle.binder.specs.declared.seats.Seat.{Seat}
+use Rattle.scope.specs.declared.seats.Seat.{Seat}
 use Rattle.binder.specs.declared.order.Order.{Order}
-use Rattle.binder.specs.Seats.{seatAt}
+use Rattle.scope.specs.Seats.{seatAt}
 use Rattle.binder.specs.Table as rows
 use Rattle.binder.specs.Table.{Ordered}
 use Rattle.binder.specs.SetOrder.{numberOf}
 use Rattle.binder.specs.Bind.{namesOf}
-use Rattle.binder.specs.ScopeCode.{imageAt}
+use Rattle.scope.specs.ScopeCode.{imageAt}
 use Rattle.binder.specs.Needed.{neededAt, numbersAt, needsAt, NeedsPut, FewNeeds, Arranged}
 use Rattle.binder.proofs.ArrangeUses.{table-order}
 

@@ -26,9 +26,9 @@ use Rattle.sheet.specs.Sheet.{Input, noInput}
 use Rattle.binder.specs.Instance.{File, recordOf}
 use Rattle.binder.specs.Verdict.{passed, refused, first, verdict, loadVerdict, noFile}
 use Rattle.binder.specs.Bind.{filesOf}
-use Rattle.binder.specs.Seats.{seatAt}
+use Rattle.scope.specs.Seats.{seatAt}
 use Rattle.binder.specs.Prepared.{metBy, seatOf, placeFiles, Seated, LoadedAt, Prepared}
-use Rattle.binder.specs.declared.seats.Seat.{Seat}
+use Rattle.scope.specs.declared.seats.Seat.{Seat}
 use Rattle.binder.specs.declared.prepare.Met.{Met}
 use Rattle.binder.specs.declared.prepare.Placed.{Placed}
 

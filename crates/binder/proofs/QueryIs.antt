@@ -20,12 +20,13 @@ use Rattle.sheet.specs.Sheet as sheets
 use Rattle.binder.specs.Instance.{File, objectAt}
 use Rattle.binder.specs.Verdict.{passed, refused, first, verdict, loadVerdict}
 use Rattle.binder.specs.Bind.{filesOf, objectsOf, unless, prepareVerdict, replied, replyOf, repliedOf, queryOf}
-use Rattle.binder.specs.ScopeCode.{scopedOf, resolveSeats}
+use Rattle.scope.specs.ScopeCode.{resolveSeats}
+use Rattle.binder.specs.ScopeModel.{scopedOf}
 use Rattle.binder.specs.Prepared.{metBy, placeFiles, Seated, Prepared}
 use Rattle.binder.specs.Asked.{askOf, Ready}
 use Rattle.binder.specs.declared.Reply.{Reply}
 use Rattle.binder.specs.declared.Reply.the-variants.{Refused}
-use Rattle.binder.specs.declared.scope.Scoped.{Scoped}
+use Rattle.scope.specs.declared.scope.Scoped.{Scoped}
 use Rattle.binder.specs.declared.prepare.Met.{Met}
 use Rattle.binder.proofs.SoundLaws.{count-is}
 use Rattle.binder.proofs.ScopeIs.{resolve-is}

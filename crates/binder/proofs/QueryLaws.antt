@@ -20,10 +20,12 @@ use Rattle.object.specs.Loaded.{objectRefusal}
 use Rattle.object.specs.HashTable.{answerIn}
 use Rattle.binder.specs.Instance.{File, imageOf, recordOf, foundOf, objectAt}
 use Rattle.binder.specs.Verdict.{passed, verdict, loadVerdict, noFile}
-use Rattle.binder.specs.Seats.{seatAt}
+use Rattle.scope.specs.Seats.{seatAt}
 use Rattle.binder.specs.Prepared.{seatOf, placeFiles, Seated}
-use Rattle.binder.specs.ScopeCode.{imageAt, answerAt, SeatOf, SeatedFor}
-use Rattle.binder.specs.declared.seats.Seat.{Seat}
+use Rattle.scope.specs.ScopeCode as searches
+use Rattle.scope.specs.ScopeCode.{imageAt}
+use Rattle.binder.specs.ScopeModel.{SeatOf, SeatedFor}
+use Rattle.scope.specs.declared.seats.Seat.{Seat}
 use Rattle.binder.proofs.OutcomeLaws.{first-passed, verdict-passed}
 use Rattle.binder.proofs.SoundLaws.{load-fits, count-is}
 
@@ -132,7 +134,7 @@ module _ (address size : ℕ) (table : List ℕ) where
       → ((name : List ℕ)
       → answerIn (imageAt arena (seatAt table k)) (viewOf (recordOf f)) name ≡ answerIn (imageOf f) (viewOf (recordOf f)) name)
       → SeatOf address arena o (seatAt table k)
-  unfolding objectAt answerAt
+  unfolding objectAt searches.answerAt
   seat-of k f o off arena is seat small answers =
       record {
         base = ap (λ (o : Obj). o .base) is ∙ ap (λ (x : Seat). address + x .offset) (sym seat);

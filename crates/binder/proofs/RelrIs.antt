@@ -22,7 +22,7 @@ use Rattle.object.specs.Entries.{relrAt, relrsFrom, relrOf, Location, none, wor
 use Rattle.object.specs.Record.{Record}
 use Rattle.object.specs.declared.relocate.Relr.{Relr}
 use Rattle.object.specs.declared.relocate.Relr.the-variants.{Address, Bitmap}
-use Rattle.binder.specs.declared.seats.Seat.{Seat}
+use Rattle.scope.specs.declared.seats.Seat.{Seat}
 use Rattle.binder.specs.declared.turn.Turn.{Turn}
 use Rattle.binder.specs.declared.relr.Moved.{Moved}
 use Rattle.binder.specs.Instance.{File, imageOf, recordOf, placesOf, wordsOf}

@@ -16,22 +16,25 @@ use Rattle.model.specs.Scope as model
 use Rattle.object.specs.declared.hash_tables.Definition.{Definition}
 use Rattle.object.specs.declared.hash_tables.Answer.{Answer}
 use Rattle.object.specs.declared.hash_tables.Answer.the-variants as object
-use Rattle.binder.specs.declared.seats.Seat.{Seat}
-use Rattle.binder.specs.declared.scope.Scoped.{Scoped}
-use Rattle.binder.specs.declared.scope.Scoped.the-variants.{Absent, Found}
-use Rattle.binder.specs.Seats.{seatAt, seatsFrom}
+use Rattle.scope.specs.declared.seats.Seat.{Seat}
+use Rattle.scope.specs.declared.scope.Scoped.{Scoped}
+use Rattle.scope.specs.declared.scope.Scoped.the-variants.{Absent, Found}
+use Rattle.scope.specs.Seats as seats-specs
+use Rattle.scope.specs.Seats.{seatAt, seatsFrom}
 use Rattle.binder.specs.Instance.{symOf, foundOf}
-use Rattle.binder.specs.ScopeCode.{scopedOf, answerAt, scopedBy, guardedBy, orElse, seatAnswer, ownAnswer, scanSeats, resolveSeats, resolveCopySeats, SeatOf, SeatedFor}
+use Rattle.scope.specs.ScopeCode as searches
+use Rattle.scope.specs.ScopeCode.{answerAt, scopedBy, guardedBy, orElse, seatAnswer, ownAnswer, scanSeats, resolveSeats, resolveCopySeats}
+use Rattle.binder.specs.ScopeModel.{scopedOf, SeatOf, SeatedFor}
 
 scoped-else : (a b : Scoped) → scopedOf (orElse a b) ≡ model.orElse (scopedOf a) (scopedOf b)
-unfolding orElse scopedOf
+unfolding searches.orElse scopedOf
 scoped-else Absent b = refl
 scoped-else (Found k d x) b = refl
 
 -- ---- one object
 
 by-found : (k base : ℕ) (o : Obj) (a : Answer) → base ≡ o .base → scopedOf (scopedBy k base a) ≡ model.answerOf k o (foundOf a)
-unfolding scopedOf scopedBy model.answerOf symbols.address
+unfolding scopedOf searches.scopedBy model.answerOf symbols.address
 by-found k base o object.Absent h = refl
 by-found k base o (object.Present d) h = rw h
 
@@ -41,7 +44,7 @@ picked k d x true = refl
 picked k d x false = refl
 
 by-guarded : (k base : ℕ) (o : Obj) (a : Answer) → base ≡ o .base → scopedOf (guardedBy k base a) ≡ model.protectedOf k o (foundOf a)
-unfolding scopedOf guardedBy model.protectedOf symbols.address
+unfolding scopedOf searches.guardedBy model.protectedOf symbols.address
 by-guarded k base o object.Absent h = refl
 by-guarded k base o (object.Present d) h = rw h (picked k d (address (o .base) (symOf d)) (d .guarded))
 
@@ -51,13 +54,13 @@ module _ (at : ℕ) (arena table name : List ℕ) where
     base-is = mod-eq-of-lt (h .small) ∙ sym (h .base)
 
     seat-is : scopedOf (seatAnswer at arena k s name (gnuHash name) (elfHash name)) ≡ model.answerOf k o (o .find name)
-    unfolding seatAnswer
+    unfolding searches.seatAnswer
     seat-is =
         by-found k (sum64 at (s .offset)) o (answerAt arena s name (gnuHash name) (elfHash name)) base-is
         ∙ ap (model.answerOf k o) (sym (h .find name))
 
     own-is : scopedOf (ownAnswer at arena k s name (gnuHash name) (elfHash name)) ≡ model.protectedOf k o (o .find name)
-    unfolding ownAnswer
+    unfolding searches.ownAnswer
     own-is =
         by-guarded k (sum64 at (s .offset)) o (answerAt arena s name (gnuHash name) (elfHash name)) base-is
         ∙ ap (model.protectedOf k o) (sym (h .find name))
@@ -67,7 +70,7 @@ module _ (at : ℕ) (arena table name : List ℕ) where
   scan-is :
       (d : Obj) (os : List Obj) (k : ℕ) → ((j : ℕ) → j < length os → SeatOf at arena (getD os j d) (seatAt table (k + j)))
       → scopedOf (scanSeats at arena k (seatsFrom table k (length os)) name (gnuHash name) (elfHash name)) ≡ model.scan k os name
-  unfolding scanSeats seatsFrom scopedOf model.scan
+  unfolding searches.scanSeats seats-specs.seatsFrom scopedOf model.scan
   scan-is d [] k h = refl
   scan-is d (o ∷ os) k h =
       let z : k + 0 ≡ k = omega arith in
@@ -82,7 +85,7 @@ module _ (at : ℕ) (arena table name : List ℕ) where
   module _ (S : Objs) (n : ℕ) (c : n ≡ count S) (h : SeatedFor at arena table S) where
     -- where the set has `n` objects and the requester is one of them
     pub resolve-is : (r : ℕ) → r < n → scopedOf (resolveSeats at arena table n r name (gnuHash name) (elfHash name)) ≡ model.resolve S r name
-    unfolding resolveSeats model.resolve
+    unfolding searches.resolveSeats model.resolve
     resolve-is r l =
         let m : n - 1 ≡ length (S .program ∷ S .libs) = omega arith in
         let seats : (j : ℕ) → j < length (S .program ∷ S .libs) → SeatOf at arena (getD (S .program ∷ S .libs) j (S .host)) (seatAt table (1 + j)) = λ j q.
@@ -98,7 +101,7 @@ module _ (at : ℕ) (arena table name : List ℕ) where
         )
 
     pub resolve-copy-is : scopedOf (resolveCopySeats at arena table n name (gnuHash name) (elfHash name)) ≡ model.resolveCopy S name
-    unfolding resolveCopySeats model.resolveCopy
+    unfolding searches.resolveCopySeats model.resolveCopy
     resolve-copy-is =
         let m : n - 2 ≡ length (S .libs) = omega arith in
         let seats : (j : ℕ) → j < length (S .libs) → SeatOf at arena (getD (S .libs) j (S .host)) (seatAt table (2 + j)) = λ j q.

@@ -15,9 +15,10 @@ use Rattle.object.specs.Placed.{objectSpan}
 use Rattle.object.specs.declared.hash_tables.Definition.{Definition}
 use Rattle.binder.specs.Instance.{File, imageOf, recordOf, symOf, objectAt}
 use Rattle.binder.specs.Verdict.{passed, loadVerdict, noFile, copyOk}
-use Rattle.binder.specs.Seats.{seatAt}
+use Rattle.scope.specs.Seats.{seatAt}
 use Rattle.binder.specs.Prepared.{seatOf, placeFiles, Seated}
-use Rattle.binder.specs.ScopeCode.{scopedOf, imageAt}
+use Rattle.scope.specs.ScopeCode.{imageAt}
+use Rattle.binder.specs.ScopeModel.{scopedOf}
 use Rattle.binder.specs.Relocating.{turnOf, imageIn, soughtFor, soughtForCopy, againRefusal, againRecord, copyFits}
 
 module _ (address size : ℕ) (table : List ℕ) (h p : File) (fs : List File) where

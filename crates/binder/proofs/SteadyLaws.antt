@@ -41,11 +41,12 @@ use Rattle.object.proofs.RefusalLaws.{required, after-zero}
 use Rattle.object.proofs.ReadingsSame.{invariance}
 use Rattle.binder.specs.Instance.{File, imageOf, recordOf, objectAt}
 use Rattle.binder.specs.Verdict.{noFile, copyOk}
-use Rattle.binder.specs.Seats.{seatAt}
+use Rattle.scope.specs.Seats.{seatAt}
 use Rattle.binder.specs.Prepared.{seatOf, placeFiles}
-use Rattle.binder.specs.ScopeCode.{imageAt, SeatedFor}
+use Rattle.scope.specs.ScopeCode.{imageAt}
+use Rattle.binder.specs.ScopeModel.{SeatedFor}
 use Rattle.binder.specs.Relocating.{copyFits, againRefusal}
-use Rattle.binder.specs.declared.seats.Seat.{Seat}
+use Rattle.scope.specs.declared.seats.Seat.{Seat}
 use Rattle.binder.proofs.InsideLaws as inside
 use Rattle.binder.proofs.ScopeIs.{resolve-is, resolve-copy-is}
 use Rattle.binder.proofs.QueryLaws.{Sits, sits-at, image-at, seat-of}

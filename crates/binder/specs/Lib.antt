@@ -1,4 +1,3 @@
-pub mod Seats
 pub mod Table
 pub mod OrderState
 pub mod Instance
@@ -10,7 +9,7 @@ pub mod LongerSet
 pub mod Cases
 pub mod OrderReport
 pub mod Prepared
-pub mod ScopeCode
+pub mod ScopeModel
 pub mod Asked
 pub mod Relocating
 pub mod Needed

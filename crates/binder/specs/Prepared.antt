@@ -13,8 +13,8 @@ use Rattle.object.specs.Record.{viewOf}
 use Rattle.object.specs.Loaded.{objectRefusal}
 use Rattle.binder.specs.Instance.{File, recordOf}
 use Rattle.binder.specs.Verdict.{Verdict, loadVerdict, verdict}
-use Rattle.binder.specs.Seats.{seatAt}
-use Rattle.binder.specs.declared.seats.Seat.{Seat}
+use Rattle.scope.specs.Seats.{seatAt}
+use Rattle.scope.specs.declared.seats.Seat.{Seat}
 use Rattle.binder.specs.declared.prepare.Met.{Met}
 use Rattle.binder.specs.declared.prepare.Placed.{Placed}
 

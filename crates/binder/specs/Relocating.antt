@@ -27,11 +27,11 @@ use Rattle.object.specs.declared.relocate.Action.the-variants.{Ignored, Passed,
 use Rattle.object.specs.declared.dynamic_fields.CheckedSymbol.{CheckedSymbol}
 use Rattle.object.specs.declared.dynamic_fields.CheckedSymbol.the-variants.{Refused, Checked}
 use Rattle.sheet.specs.Sheet.{Input, noInput}
-use Rattle.binder.specs.Seats.{seatAt}
-use Rattle.binder.specs.ScopeCode.{resolveSeats, resolveCopySeats}
-use Rattle.binder.specs.declared.seats.Seat.{Seat}
-use Rattle.binder.specs.declared.scope.Scoped.{Scoped}
-use Rattle.binder.specs.declared.scope.Scoped.the-variants.{Absent, Found}
+use Rattle.scope.specs.Seats.{seatAt}
+use Rattle.scope.specs.ScopeCode.{resolveSeats, resolveCopySeats}
+use Rattle.scope.specs.declared.seats.Seat.{Seat}
+use Rattle.scope.specs.declared.scope.Scoped.{Scoped}
+use Rattle.scope.specs.declared.scope.Scoped.the-variants.{Absent, Found}
 use Rattle.binder.specs.declared.report.Progress.{Progress}
 use Rattle.binder.specs.declared.turn.Turn.{Turn}
 use Rattle.binder.specs.declared.relr.Moved.{Moved}

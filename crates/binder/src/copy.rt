@@ -5,13 +5,13 @@ ghost use lib.Dec.{leb};
 ghost use lib.ListN.{take};
 ghost use Rattle.binder.specs.Relocating.{left, wrote, copyFits, copyBytes, copyOf};
 use crate::report::Progress;
-use crate::scope::Scoped;
-use crate::seats::Seat;
 use crate::turn::Turn;
 use object::hash_tables::Definition;
 use object::relocate::Rela;
 use object::symbol::Symbol;
 use object::table_bytes::Bounds;
+use scope::scope::Scoped;
+use scope::seats::Seat;
 
 // Whether the `n` bytes at `place` of what starts at `off` end inside `size` bytes.
 pub(crate) fn ends_inside(size: usize, off: usize, place: usize, n: usize) -> bool
@@ -106,6 +106,6 @@ pub(crate) fn copy_answer(
         return crate::report::unresolved(report, p, y, t.number, i);
     };
     let n = words::bytes::smaller(y.size as usize, definition.size as usize);
-    let seat = crate::seats::seat_at(table, object);
+    let seat = scope::seats::seat_at(table, object);
     copy_found(arena, p, t, b, e.place, seat, definition, n)
 }

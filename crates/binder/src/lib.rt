@@ -8,8 +8,6 @@ pub mod query;
 pub mod relocate;
 pub mod relr;
 pub mod report;
-pub mod scope;
-pub mod seats;
 pub mod turn;
 
 // What happens to a set with undefined entries: it is refused, or bound with a report.

@@ -5,7 +5,7 @@ ghost use lib.ListN.{length};
 ghost use Rattle.sheet.specs.Parts.{inputsIn};
 ghost use Rattle.binder.specs.Bind.{filesOf};
 ghost use Rattle.binder.specs.Prepared.{LoadedAt, Prepared};
-use crate::seats::Seat;
+use scope::seats::Seat;
 use sheet::sheet::Parts;
 
 // A refusal that was met, with its object; number 0 is none.
@@ -58,7 +58,7 @@ pub(crate) fn load_all(bytes: &[u8], parts: Parts, arena: &mut [u8], table: &mut
             };
         }
         let s = p.seat;
-        crate::seats::put_seat(table, k, s);
+        scope::seats::put_seat(table, k, s);
         off += s.span;
         k += 1;
     }

@@ -3,11 +3,11 @@ ghost use mathlib.Core.Path.{_≡_};
 ghost use Prim.Native.Nat.{_+_, _≤_, _^_};
 ghost use lib.ListN.{length, replicate};
 ghost use Rattle.sheet.specs.Parts.{inputsIn};
-ghost use Rattle.binder.specs.ScopeCode.{scopedOf};
+ghost use Rattle.binder.specs.ScopeModel.{scopedOf};
 ghost use Rattle.binder.specs.Bind.{replied, replyOf, queryOf};
 ghost use Rattle.binder.specs.Asked.{askOf, Ready};
 use crate::Reply;
-use crate::scope::Scoped;
+use scope::scope::Scoped;
 use sheet::sheet::Parts;
 
 // The answer of a search, as a query gives it.
@@ -62,7 +62,7 @@ fn ask_set(
     }
     let gnu = words::hash::gnu_hash(name);
     let elf = words::hash::elf_hash(name);
-    let s = crate::scope::resolve(arena, &table, count, address, requester, name, gnu, elf);
+    let s = scope::scope::resolve(arena, &table, count, address, requester, name, gnu, elf);
     reply_of(s)
 }
 

@@ -9,7 +9,6 @@ ghost use Rattle.sheet.specs.Parts.{inputsIn};
 ghost use Rattle.binder.specs.Relocating.{left, wrote, started, imageIn, relativeOf, symbolRefusal, foundOf, soughtFor, soughtForCopy, symbolicOf, copyingOf, runAction, runTable, runTables, runObject, runAt, runOrder};
 use crate::order::Order;
 use crate::report::Progress;
-use crate::scope::Scoped;
 use crate::turn::Turn;
 use object::dynamic_fields::CheckedSymbol;
 use object::dynamic_fields::ObjectData;
@@ -17,6 +16,7 @@ use object::relocate::Action;
 use object::relocate::Rela;
 use object::symbol::Symbol;
 use object::table_bytes::Bounds;
+use scope::scope::Scoped;
 use sheet::sheet::Parts;
 
 // ---- RELA and PLT
@@ -59,7 +59,7 @@ fn search(
     let wanted = words::names::name_off(crate::turn::image_of(arena, t), strings, name as usize);
     let gnu = words::hash::gnu_hash(wanted);
     let elf = words::hash::elf_hash(wanted);
-    crate::scope::resolve(
+    scope::scope::resolve(
         arena,
         table,
         count,
@@ -86,7 +86,7 @@ fn search_copy(
     let wanted = words::names::name_off(crate::turn::image_of(arena, t), strings, name as usize);
     let gnu = words::hash::gnu_hash(wanted);
     let elf = words::hash::elf_hash(wanted);
-    crate::scope::resolve_copy(arena, table, count, address, wanted, gnu, elf)
+    scope::scope::resolve_copy(arena, table, count, address, wanted, gnu, elf)
 }
 
 // Types 6 and 7, of the entry with number `i` and the symbol `y`: what was found, or 0 and a word of the report.

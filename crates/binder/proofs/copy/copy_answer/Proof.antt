@@ -8,10 +8,10 @@ use Rattle.object.specs.declared.program_header.Segment.{Segment}
 use Rattle.object.specs.declared.hash_tables.Definition.{Definition}
 use Rattle.object.specs.declared.symbol.Symbol.{Symbol}
 use Rattle.object.specs.declared.relocate.Rela.{Rela}
-use Rattle.binder.specs.Seats.{seatAt}
-use Rattle.binder.specs.declared.seats.Seat.{Seat}
-use Rattle.binder.specs.declared.scope.Scoped.{Scoped}
-use Rattle.binder.specs.declared.scope.Scoped.the-variants.{Absent, Found}
+use Rattle.scope.specs.Seats.{seatAt}
+use Rattle.scope.specs.declared.seats.Seat.{Seat}
+use Rattle.scope.specs.declared.scope.Scoped.{Scoped}
+use Rattle.scope.specs.declared.scope.Scoped.the-variants.{Absent, Found}
 use Rattle.binder.specs.declared.turn.Turn.{Turn}
 use Rattle.binder.specs.declared.report.Progress.{Progress}
 use Rattle.binder.specs.Relocating.{left, wrote, noted, withArena, withReport, unresolvedOf, copyBytes, copyOf}
@@ -22,7 +22,7 @@ use Rattle.binder.proofs.copy.copy_answer.Reads as reads
 use Rattle.binder.proofs.copy.copy_answer.Lts as lts
 use Rattle.binder.proofs.copy.copy_found.Reads as copy-found-reads
 use Rattle.binder.proofs.report.unresolved.Reads as unresolved-reads
-use Rattle.binder.proofs.seats.seat_at.Reads as seat-at-reads
+use Rattle.scope.proofs.seats.seat_at.Reads as seat-at-reads
 use Rattle.words.proofs.bytes.smaller.Reads as smaller-reads
 
 module _

@@ -14,7 +14,7 @@ use Rattle.words.proofs.Choice.{both-true, either-true}
 use Rattle.object.specs.TableBytes.{inWritable}
 use Rattle.object.specs.declared.program_header.Segment.{Segment}
 use Rattle.object.specs.declared.hash_tables.Definition.{Definition}
-use Rattle.binder.specs.declared.seats.Seat.{Seat}
+use Rattle.scope.specs.declared.seats.Seat.{Seat}
 use Rattle.binder.specs.declared.turn.Turn.{Turn}
 use Rattle.binder.specs.declared.report.Progress.{Progress}
 use Rattle.binder.specs.Relocating.{wrote, refusedBy, copyFits, CopyApart, copyBytes}

@@ -1,5 +1,5 @@
 -- `binder::prepare::load_all` meets its contract. Assumes nothing.
-use Rattle.binder.specs.declared.seats.Seat.{Seat}
+use Rattle.scope.specs.declared.seats.Seat.{Seat}
 use Prim.Native.Nat.{_^_}
 use borrow.Author.Needs.{needs}
 use Rattle.binder.proofs.PrepareLaws.{Loading, load-begin, load-fail, load-turn, load-finish}
@@ -17,7 +17,7 @@ use Rattle.binder.proofs.prepare.load_all.Tie as tie
 use Rattle.binder.proofs.prepare.load_all.Reads as reads
 use Rattle.binder.proofs.prepare.load_all.Lts as lts
 use Rattle.binder.proofs.prepare.load_at.Reads as load-at-reads
-use Rattle.binder.proofs.seats.put_seat.Reads as put-seat-reads
+use Rattle.scope.proofs.seats.put_seat.Reads as put-seat-reads
 use Rattle.sheet.proofs.sheet.file_of.Reads as file-of-reads
 
 abbrev Inv-loop : tie.InvT-loop

@@ -1,9 +1,9 @@
 -- `binder::query::ask_set` meets its contract. Assumes nothing.
 use Rattle.binder.proofs.QueryIs.{ask-refused, ask-thirteen, asked}
-use Rattle.binder.specs.declared.scope.Scoped.{Scoped}
+use Rattle.scope.specs.declared.scope.Scoped.{Scoped}
 use Rattle.binder.specs.declared.Reply.the-variants.{Refused}
 use Rattle.binder.specs.Bind.{replied, replyOf}
-use Rattle.binder.specs.ScopeCode.{scopedOf}
+use Rattle.binder.specs.ScopeModel.{scopedOf}
 use Rattle.sheet.specs.Parts.{inputsIn}
 use lib.ListN.{length, replicate}
 use denote.Ref.{now}
@@ -17,7 +17,7 @@ use Rattle.binder.proofs.query.ask_set.Reads as reads
 use Rattle.binder.proofs.query.ask_set.Lts as lts
 use Rattle.binder.proofs.prepare.load_all.Reads as load-all-reads
 use Rattle.binder.proofs.query.reply_of.Reads as reply-of-reads
-use Rattle.binder.proofs.scope.resolve.Reads as resolve-reads
+use Rattle.scope.proofs.scope.resolve.Reads as resolve-reads
 use Rattle.sheet.proofs.wipe.clear.Reads as clear-reads
 use Rattle.words.proofs.hash.elf_hash.Reads as elf-hash-reads
 use Rattle.words.proofs.hash.gnu_hash.Reads as gnu-hash-reads

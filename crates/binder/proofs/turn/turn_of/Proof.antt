@@ -4,7 +4,7 @@ use Rattle.binder.proofs.turn.turn_of.Statement.{statement}
 use Rattle.binder.proofs.turn.turn_of.Tie as tie
 use Rattle.binder.proofs.turn.turn_of.Reads as reads
 use Rattle.binder.proofs.turn.turn_of.Lts as lts
-use Rattle.binder.proofs.seats.seat_at.Reads as seat-at-reads
+use Rattle.scope.proofs.seats.seat_at.Reads as seat-at-reads
 use Rattle.words.proofs.bytes.sum_u64.Reads as sum-u64-reads
 
 seat-at-requires : tie.Need-seat-at-requires

@@ -1,0 +1,3 @@
+-- What the proofs of this crate rest on, for them and for the crates above.
+pub mod SeatLaws
+pub mod ScopeLaws

@@ -1,0 +1,28 @@
+-- `scope::scope::seat_answer` meets its contract. Assumes nothing.
+use borrow.Author.Needs.{needs}
+use Rattle.scope.specs.ScopeCode.{seatAnswer, scopedBy}
+use Rattle.scope.proofs.scope.seat_answer.Statement.{statement}
+use Rattle.scope.proofs.scope.seat_answer.Tie as tie
+
+returns : tie.Need-returns
+unfolding seatAnswer scopedBy
+returns c =
+    rw (← c .before .before .before .seat-at .ensures, ← c .before .before .answer-at .ensures, c .enum-told .given .1)
+
+returns-2 : tie.Need-returns-2
+unfolding seatAnswer scopedBy
+returns-2 c =
+    rw (← c .before .before .before .before .before .before .seat-at .ensures, ← c .before .before .before .before .before .answer-at .ensures, c .before .before .before .a .given .1, c .address-of .ensures, c .before .sum-u64 .ensures)
+
+pub seat-answer-spec : {M : Type 1} → statement M
+seat-answer-spec =
+    tie.close
+    (tie.spec
+    (λ c κs. search needs)
+    (λ c κs. search needs)
+    (λ c. search needs)
+    (λ c. search needs)
+    returns
+    (λ c κs. search needs)
+    (λ c κs. search needs)
+    returns-2)

@@ -1,0 +1,23 @@
+-- `scope::seats::words_of` meets its contract. Assumes nothing.
+use borrow.Author.Needs.{needs}
+use Rattle.scope.specs.Seats.{wordsOf}
+use Rattle.scope.proofs.seats.words_of.Statement.{statement}
+use Rattle.scope.proofs.seats.words_of.Tie as tie
+
+returns : tie.Need-returns
+unfolding wordsOf
+returns c =
+    (simp (c .hash-words .ensures .0), c .hash-words .ensures .1)
+
+pub words-of-spec : {M : Type 1} → statement M
+words-of-spec =
+    tie.close
+    (tie.spec
+    (λ c κs. search needs)
+    (λ c. search needs)
+    (λ c. search needs)
+    (λ c. search needs)
+    (λ c. search needs)
+    (λ c. search needs)
+    (λ c. search needs)
+    returns)

@@ -1,0 +1,75 @@
+-- The table of seats: where each object lies, and what a lookup reads of its record. Document 01, "What must change shape": "Pointers become
+-- offsets. `IndexMap` and `Vec` become fixed arrays of records"; "The object record": "The record holds which hash table was chosen, SysV or
+-- GNU, with its numbers". Object k has the 16 words from 16 * k on: offset, span, symbols, strings, kind of hash table (1 SysV, 2 GNU, else
+-- none), at, buckets, chains or first, blooms, shift, and six zeros. Assumes nothing.
+use Prim.Native.Nat.{ℕ, zero, suc, _+_, _*_, _%_, _^_, _<_}
+use mathlib.Core.List.{List, [], _∷_}
+use lib.Dec.{eqb, leb}
+use lib.ListN.{length, getD}
+use lib.Seq.{paste}
+use Rattle.words.specs.Choice.{pick}
+use Rattle.object.specs.declared.hash_tables.HashTable.{HashTable}
+use Rattle.object.specs.declared.hash_tables.HashTable.the-variants.{Without, SysV, Gnu}
+use Rattle.object.specs.declared.hash_tables.View.{View}
+use Rattle.scope.specs.declared.seats.Seat.{Seat}
+
+-- ---- what the words say
+
+-- the hash table of six words; its counts have 32 bits
+abbrev pub hashOf : ℕ → ℕ → ℕ → ℕ → ℕ → ℕ → HashTable
+hashOf kind at b c d e =
+    pick (eqb kind 1) (SysV at (b % 2 ^ 32) (c % 2 ^ 32))
+    (pick (eqb kind 2) (Gnu at (b % 2 ^ 32) (c % 2 ^ 32) (d % 2 ^ 32) (e % 2 ^ 32)) Without)
+
+-- word `j` of object `k`; 0 past the table's end
+abbrev pub wordAt : List ℕ → ℕ → ℕ → ℕ
+wordAt table k j = getD table (16 * k + j) 0
+
+-- the seat of object `k`
+unfoldable pub seatAt : List ℕ → ℕ → Seat
+seatAt table k =
+    record {
+      offset = wordAt table k 0;
+      span = wordAt table k 1;
+      view =
+          record {
+            symbols = wordAt table k 2;
+            strings = wordAt table k 3;
+            table = hashOf (wordAt table k 4) (wordAt table k 5) (wordAt table k 6) (wordAt table k 7) (wordAt table k 8) (wordAt table k 9);
+          };
+    }
+
+-- the `n` seats from object `k` on
+unfoldable pub seatsFrom : List ℕ → ℕ → ℕ → List Seat
+seatsFrom table k zero = []
+seatsFrom table k (suc n) = seatAt table k ∷ seatsFrom table (suc k) n
+
+-- ---- the words of a seat
+
+abbrev pub hashWords : HashTable → List ℕ
+hashWords Without = 0 ∷ 0 ∷ 0 ∷ 0 ∷ 0 ∷ 0 ∷ []
+hashWords (SysV a b c) = 1 ∷ a ∷ b ∷ c ∷ 0 ∷ 0 ∷ []
+hashWords (Gnu a b c d e) = 2 ∷ a ∷ b ∷ c ∷ d ∷ e ∷ []
+
+-- the counts have 32 bits, as every table's of the code
+abbrev pub narrow : HashTable → Type 0
+narrow Without = Unit {0}
+narrow (SysV a b c) = (b < 2 ^ 32) × (c < 2 ^ 32)
+narrow (Gnu a b c d e) = (b < 2 ^ 32) × (c < 2 ^ 32) × (d < 2 ^ 32) × (e < 2 ^ 32)
+
+abbrev pub nth : List ℕ → ℕ → ℕ
+nth w j = getD w j 0
+
+unfoldable pub wordsOf : Seat → List ℕ
+wordsOf s =
+    s .offset ∷ s .span ∷ s .view .symbols ∷ s .view .strings ∷ nth (hashWords (s .view .table)) 0 ∷ nth (hashWords (s .view .table)) 1
+    ∷ nth (hashWords (s .view .table)) 2 ∷ nth (hashWords (s .view .table)) 3 ∷ nth (hashWords (s .view .table)) 4
+    ∷ nth (hashWords (s .view .table)) 5 ∷ 0 ∷ 0 ∷ 0 ∷ 0 ∷ 0 ∷ 0 ∷ []
+
+-- the table with 16 words from `p` on
+unfoldable pub spliced : List ℕ → ℕ → List ℕ → List ℕ
+spliced table p w = paste table p w 16
+
+-- the table with the seat of object `k`, where there is room for it
+unfoldable pub withSeat : List ℕ → ℕ → Seat → List ℕ
+withSeat table k s = pick (leb (16 * k + 16) (length table)) (spliced table (16 * k) (wordsOf s)) table

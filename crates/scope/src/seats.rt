@@ -1,0 +1,157 @@
+// A flat table of what lookups need of each object: 16 words an object, by its number. Words past the table's end read as 0.
+ghost use mathlib.Core.Path.{_≡_};
+ghost use Prim.Native.Nat.{ℕ, _+_, _*_, _≤_, _%_, _<_, _^_};
+ghost use lib.ListN.{length, getD};
+ghost use Rattle.scope.specs.Seats.{hashWords, hashOf, narrow, wordsOf, seatAt, spliced, withSeat};
+use object::hash_tables::HashTable;
+use object::hash_tables::View;
+
+// Where an object lies in the arena, and what a lookup reads of its record.
+pub struct Seat {
+    pub offset: usize,
+    pub span: usize,
+    pub view: View,
+}
+
+// Word `j` of object `k`.
+fn word(table: &[u64], k: usize, j: usize) -> u64
+    ensures { λ r. ⌜ r ≡ getD (now (table .entry)) (16 * k + j) 0 ⌝ }
+{
+    let n = table.len();
+    if j < n {
+        if k <= (n - 1 - j) / 16 {
+            return table[16 * k + j];
+        }
+    }
+    0
+}
+
+fn low(w: u64) -> u32
+    ensures { λ r. ⌜ r ≡ w % 2 ^ 32 ⌝ }
+{
+    (w % 0x1_0000_0000) as u32
+}
+
+// The hash table that six words say.
+fn hash_of(kind: u64, at: u64, b: u64, c: u64, d: u64, e: u64) -> HashTable
+    ensures { λ r. ⌜ r ≡ hashOf kind at b c d e ⌝ }
+{
+    match kind {
+        1 => HashTable::SysV {
+            at: at as usize,
+            buckets: low(b),
+            chains: low(c),
+        },
+        2 => HashTable::Gnu {
+            at: at as usize,
+            buckets: low(b),
+            first: low(c),
+            blooms: low(d),
+            shift: low(e),
+        },
+        _ => HashTable::Without,
+    }
+}
+
+// The six words of a hash table.
+fn hash_words(h: HashTable) -> [u64; 6]
+    ensures { λ r. ⌜ (r ≡ hashWords h) × narrow h ⌝ }
+{
+    match h {
+        HashTable::Without => [0, 0, 0, 0, 0, 0],
+        HashTable::SysV {
+            at,
+            buckets,
+            chains,
+        } => [1, at as u64, buckets as u64, chains as u64, 0, 0],
+        HashTable::Gnu {
+            at,
+            buckets,
+            first,
+            blooms,
+            shift,
+        } => [
+            2,
+            at as u64,
+            buckets as u64,
+            first as u64,
+            blooms as u64,
+            shift as u64,
+        ],
+    }
+}
+
+// The 16 words of a seat.
+fn words_of(s: Seat) -> [u64; 16]
+    ensures { λ r. ⌜ (r ≡ wordsOf s) × narrow (s .view .table) ⌝ }
+{
+    let v = s.view;
+    let h = v.table;
+    let w = hash_words(h);
+    [
+        s.offset as u64,
+        s.span as u64,
+        v.symbols as u64,
+        v.strings as u64,
+        w[0],
+        w[1],
+        w[2],
+        w[3],
+        w[4],
+        w[5],
+        0,
+        0,
+        0,
+        0,
+        0,
+        0,
+    ]
+}
+
+// The words go to the table from `p` on.
+fn put_words(table: &mut [u64], p: usize, w: [u64; 16])
+    requires { ⌜ p + 16 ≤ length (now table) ⌝ }
+    ensures { λ _. ⌜ now (table .exit) ≡ spliced (now (table .entry)) p w ⌝ }
+{
+    let mut i = 0;
+    while i < 16 {
+        table[p + i] = w[i];
+        i += 1;
+    }
+}
+
+// The seat of object `k`.
+pub fn seat_at(table: &[u64], k: usize) -> Seat
+    ensures { λ r. ⌜ r ≡ seatAt (now (table .entry)) k ⌝ }
+{
+    let hash = hash_of(
+        word(table, k, 4),
+        word(table, k, 5),
+        word(table, k, 6),
+        word(table, k, 7),
+        word(table, k, 8),
+        word(table, k, 9),
+    );
+    let view = View {
+        symbols: word(table, k, 2) as usize,
+        strings: word(table, k, 3) as usize,
+        table: hash,
+    };
+    Seat {
+        offset: word(table, k, 0) as usize,
+        span: word(table, k, 1) as usize,
+        view,
+    }
+}
+
+// The seat of object `k` becomes `s`; a table that has no room for it stays as it is.
+pub fn put_seat(table: &mut [u64], k: usize, s: Seat)
+    ensures same { λ _. ⌜ now (table .exit) ≡ withSeat (now (table .entry)) k s ⌝ }
+    ensures back { λ _. ⌜ (16 * k + 16 ≤ length (now (table .entry)) → seatAt (now (table .exit)) k ≡ s) ⌝ }
+    ensures others { λ _. ⌜ ((j : ℕ) → (j ≡ k → ⊥) → seatAt (now (table .exit)) j ≡ seatAt (now (table .entry)) j) ⌝ }
+{
+    let w = words_of(s);
+    if k < table.len() / 16 {
+        put_words(table, 16 * k, w);
+    }
+}
