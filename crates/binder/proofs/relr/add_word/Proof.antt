@@ -23,7 +23,8 @@ same-length c = search needs
 
 returns : tie.Need-returns
 unfolding wordAdded
-returns c = cc
+returns c =
+    rw (c .before .before .write-word .ensures, c .before .before .before .sum-u64 .ensures, c .before .before .before .before .before .u64-off .ensures)
 
 pub add-word-spec : {M : Type 1} → statement M
 add-word-spec =

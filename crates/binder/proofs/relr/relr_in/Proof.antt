@@ -14,7 +14,7 @@ relr-at-requires : tie.Need-relr-at-requires
 relr-at-requires c κs = search needs
 
 returns : tie.Need-returns
-returns c = cc
+returns c = rw (c .relr-at .ensures, c .before .image-of .ensures)
 
 pub relr-in-spec : {M : Type 1} → statement M
 relr-in-spec = tie.close (tie.spec image-of-requires relr-at-requires returns)

@@ -14,7 +14,7 @@ sum-u64-requires : tie.Need-sum-u64-requires
 sum-u64-requires c κs = search needs
 
 returns : tie.Need-returns
-returns c = cc
+returns c = rw (c .sum-u64 .ensures, c .before .seat-at .ensures)
 
 pub turn-of-spec : {M : Type 1} → statement M
 turn-of-spec = tie.close (tie.spec seat-at-requires sum-u64-requires returns)
