@@ -22,7 +22,7 @@ load-all-requires : tie.Need-load-all-requires
 load-all-requires c κs = search needs
 
 same-length : tie.Need-same-length
-same-length c = search needs
+same-length c = c .before .before .before .before .before .load-all .kept .1 .1 .0
 
 returns : tie.Need-returns
 returns c =
@@ -47,10 +47,10 @@ end-requires : tie.Need-end-requires
 end-requires c κs = search needs
 
 same-length-2 : tie.Need-same-length-2
-same-length-2 c = search needs
+same-length-2 c = c .before .before .before .before .before .run-order .kept .1 .1 .0 ∙ c .before .before .before .before .before .before .before .before .before .before .before .before .before .before .before .before .before .load-all .kept .1 .1 .0
 
 same-length-3 : tie.Need-same-length-3
-same-length-3 c = search needs
+same-length-3 c = c .before .before .before .before .before .run-order .kept .1 .1 .1 .0
 
 returns-2 : tie.Need-returns-2
 returns-2 c =

@@ -22,10 +22,10 @@ clear-words-requires : tie.Need-clear-words-requires
 clear-words-requires c κs = search needs
 
 same-length : tie.Need-same-length
-same-length c = search needs
+same-length c = c .before .before .before .before .before .before .clear .kept .0
 
 same-length-2 : tie.Need-same-length-2
-same-length-2 c = search needs
+same-length-2 c = c .before .before .clear-words .kept .0
 
 returns-2 : tie.Need-returns-2
 unfolding settledOf

@@ -59,7 +59,7 @@ unresolved-requires : tie.Need-unresolved-requires
 unresolved-requires c κs = search needs
 
 same-length : tie.Need-same-length
-same-length c = search needs
+same-length c = c .before .before .unresolved .kept .0
 
 returns : tie.Need-returns
 returns c =
@@ -76,7 +76,7 @@ copy-found-requires : tie.Need-copy-found-requires
 copy-found-requires c κs = search needs
 
 same-length-2 : tie.Need-same-length-2
-same-length-2 c = search needs
+same-length-2 c = c .before .before .copy-found .kept .0
 
 returns-2 : tie.Need-returns-2
 returns-2 c =

@@ -107,7 +107,7 @@ copy-part-requires c κs =
     fits-apart (length (now (a .arena))) (a .t) (a .to) (a .s) (a .d) (a .n) (sym (c .before .before .before .copy-fits .ensures) ∙ not-false _ (c .before .before .if3 .left))
 
 same-length : tie.Need-same-length
-same-length c = search needs
+same-length c = c .before .before .copy-part .kept .0
 
 returns-4 : tie.Need-returns-4
 returns-4 c =

@@ -31,7 +31,7 @@ sheet-ok-requires : tie.Need-sheet-ok-requires
 sheet-ok-requires c κs = search needs
 
 same-length : tie.Need-same-length
-same-length c = search needs
+same-length c = c .before .before .before .before .clear .kept .0
 
 returns : tie.Need-returns
 returns c =
@@ -44,7 +44,7 @@ arena-ok-requires : tie.Need-arena-ok-requires
 arena-ok-requires c κs = search needs
 
 same-length-2 : tie.Need-same-length-2
-same-length-2 c = search needs
+same-length-2 c = c .before .before .before .before .before .before .clear .kept .0
 
 returns-2 : tie.Need-returns-2
 returns-2 c =
@@ -65,7 +65,7 @@ cast-t16 : tie.Need-cast-t16
 cast-t16 c = search needs
 
 same-length-3 : tie.Need-same-length-3
-same-length-3 c = search needs
+same-length-3 c = c .before .before .before .before .before .before .before .before .before .clear .kept .0
 
 returns-3 : tie.Need-returns-3
 returns-3 c =
@@ -93,7 +93,7 @@ ask-set-requires c κs =
     }
 
 same-length-4 : tie.Need-same-length-4
-same-length-4 c = search needs
+same-length-4 c = c .before .before .ask-set .kept .1 .1 .0 ∙ c .before .before .before .before .before .before .before .before .before .before .before .before .before .clear .kept .0
 
 returns-4 : tie.Need-returns-4
 returns-4 c =

@@ -1,4 +1,5 @@
 -- `binder::relocate::copying` meets its contract. Assumes nothing.
+use mathlib.Core.Path.{refl}
 use Rattle.binder.specs.Relocating.{copyingOf}
 use borrow.Author.Needs.{needs}
 use Rattle.binder.proofs.relocate.copying.Statement.{statement}
@@ -23,11 +24,11 @@ copying-spec =
     (λ c. search needs)
     (λ c κs. search needs)
     (λ c κs. search needs)
-    (λ c. search needs)
+    (λ c. refl)
     returns
     (λ c κs. search needs)
     (λ c κs. search needs)
     (λ c κs. search needs)
-    (λ c. search needs)
-    (λ c. search needs)
+    (λ c. c .before .before .before .before .copy-answer .kept .0)
+    (λ c. c .before .before .before .before .copy-answer .kept .1 .0)
     returns-2)

@@ -24,5 +24,5 @@ relative-spec =
     returns
     (λ c κs. search needs)
     (λ c κs. search needs)
-    (λ c. search needs)
+    (λ c. c .before .before .write-word .kept .0)
     returns-2)

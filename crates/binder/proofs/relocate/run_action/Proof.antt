@@ -53,14 +53,14 @@ run-action-spec =
     (λ c. search needs)
     (λ c κs. search needs)
     returns
-    (λ c. search needs)
+    (λ c. c .before .before .note .kept .0)
     returns-2
     returns-3
-    (λ c. search needs)
+    (λ c. c .before .before .relative .kept .0)
     returns-4
-    (λ c. search needs)
-    (λ c. search needs)
+    (λ c. c .before .before .before .before .symbolic .kept .0)
+    (λ c. c .before .before .before .before .symbolic .kept .1 .0)
     returns-5
-    (λ c. search needs)
-    (λ c. search needs)
+    (λ c. c .before .before .before .before .copying .kept .0)
+    (λ c. c .before .before .before .before .copying .kept .1 .0)
     returns-6)

@@ -1,7 +1,7 @@
 -- `binder::relocate::run_at` meets its contract. Assumes nothing.
 use denote.Ref.{now}
 use native.Mathlib.Omega.{arith}
-use mathlib.Core.Path.{_∙_}
+use mathlib.Core.Path.{_∙_, refl}
 use Rattle.binder.proofs.RunLaws.{again-many, again-refusal, again-record, turn-stops, turn-goes}
 use borrow.Author.Needs.{needs}
 use Rattle.binder.proofs.relocate.run_at.Statement.{statement}
@@ -48,9 +48,9 @@ run-at-spec =
     (λ c κs. search needs)
     (λ c κs. search needs)
     (λ c κs. search needs)
-    (λ c. search needs)
+    (λ c. refl)
     returns-2
     (λ c κs. search needs)
-    (λ c. search needs)
-    (λ c. search needs)
+    (λ c. c .before .before .before .before .run-object .kept .0)
+    (λ c. c .before .before .before .before .run-object .kept .1 .0)
     returns-3)

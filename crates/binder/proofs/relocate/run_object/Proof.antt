@@ -1,4 +1,5 @@
 -- `binder::relocate::run_object` meets its contract. Assumes nothing.
+use mathlib.Core.Path.{_∙_}
 use borrow.Author.Tests.{eq-eqb, ne-eqb}
 use Rattle.binder.specs.Relocating.{runObject}
 use borrow.Author.Needs.{needs}
@@ -23,10 +24,10 @@ run-object-spec =
     (λ c κs. search needs)
     (λ c κs. search needs)
     (λ c κs. search needs)
-    (λ c. search needs)
-    (λ c. search needs)
+    (λ c. c .before .before .before .before .add-relrs .kept .0)
+    (λ c. c .before .before .before .before .before .before .before .before .note .kept .0)
     returns
     (λ c κs. search needs)
-    (λ c. search needs)
-    (λ c. search needs)
+    (λ c. c .before .before .before .before .run-tables .kept .0 ∙ c .before .before .before .before .before .before .before .before .before .before .add-relrs .kept .0)
+    (λ c. c .before .before .before .before .run-tables .kept .1 .0 ∙ c .before .before .before .before .before .before .before .before .before .before .before .before .before .before .note .kept .0)
     returns-2)

@@ -1,7 +1,7 @@
 -- `binder::relocate::run_order` meets its contract. The invariant: what is left of the order comes to what the whole does. Assumes nothing.
 use Prim.Native.Nat.{_-_, _≤_}
 use native.Mathlib.Omega.{arith}
-use mathlib.Core.Path.{_≡_, refl}
+use mathlib.Core.Path.{_≡_, refl, _∙_}
 use denote.Ref.{now}
 use lib.ListN.{length, take}
 use Rattle.sheet.specs.Parts.{inputsIn}
@@ -59,12 +59,12 @@ run-order-spec =
     (λ c. search needs)
     (λ c κs. search needs)
     (λ c κs. search needs)
-    (λ c. search needs)
-    (λ c. search needs)
+    (λ c. c .before .before .before .before .before .before .run-at .kept .0 ∙ c .before .before .before .before .before .before .before .before .before .before .before .loop .inv .0)
+    (λ c. c .before .before .before .before .before .before .run-at .kept .1 .0 ∙ c .before .before .before .before .before .before .before .before .before .before .before .loop .inv .1)
     returns
     (λ c. search needs)
     (λ c. search needs)
     loop-again
-    (λ c. search needs)
-    (λ c. search needs)
+    (λ c. c .before .loop .inv .0)
+    (λ c. c .before .loop .inv .1)
     returns-2)

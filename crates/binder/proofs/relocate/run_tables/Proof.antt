@@ -1,4 +1,5 @@
 -- `binder::relocate::run_tables` meets its contract. Assumes nothing.
+use mathlib.Core.Path.{_∙_}
 use borrow.Author.Tests.{eq-eqb, ne-eqb}
 use Rattle.binder.specs.Relocating.{runTables}
 use borrow.Author.Needs.{needs}
@@ -21,11 +22,11 @@ run-tables-spec =
     (tie.spec
     (λ c κs. search needs)
     (λ c κs. search needs)
-    (λ c. search needs)
-    (λ c. search needs)
+    (λ c. c .before .before .before .before .before .before .run-table .kept .0)
+    (λ c. c .before .before .before .before .before .before .run-table .kept .1 .0)
     returns
     (λ c κs. search needs)
     (λ c κs. search needs)
-    (λ c. search needs)
-    (λ c. search needs)
+    (λ c. c .before .before .before .before .run-table2 .kept .0 ∙ c .before .before .before .before .before .before .before .before .before .before .before .before .before .before .run-table .kept .0)
+    (λ c. c .before .before .before .before .run-table2 .kept .1 .0 ∙ c .before .before .before .before .before .before .before .before .before .before .before .before .before .before .run-table .kept .1 .0)
     returns-2)

@@ -1,4 +1,5 @@
 -- `binder::relocate::symbolic` meets its contract. Assumes nothing.
+use mathlib.Core.Path.{refl}
 use borrow.Author.Tests.{not-true, not-false}
 use Rattle.binder.specs.Relocating.{symbolicOf}
 use borrow.Author.Needs.{needs}
@@ -29,15 +30,15 @@ symbolic-spec =
     (λ c. search needs)
     (λ c κs. search needs)
     (λ c κs. search needs)
-    (λ c. search needs)
+    (λ c. refl)
     returns
     (λ c κs. search needs)
     (λ c κs. search needs)
     (λ c κs. search needs)
-    (λ c. search needs)
+    (λ c. refl)
     returns-2
     (λ c κs. search needs)
     (λ c κs. search needs)
-    (λ c. search needs)
-    (λ c. search needs)
+    (λ c. c .before .before .before .before .write-found .kept .0)
+    (λ c. c .before .before .before .before .write-found .kept .1 .0)
     returns-3)

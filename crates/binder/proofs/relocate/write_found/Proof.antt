@@ -23,9 +23,9 @@ write-found-spec =
     (λ c. search needs)
     (λ c κs. search needs)
     (λ c κs. search needs)
-    (λ c. search needs)
-    (λ c. search needs)
+    (λ c. c .before .before .before .before .before .before .write-word .kept .0)
+    (λ c. c .before .before .unresolved .kept .0)
     returns
     (λ c κs. search needs)
-    (λ c. search needs)
+    (λ c. c .before .before .write-word2 .kept .0)
     returns-2)

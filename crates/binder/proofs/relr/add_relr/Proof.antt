@@ -70,7 +70,7 @@ place-requires-2 : tie.Need-place-requires-2
 place-requires-2 c κs = search needs
 
 same-length : tie.Need-same-length
-same-length c = search needs
+same-length c = c .before .before .before .add-word .kept .0
 
 returns-2 : tie.Need-returns-2
 returns-2 c =
@@ -79,7 +79,7 @@ returns-2 c =
     (sym (c .before .before .before .before .before .before .in-writable .ensures) ∙ not-false _ (c .before .before .before .before .before .if1 .left)) (c .place .ensures) (c .before .before .before .add-word .ensures)
 
 same-length-2 : tie.Need-same-length-2
-same-length-2 c = search needs
+same-length-2 c = c .before .before .before .add-bits .kept .0
 
 returns-3 : tie.Need-returns-3
 returns-3 c =

@@ -19,7 +19,7 @@ write-word-requires : tie.Need-write-word-requires
 write-word-requires c κs = search needs
 
 same-length : tie.Need-same-length
-same-length c = search needs
+same-length c = c .before .before .write-word .kept .0
 
 returns : tie.Need-returns
 unfolding wordAdded

@@ -24,5 +24,5 @@ unresolved-spec =
     (λ c κs. search needs)
     (λ c κs. search needs)
     (λ c κs. search needs)
-    (λ c. search needs)
+    (λ c. c .before .before .before .note .kept .0)
     returns-2)

@@ -28,4 +28,4 @@ returns-2 c =
 pub put-seat-spec : {M : Type 1} → statement M
 put-seat-spec =
     tie.close
-    (tie.spec (λ c κs. search needs) (λ c. search needs) (λ c κs. search needs) (λ c. search needs) returns returns-2)
+    (tie.spec (λ c κs. search needs) (λ c. search needs) (λ c κs. search needs) (λ c. c .before .before .put-words .kept .0) returns returns-2)

@@ -54,5 +54,5 @@ put-words-spec =
     (λ c. search needs)
     (λ c. search needs)
     loop-again
-    (λ c. search needs)
+    (λ c. c .before .loop .inv .1 .0)
     returns)
