@@ -1,0 +1,61 @@
+-- What the functions for C answer, as numbers: `bindOf` and `queryOf` say what is answered, and this file how it is written. Document 01,
+-- "Where an answer is an enum, a definition gives this paper's number and values for each of its cases". Assumes nothing.
+use mathlib.Core.List.{List, [], _∷_}
+use Prim.Native.Nat.{ℕ, _+_, _*_, _^_}
+use lib.Dec.{eqb}
+use Rattle.words.specs.Choice.{pick}
+use Rattle.words.specs.Memory.{mem, tab}
+use Rattle.binder.specs.declared.Policy.{Policy}
+use Rattle.binder.specs.declared.Policy.the-variants.{Strict, Lenient}
+use Rattle.binder.specs.declared.Answer.{Answer}
+use Rattle.binder.specs.declared.Answer as answers
+use Rattle.binder.specs.declared.Reply.{Reply}
+use Rattle.binder.specs.declared.Reply as replies
+use Rattle.binder.specs.Bind.{Outcome, outcome, Replied, replied}
+
+-- a refusal: its number in the low 32 bits, its object in the high 32
+abbrev pub packed : ℕ → ℕ → ℕ
+packed number object = number + object * 2 ^ 32
+
+-- ---- bind
+
+-- 0 is lenient, any other number strict
+unfoldable pub policyOf : ℕ → Policy
+policyOf strict = pick (eqb strict 0) Lenient Strict
+
+-- 0 for bound
+abbrev pub answerNumber : Answer → ℕ
+answerNumber answers.the-variants.Bound = 0
+answerNumber (answers.the-variants.Refused number object) = packed number object
+
+-- the number, the arena and the report that a call leaves
+pub data Called : Type 0 where
+  called : (number : ℕ) (arena report : List ℕ) → Called
+
+abbrev pub calledOf : Outcome → Called
+calledOf (outcome answer arena report) = called (answerNumber answer) arena report
+
+-- ---- query
+
+-- 0 for a question that is answered
+abbrev pub replyNumber : Reply → ℕ
+replyNumber (replies.the-variants.Found object symbol address) = 0
+replyNumber replies.the-variants.Absent = 0
+replyNumber (replies.the-variants.Refused number object) = packed number object
+
+-- 1 where the name is found, then its object, its symbol and its address; else zeros
+abbrev pub replyWords : Reply → List ℕ
+replyWords (replies.the-variants.Found object symbol address) = 1 ∷ object ∷ symbol ∷ address ∷ []
+replyWords replies.the-variants.Absent = 0 ∷ 0 ∷ 0 ∷ 0 ∷ []
+replyWords (replies.the-variants.Refused number object) = 0 ∷ 0 ∷ 0 ∷ 0 ∷ []
+
+-- a slice of `size` words that has these words, then zeros; what does not fit is dropped
+unfoldable pub fitted : ℕ → List ℕ → List ℕ
+fitted size words = tab size (mem words)
+
+-- the number, the arena and the words that a call leaves
+pub data Asked : Type 0 where
+  asked : (number : ℕ) (arena words : List ℕ) → Asked
+
+abbrev pub askedOf : ℕ → Replied → Asked
+askedOf size (replied reply arena) = asked (replyNumber reply) arena (fitted size (replyWords reply))

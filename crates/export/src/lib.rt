@@ -1,0 +1,124 @@
+// The library for programs in C or Rust: `include/lugwormpin.h` describes it.
+ghost use mathlib.Core.Path.{_≡_};
+ghost use Prim.Native.Nat.{_+_, _*_, _^_};
+ghost use mathlib.Core.List.{[], _∷_};
+ghost use lib.ListN.{length};
+ghost use Rattle.words.specs.Memory.{mem};
+ghost use Rattle.binder.specs.Bind.{bindOf, queryOf};
+ghost use Rattle.export.specs.Calls.{packed, policyOf, answerNumber, replyNumber, replyWords, fitted, called, calledOf, asked, askedOf};
+use binder::Answer;
+use binder::Policy;
+use binder::Reply;
+
+// A refusal as one number: the low half is its number, the high half its object.
+fn pack(number: u32, object: u32) -> u64
+    ensures { λ r. ⌜ r ≡ packed number object ⌝ }
+{
+    number as u64 + object as u64 * 4294967296
+}
+
+// 0 is lenient, any other number strict.
+fn policy_of(strict: u32) -> Policy
+    ensures { λ r. ⌜ r ≡ policyOf strict ⌝ }
+{
+    if strict == 0 {
+        return Policy::Lenient;
+    }
+    Policy::Strict
+}
+
+fn answer_number(a: Answer) -> u64
+    ensures { λ r. ⌜ r ≡ answerNumber a ⌝ }
+{
+    match a {
+        Answer::Bound => 0,
+        Answer::Refused { number, object } => pack(number, object),
+    }
+}
+
+// The word at `i`; 0 past the end.
+fn word_at(words: &[u64], i: usize) -> u64
+    ensures { λ r. ⌜ r ≡ mem (now (words .entry)) i ⌝ }
+{
+    if i < words.len() {
+        return words[i];
+    }
+    0
+}
+
+// The words, then zeros. What does not fit is dropped.
+fn store_words(answer: &mut [u64], words: &[u64])
+    ensures { λ _. ⌜ now (answer .exit) ≡ fitted (length (now (answer .entry))) (now (words .entry)) ⌝ }
+{
+    let mut i = 0;
+    while i < answer.len() {
+        answer[i] = word_at(words, i);
+        i += 1;
+    }
+}
+
+fn store(answer: &mut [u64], found: u64, object: u64, symbol: u64, address: u64)
+    ensures { λ _. ⌜ now (answer .exit) ≡ fitted (length (now (answer .entry))) (found ∷ object ∷ symbol ∷ address ∷ []) ⌝ }
+{
+    let words = [found, object, symbol, address];
+    store_words(answer, &words);
+}
+
+// The words of a reply, and its refusal.
+fn store_reply(answer: &mut [u64], reply: Reply) -> u64
+    ensures { λ r. ⌜ r ≡ replyNumber reply ⌝ }
+    ensures { λ _. ⌜ now (answer .exit) ≡ fitted (length (now (answer .entry))) (replyWords reply) ⌝ }
+{
+    match reply {
+        Reply::Found {
+            object,
+            symbol,
+            address,
+        } => {
+            store(answer, 1, object as u64, symbol as u64, address);
+            0
+        }
+        Reply::Absent => {
+            store(answer, 0, 0, 0, 0);
+            0
+        }
+        Reply::Refused { number, object } => {
+            store(answer, 0, 0, 0, 0);
+            pack(number, object)
+        }
+    }
+}
+
+// Binds the set of a sheet and its bytes in the arena at `address`: 0 where it is bound, else the refusal.
+#[no_mangle]
+pub extern "C" fn lugwormpin_bind(
+    sheet: &[u32],
+    bytes: &[u8],
+    arena: &mut [u8],
+    address: u64,
+    strict: u32,
+    report: &mut [u32],
+) -> u64
+    ensures { λ r. ⌜ called r (now (arena .exit)) (now (report .exit)) ≡ calledOf (bindOf (now (sheet .entry)) (now (bytes .entry)) (length (now (arena .entry))) address (policyOf strict) (length (now (report .entry)))) ⌝ }
+{
+    let policy = policy_of(strict);
+    let a = binder::bind::bind(sheet, bytes, arena, address, policy, report);
+    answer_number(a)
+}
+
+// The address of `name` for the object `requester`: 0 where the question is answered, else the refusal.
+#[no_mangle]
+pub extern "C" fn lugwormpin_query(
+    sheet: &[u32],
+    bytes: &[u8],
+    arena: &mut [u8],
+    address: u64,
+    requester: u32,
+    name: &[u8],
+    answer: &mut [u64],
+) -> u64
+    ensures { λ r. ⌜ asked r (now (arena .exit)) (now (answer .exit)) ≡ askedOf (length (now (answer .entry))) (queryOf (now (sheet .entry)) (now (bytes .entry)) (length (now (arena .entry))) address requester (now (name .entry))) ⌝ }
+{
+    let reply = binder::query::query(sheet, bytes, arena, address, requester, name);
+    store_reply(answer, reply)
+}
