@@ -1,0 +1,94 @@
+/* Lugwormpin: binds x86-64 ELF shared objects into one image. x86-64 Linux, System V calling convention.
+ *
+ * Link with libexport.a, which `rt staticlib export` writes to target/staticlib/. It needs memcpy and memset, and nothing else.
+ *
+ * Both functions:
+ * - answer every call that keeps to "What the caller owes"; what they answer is proved, for any contents of the slices, refused calls too
+ *   (crates/export/src/lib.rt, crates/export/specs/Calls.antt);
+ * - keep no pointer, allocate nothing, have no global state, and may run in several threads at once over different memory;
+ * - use about 36 KiB of stack (lugwormpin_bind) or 26 KiB (lugwormpin_query), whatever the set: the sum of the compiled frames.
+ *
+ * What the caller owes:
+ * - A slice is a pointer and a length in ELEMENTS, not in bytes. The pointer is not NULL, also where the length is 0, and is aligned for
+ *   its element type; the length is true.
+ * - No two slices of a call overlap, and no other thread writes to them during the call.
+ */
+#ifndef LUGWORMPIN_H
+#define LUGWORMPIN_H
+
+#include <stddef.h>
+#include <stdint.h>
+
+#ifdef __cplusplus
+extern "C" {
+#endif
+
+/* The answer of both functions is 0, or a refusal: its number in the low 32 bits, its object in the high 32.
+ * Objects: the host is 0, the program 1, libraries are numbered from 2 in the order of the sheet.
+ *
+ *  no.  object    refused because
+ *    1  0         the sheet: a kind that is wrong for its position, a word missing, over 62 libraries, a name of 0 or over 255 bytes, or
+ *                 lengths whose sum is not bytes_len
+ *    2  0         the address is no multiple of 4,096, the arena has over 2^28 bytes, or their sum is over 2^63
+ *    3  a library an earlier library has the same name
+ *    4  any       the file has under 64 bytes, is no ELF file, or is no shared object (e_type is not 3)
+ *    5  any       not 64 bits, not little-endian, not x86-64, or e_phentsize is not 56
+ *    6  any       over 64 program headers, or their table is not inside the file
+ *    7  any       the host's length is no multiple of 4,096. Others: no PT_LOAD has offset and address 0, it does not hold the header table,
+ *                 there are over 16 PT_LOAD, or one of them has no memory, more file than memory, bytes past the file's end, an end over
+ *                 2^28, offset and address that differ modulo 4,096, no read flag, zero fill without a write flag, or a page that another
+ *                 one has too
+ *    8  any       it ends past the arena's end
+ *    9  any       no PT_DYNAMIC, or its entries through the first of tag 0 are not inside the object
+ *   10  any       no string table or no symbol table
+ *   11  any       DT_SYMENT or DT_RELAENT is not 24, DT_PLTREL is not 7, or over 64 needed libraries
+ *   12  any       what binding reads (names of needed libraries, relocation tables, the hash table, each symbol and name that the hash table
+ *                 leads to) is not wholly in table bytes, or the hash table has no buckets, no bloom word, a shift over 31, or a bucket or
+ *                 chain that leads outside its table or does not end. Table bytes are those of the object that are in no writable
+ *                 segment; of the host, all. The host's relocation tables are not read
+ *   13  0         lugwormpin_query only: the requester is no object of the set
+ *   14  not 0     a relocation entry of type 5, 6 or 7 has a symbol index at or above the symbol count, where that is known
+ *   15  not 0     that symbol or its name is not in table bytes
+ *   16  not 0     a relocation entry of type 37 (R_X86_64_IRELATIVE)
+ *   17  not 0     what an entry writes is not inside one writable segment of its object, or a RELR bitmap has a bit set before any address
+ *   18  not 0     the bytes that a COPY entry reads are at an absolute symbol, outside the object that defines it, or overlap what it writes
+ *   19  not 0     the call is strict and an entry is undefined: the first such object in binding order
+ *   20  0         the report is too short
+ *
+ * The first refusal in this order is answered: 4 to 12 object by object, 14 to 18 entry by entry in binding order. lugwormpin_bind answers
+ * all but 13, lugwormpin_query 1 to 13. */
+#define LUGWORMPIN_NUMBER(answer) ((uint32_t)(answer))
+#define LUGWORMPIN_OBJECT(answer) ((uint32_t)((answer) >> 32))
+
+/* Binds a set.
+ *
+ * sheet, sheet_len    words of kind (top 4 bits) and length in bytes (low 28): kind 1 the host's image, kind 2 the program's file, then for
+ *                     each library kind 3, its file, and kind 4, its name
+ * bytes, bytes_len    those images, files and names, end to end, in the sheet's order
+ * arena, arena_len    written: the image. Object after object, the host at offset 0, the rest 0. What stood there before does not matter
+ * address             the address at which the arena will be mapped
+ * strict              0: lenient, undefined entries are reported. Any other number: strict, they are refused (19)
+ * report, report_len  written: for each object in binding order 0x50000000 + its number, then for its entries 0x60000000 + entry number
+ *                     (undefined) or 0x70000000 + entry number (of a type that is passed over); the rest 0
+ *
+ * Returns 0 where the set is bound, else the refusal; then arena and report are all 0. */
+uint64_t lugwormpin_bind(const uint32_t *sheet, size_t sheet_len, const uint8_t *bytes, size_t bytes_len, uint8_t *arena, size_t arena_len,
+                         uint64_t address, uint32_t strict, uint32_t *report, size_t report_len);
+
+/* The address of a name, as an object of the set would find it.
+ *
+ * sheet to address    as above. The arena is written: the placed bytes of all objects, not relocated
+ * requester           the number of the object that asks
+ * name, name_len      the bytes of the name, without a zero byte at the end
+ * answer, answer_len  written: 1, the object that defines the name, the index of its symbol there, and the address; or four times 0 where
+ *                     no object has the name. Words that do not fit are dropped, words past the fourth are 0
+ *
+ * Returns 0 where the question is answered, found or not, else the refusal; then arena and answer are all 0. */
+uint64_t lugwormpin_query(const uint32_t *sheet, size_t sheet_len, const uint8_t *bytes, size_t bytes_len, uint8_t *arena, size_t arena_len,
+                          uint64_t address, uint32_t requester, const uint8_t *name, size_t name_len, uint64_t *answer, size_t answer_len);
+
+#ifdef __cplusplus
+}
+#endif
+
+#endif

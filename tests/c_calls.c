@@ -1,0 +1,66 @@
+/* Calls both functions of include/lugwormpin.h on tests/sets/linked.set (the first argument) and prints what they leave. tests/c_calls.out
+   has the lines that are to be printed, worked out from `readelf --dyn-syms` of the set's objects and document 01. */
+#include <inttypes.h>
+#include <stdio.h>
+#include <string.h>
+
+#include "lugwormpin.h"
+
+static uint32_t input[16384], report[1024];
+static uint8_t arena[32768];
+static size_t words, bytes_len;
+static const uint8_t *bytes;
+
+static int zeros(const void *slice, size_t len)
+{
+    const uint8_t *p = slice;
+    while (len > 0 && p[len - 1] == 0)
+        len--;
+    return len == 0;
+}
+
+static void ask(uint32_t requester, const char *name, size_t answer_len)
+{
+    uint64_t answer[8];
+    memset(answer, 0xff, sizeof answer);
+    memset(arena, 0xff, sizeof arena);
+    uint64_t r = lugwormpin_query(input + 1, words, bytes, bytes_len, arena, sizeof arena, 0x10000000, requester, (const uint8_t *)name,
+                                  strlen(name), answer, answer_len);
+    printf("%s for %" PRIu32 ": %" PRIu32 " %" PRIu32 ",", name, requester, LUGWORMPIN_NUMBER(r), LUGWORMPIN_OBJECT(r));
+    for (size_t i = 0; i < 8; i++)
+        printf(" %" PRIx64, answer[i]);
+    printf(", arena %s\n", zeros(arena, sizeof arena) ? "zeros" : "placed");
+}
+
+static void bind(uint32_t strict, size_t report_len)
+{
+    memset(arena, 0xff, sizeof arena);
+    memset(report, 0xff, sizeof report);
+    uint64_t r = lugwormpin_bind(input + 1, words, bytes, bytes_len, arena, sizeof arena, 0x10000000, strict, report, report_len);
+    printf("bind: %" PRIu32 " %" PRIu32 ", arena %s, report %s, next word %" PRIx32 "\n", LUGWORMPIN_NUMBER(r), LUGWORMPIN_OBJECT(r),
+           zeros(arena, sizeof arena) ? "zeros" : "bound", zeros(report, report_len * 4) ? "zeros" : "words", report[report_len]);
+}
+
+int main(int argc, char **argv)
+{
+    FILE *file = argc == 2 ? fopen(argv[1], "rb") : NULL;
+    if (file == NULL)
+        return 2;
+    size_t size = fread(input, 1, sizeof input, file);
+    fclose(file);
+    words = input[0];
+    bytes = (const uint8_t *)(input + 1 + words);
+    bytes_len = size - 4 - 4 * words;
+    ask(1, "a_call", 4);
+    ask(3, "shared_var", 6);
+    ask(0, "only_b", 2);
+    ask(2, "no_such_name", 4);
+    ask(4, "a_call", 4);
+    bind(0, 6);
+    bind(0, 5);
+    bind(1, 6);
+    words -= 1;
+    ask(1, "a_call", 4);
+    bind(0, 6);
+    return 0;
+}
