@@ -1,2 +1,3 @@
--- What the proofs of several functions use.
+-- What the proofs of this crate rest on, and what is proved of its definitions.
 mod Fitted
+pub mod NumberLaws

@@ -1,7 +1,8 @@
 -- What the functions for C answer, as numbers: `bindOf` and `queryOf` say what is answered, and this file how it is written. Document 01,
 -- "Where an answer is an enum, a definition gives this paper's number and values for each of its cases". Assumes nothing.
 use mathlib.Core.List.{List, [], _∷_}
-use Prim.Native.Nat.{ℕ, _+_, _*_, _^_}
+use mathlib.Core.Path.{_≡_}
+use Prim.Native.Nat.{ℕ, _+_, _*_, _^_, _<_}
 use lib.Dec.{eqb}
 use Rattle.words.specs.Choice.{pick}
 use Rattle.words.specs.Memory.{mem, tab}
@@ -11,7 +12,7 @@ use Rattle.binder.specs.declared.Answer.{Answer}
 use Rattle.binder.specs.declared.Answer as answers
 use Rattle.binder.specs.declared.Reply.{Reply}
 use Rattle.binder.specs.declared.Reply as replies
-use Rattle.binder.specs.Bind.{Outcome, outcome, Replied, replied}
+use Rattle.binder.specs.Bind.{Outcome, outcome, bindOf, Replied, replied, queryOf}
 
 -- a refusal: its number in the low 32 bits, its object in the high 32
 abbrev pub packed : ℕ → ℕ → ℕ
@@ -59,3 +60,13 @@ pub data Asked : Type 0 where
 
 abbrev pub askedOf : ℕ → Replied → Asked
 askedOf size (replied reply arena) = asked (replyNumber reply) arena (fitted size (replyWords reply))
+
+-- ---- 0 tells
+
+-- no refusal has the number 0, so the number 0 says that the set is bound, or the question answered
+abbrev pub ZeroTells : Type 0
+ZeroTells =
+    ((sheet bytes : List ℕ) (size address : ℕ) (policy : Policy) (words number object : ℕ) (arena report : List ℕ)
+    → bindOf sheet bytes size address policy words ≡ outcome (answers.the-variants.Refused number object) arena report → 0 < number)
+    × ((sheet bytes : List ℕ) (size address requester : ℕ) (name : List ℕ) (number object : ℕ) (arena : List ℕ)
+    → queryOf sheet bytes size address requester name ≡ replied (replies.the-variants.Refused number object) arena → 0 < number)

@@ -1,6 +1,5 @@
 // The library for programs in C or Rust: `include/lugwormpin.h` describes it.
 ghost use mathlib.Core.Path.{_≡_};
-ghost use Prim.Native.Nat.{_+_, _*_, _^_};
 ghost use mathlib.Core.List.{[], _∷_};
 ghost use lib.ListN.{length};
 ghost use Rattle.words.specs.Memory.{mem};

@@ -1,0 +1,136 @@
+-- No refusal of `bind` or `query` has the number 0. Assumes nothing.
+use mathlib.Core.Path.{_≡_, refl, sym}
+use mathlib.Core.Bool.{Bool, true, false}
+use mathlib.Core.List.{List, [], _∷_}
+use Prim.Native.Nat.{ℕ, _+_, _-_, _<_}
+use native.Mathlib.Omega.{arith}
+use borrow.Author.Tests.{eqb-false}
+use lib.Dec.{eqb, leb, ltb}
+use lib.ListN.{length, getD}
+use Rattle.words.specs.Choice.{pick}
+use Rattle.model.specs.Symbols as symbols
+use Rattle.model.specs.Objects.{Objs}
+use Rattle.model.specs.Scope.{resolve}
+use Rattle.object.specs.Entries.{Word}
+use Rattle.object.specs.Record.{Record}
+use Rattle.object.specs.Loaded.{objectRefusal}
+use Rattle.object.specs.Placed.{objectSpan}
+use Rattle.object.specs.declared.relocate.Rela.{Rela}
+use Rattle.sheet.specs.Sheet.{sheetOk, arenaOk, setOf, twinOf}
+use Rattle.binder.specs.declared.Policy.{Policy}
+use Rattle.binder.specs.declared.Answer as answers
+use Rattle.binder.specs.declared.Reply as replies
+use Rattle.binder.specs.Instance.{File, imageOf, recordOf, wordsOf, relasOf}
+use Rattle.binder.specs.Verdict as verdicts
+use Rattle.binder.specs.Verdict.{Verdict, passed, refused, first, verdict, noFile, loadVerdict, wordRefusal, wordsVerdict, entryRefusal, entriesVerdict, objectVerdict, orderVerdict}
+use Rattle.binder.specs.Report.{orderWords, firstUndefined}
+use Rattle.binder.specs.Bind as binding
+use Rattle.binder.specs.Bind.{filesOf, objectsOf, unless, prepareVerdict, allows, relocateVerdict, outcome, outcomeOf, replied, repliedOf, replyOf}
+use Rattle.binder.proofs.OutcomeLaws.{refused-not}
+use Rattle.export.specs.Calls.{ZeroTells}
+
+abbrev Numbered : Verdict → Type 0
+Numbered v = (n k : ℕ) → v ≡ refused n k → 0 < n
+
+passing : Numbered passed
+passing n k e = refused-not n k (sym e)
+
+either-one : (v w : Verdict) → Numbered v → Numbered w → Numbered (first v w)
+either-one passed w p q = q
+either-one (refused n k) w p q = p
+
+picked : (t : Bool) (n k : ℕ) → (t ≡ false → 0 < n) → Numbered (pick t passed (refused n k))
+picked true n k h m j e = passing m j e
+picked false n k h m j e =
+    let same : n ≡ m = cc in
+    omega (arith, h refl, same)
+
+of-number : (n k : ℕ) → Numbered (verdict n k)
+unfolding verdicts.verdict
+of-number n k = picked (eqb n 0) n k (λ (e : eqb n 0 ≡ false). let z : n ≡ 0 → ⊥ = eqb-false n 0 e in omega (arith, z))
+
+of-test : (t : Bool) (n k : ℕ) → 0 < n → Numbered (unless t n k)
+unfolding binding.unless
+of-test t n k h = picked t n k (λ _. h)
+
+of-load : (size k off : ℕ) (fs : List File) → Numbered (loadVerdict size k off fs)
+unfolding verdicts.loadVerdict
+of-load size k off [] = passing
+of-load size k off (f ∷ fs) =
+    either-one (verdict (objectRefusal (f .host) (size - off) (f .bytes)) k) (loadVerdict size (k + 1) (off + objectSpan (f .host) (f .bytes)) fs)
+    (of-number (objectRefusal (f .host) (size - off) (f .bytes)) k) (of-load size (k + 1) (off + objectSpan (f .host) (f .bytes)) fs)
+
+of-words : (k : ℕ) (r : Record) (ws : List Word) → Numbered (wordsVerdict k r ws)
+unfolding verdicts.wordsVerdict
+of-words k r [] = passing
+of-words k r (w ∷ ws) =
+    either-one (verdict (wordRefusal r w) k) (wordsVerdict k r ws) (of-number (wordRefusal r w) k) (of-words k r ws)
+
+of-entries : (S : Objs) (k : ℕ) (image : List ℕ) (r : Record) (es : List Rela) → Numbered (entriesVerdict S k image r es)
+unfolding verdicts.entriesVerdict
+of-entries S k image r [] = passing
+of-entries S k image r (e ∷ es) =
+    either-one (verdict (entryRefusal S k image r e) k) (entriesVerdict S k image r es) (of-number (entryRefusal S k image r e) k) (of-entries S k image r es)
+
+of-object : (S : Objs) (k : ℕ) (f : File) → Numbered (objectVerdict S k f)
+unfolding verdicts.objectVerdict
+of-object S k f =
+    either-one (wordsVerdict k (recordOf f) (wordsOf (imageOf f) (recordOf f))) (entriesVerdict S k (imageOf f) (recordOf f) (relasOf (imageOf f) (recordOf f)))
+    (of-words k (recordOf f) (wordsOf (imageOf f) (recordOf f))) (of-entries S k (imageOf f) (recordOf f) (relasOf (imageOf f) (recordOf f)))
+
+of-order : (S : Objs) (files : List File) (ks : List ℕ) → Numbered (orderVerdict S files ks)
+unfolding verdicts.orderVerdict
+of-order S files [] = passing
+of-order S files (k ∷ ks) =
+    either-one (objectVerdict S k (getD files k noFile)) (orderVerdict S files ks) (of-object S k (getD files k noFile)) (of-order S files ks)
+
+of-relocate : (S : Objs) (files : List File) (order : List ℕ) (policy : Policy) (words : ℕ) → Numbered (relocateVerdict S files order policy words)
+unfolding binding.relocateVerdict
+of-relocate S files order policy words =
+    let u = firstUndefined S files order in
+    let room = leb (length (orderWords S files order)) words in
+    either-one (orderVerdict S files order) (first (unless (allows policy u) 19 u) (unless room 20 0)) (of-order S files order)
+    (either-one (unless (allows policy u) 19 u) (unless room 20 0) (of-test (allows policy u) 19 u (omega arith)) (of-test room 20 0 (omega arith)))
+
+of-prepare : (sheet bytes : List ℕ) (size address : ℕ) → Numbered (prepareVerdict sheet bytes size address)
+unfolding binding.prepareVerdict
+of-prepare sheet bytes size address =
+    let one = sheetOk sheet (length bytes) in
+    let two = arenaOk size address in
+    let twin = twinOf (setOf sheet bytes) in
+    let loaded = loadVerdict size 0 0 (filesOf (setOf sheet bytes)) in
+    either-one (unless one 1 0) (first (unless two 2 0) (first (unless (eqb twin 0) 3 twin) loaded)) (of-test one 1 0 (omega arith))
+    (either-one (unless two 2 0) (first (unless (eqb twin 0) 3 twin) loaded) (of-test two 2 0 (omega arith))
+    (either-one (unless (eqb twin 0) 3 twin) loaded (of-test (eqb twin 0) 3 twin (omega arith)) (of-load size 0 0 (filesOf (setOf sheet bytes)))))
+
+-- ---- the answers
+
+of-outcome :
+    (size words : ℕ) (v : Verdict) (a r arena report : List ℕ) (n k : ℕ) → Numbered v
+    → outcomeOf size words v a r ≡ outcome (answers.the-variants.Refused n k) arena report → 0 < n
+unfolding binding.outcomeOf
+of-outcome size words passed a r arena report n k h e = let z : _≡_ {A = ℕ} 0 1 = cc in absurd (omega arith)
+of-outcome size words (refused m j) a r arena report n k h e = h n k cc
+
+not-refused : {P : Type 0} (s : symbols.Answer) (a arena : List ℕ) (n k : ℕ) → replied (replyOf s) a ≡ replied (replies.the-variants.Refused n k) arena → P
+not-refused symbols.absent a arena n k e = let z : _≡_ {A = ℕ} 0 1 = cc in absurd (omega arith)
+not-refused (symbols.answer d s v) a arena n k e = let z : _≡_ {A = ℕ} 0 1 = cc in absurd (omega arith)
+
+of-replied :
+    (size : ℕ) (v : Verdict) (s : symbols.Answer) (a arena : List ℕ) (n k : ℕ) → Numbered v
+    → repliedOf size v (replyOf s) a ≡ replied (replies.the-variants.Refused n k) arena → 0 < n
+unfolding binding.repliedOf
+of-replied size passed s a arena n k h e = not-refused s a arena n k e
+of-replied size (refused m j) s a arena n k h e = h n k cc
+
+pub zero-tells : ZeroTells
+unfolding binding.bindOf binding.bindIn binding.queryOf
+zero-tells = (
+  λ sheet bytes size address policy words n k arena report e.
+      of-outcome size words _ _ _ arena report n k
+      (either-one (prepareVerdict sheet bytes size address) _ (of-prepare sheet bytes size address) (of-relocate _ _ _ policy words)) e,
+  λ sheet bytes size address requester name n k arena e.
+      of-replied size _ (resolve (objectsOf address (filesOf (setOf sheet bytes))) requester name) _ arena n k
+      (either-one (prepareVerdict sheet bytes size address) (unless (ltb requester (length (setOf sheet bytes))) 13 0) (of-prepare sheet bytes size address)
+      (of-test (ltb requester (length (setOf sheet bytes))) 13 0 (omega arith))) e,
+)
