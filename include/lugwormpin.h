@@ -69,7 +69,7 @@ extern "C" {
  * address             the address at which the arena will be mapped
  * strict              0: lenient, undefined entries are reported. Any other number: strict, they are refused (19)
  * report, report_len  written: for each object in binding order 0x50000000 + its number, then for its entries 0x60000000 + entry number
- *                     (undefined) or 0x70000000 + entry number (of a type that is passed over); the rest 0
+ *                     (undefined) or 0x70000000 + entry number (of a type that is passed over), RELA from 0, PLT following; the rest 0
  *
  * Returns 0 where the set is bound, else the refusal; then arena and report are all 0. */
 uint64_t lugwormpin_bind(const uint32_t *sheet, size_t sheet_len, const uint8_t *bytes, size_t bytes_len, uint8_t *arena, size_t arena_len,
