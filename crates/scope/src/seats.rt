@@ -120,8 +120,34 @@ fn put_words(table: &mut [u64], p: usize, w: [u64; 16])
     }
 }
 
-// The seat of object `k`.
-pub fn seat_at(table: &[u64], k: usize) -> Seat
+// The seat of object `k`, whose words are all in the table.
+fn seat_in(table: &[u64], k: usize) -> Seat
+    requires { ⌜ 16 * k + 16 ≤ length (now table) ⌝ }
+    ensures { λ r. ⌜ r ≡ seatAt (now (table .entry)) k ⌝ }
+{
+    let p = 16 * k;
+    let hash = hash_of(
+        table[p + 4],
+        table[p + 5],
+        table[p + 6],
+        table[p + 7],
+        table[p + 8],
+        table[p + 9],
+    );
+    let view = View {
+        symbols: table[p + 2] as usize,
+        strings: table[p + 3] as usize,
+        table: hash,
+    };
+    Seat {
+        offset: table[p + 0] as usize,
+        span: table[p + 1] as usize,
+        view,
+    }
+}
+
+// The same where some of its words are past the table's end.
+fn seat_past(table: &[u64], k: usize) -> Seat
     ensures { λ r. ⌜ r ≡ seatAt (now (table .entry)) k ⌝ }
 {
     let hash = hash_of(
@@ -142,6 +168,16 @@ pub fn seat_at(table: &[u64], k: usize) -> Seat
         span: word(table, k, 1) as usize,
         view,
     }
+}
+
+// The seat of object `k`.
+pub fn seat_at(table: &[u64], k: usize) -> Seat
+    ensures { λ r. ⌜ r ≡ seatAt (now (table .entry)) k ⌝ }
+{
+    if k < table.len() / 16 {
+        return seat_in(table, k);
+    }
+    seat_past(table, k)
 }
 
 // The seat of object `k` becomes `s`; a table that has no room for it stays as it is.
