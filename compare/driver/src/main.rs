@@ -1,0 +1,374 @@
+//! Reads sets from standard input, hands each to the port and to the Rust, and compares. usage: driver RUST_SIDE FILE SEED
+//! RUST_SIDE is the program with the Rust; the first set that differs goes to FILE.
+mod port;
+mod reader;
+mod shared;
+
+use std::{
+    collections::{BTreeMap, HashSet},
+    io::{Read, Write},
+    process::{Child, ChildStdin, ChildStdout, Command, Stdio},
+    time::Instant,
+};
+
+use port::{bind, query, Found, Refusal, Set};
+use shared::*;
+
+/// Queries are left out, at random, where a set has more than this many, or where they would go over more bytes than this.
+const MOST_QUERIES: usize = 1500;
+const MOST_BYTES: usize = 96 << 20;
+
+/// Random numbers (splitmix64).
+struct Random(u64);
+
+impl Random {
+    fn next(&mut self) -> u64 {
+        self.0 = self.0.wrapping_add(0x9e37_79b9_7f4a_7c15);
+        let mut z = self.0;
+        z = (z ^ z >> 30).wrapping_mul(0xbf58_476d_1ce4_e5b9);
+        z = (z ^ z >> 27).wrapping_mul(0x94d0_49bb_1331_11eb);
+        z ^ z >> 31
+    }
+    fn below(&mut self, n: usize) -> usize {
+        (self.next() % n as u64) as usize
+    }
+}
+
+/// The frames of standard input, as sets.py writes them.
+struct Frames<R: Read>(R, Vec<u8>);
+
+impl<R: Read> Frames<R> {
+    fn take(&mut self, length: usize) -> Option<Vec<u8>> {
+        let mut bytes = vec![0; length];
+        self.0.read_exact(&mut bytes).ok()?;
+        self.1.extend(&bytes);
+        Some(bytes)
+    }
+    fn word(&mut self) -> Option<usize> {
+        Some(u32::from_le_bytes(self.take(4)?.try_into().unwrap()) as usize)
+    }
+    fn long(&mut self) -> Option<u64> {
+        Some(u64::from_le_bytes(self.take(8)?.try_into().unwrap()))
+    }
+    fn next(&mut self) -> Option<Set> {
+        self.1.clear();
+        let length = self.word()?;
+        let label = String::from_utf8_lossy(&self.take(length)?).into_owned();
+        let (address, arena) = (self.long()?, self.long()? as usize);
+        let (report, strict) = (self.word()?, self.word()? != 0);
+        let (words, bytes) = (self.word()?, self.word()?);
+        let sheet = self.take(4 * words)?.chunks(4).map(|w| u32::from_le_bytes(w.try_into().unwrap())).collect();
+        Some(Set { label, address, arena, report, strict, sheet, bytes: self.take(bytes)? })
+    }
+}
+
+/// The program with the Rust, which runs beside.
+struct Rust {
+    shared: Shared,
+    input: ChildStdin,
+    output: ChildStdout,
+    _process: Child,
+}
+
+impl Rust {
+    fn start(program: &str) -> Rust {
+        unsafe {
+            let fd = port::memfd_create(c"shared".as_ptr(), 0);
+            assert!(fd >= 0 && port::ftruncate(fd, SIZE as i64) == 0, "no shared file");
+            // PROT_READ | PROT_WRITE, MAP_SHARED
+            let region = port::mmap(std::ptr::null_mut(), SIZE, 3, 1, fd, 0);
+            assert!(region as isize > 0, "the shared file cannot be mapped");
+            let mut process =
+                Command::new(program).arg(fd.to_string()).stdin(Stdio::piped()).stdout(Stdio::piped()).spawn().expect("the program with the Rust");
+            let (input, output) = (process.stdin.take().unwrap(), process.stdout.take().unwrap());
+            Rust { shared: Shared(region as *mut u8), input, output, _process: process }
+        }
+    }
+
+    /// Runs the Rust on a set, up to a stage. What it answers is in `shared`.
+    fn run(&mut self, set: &Set, queries: &[(u32, Vec<u8>)], last: u64) {
+        let s = &self.shared;
+        for (word, value) in [
+            (ADDRESS, set.address), (ARENA, set.arena as u64), (STRICT, set.strict as u64), (WORDS, set.sheet.len() as u64),
+            (BYTES, set.bytes.len() as u64), (QUERIES, queries.len() as u64), (LAST, last),
+        ] {
+            s.set(word, value);
+        }
+        for (i, word) in set.sheet.iter().enumerate() {
+            s.part_mut(AT_WORDS + 4 * i, 4).copy_from_slice(&word.to_le_bytes());
+        }
+        s.part_mut(AT_BYTES, set.bytes.len()).copy_from_slice(&set.bytes);
+        let mut at = AT_QUERIES;
+        for (requester, name) in queries {
+            s.part_mut(at, 4).copy_from_slice(&requester.to_le_bytes());
+            s.part_mut(at + 4, 4).copy_from_slice(&(name.len() as u32).to_le_bytes());
+            s.part_mut(at + 8, name.len()).copy_from_slice(name);
+            at += 8 + name.len();
+        }
+        assert!(at <= AT_ANSWERS && queries.len() <= MAX_ANSWERS);
+        self.input.write_all(b"!").unwrap();
+        self.input.flush().unwrap();
+        self.output.read_exact(&mut [0]).expect("the program with the Rust has ended");
+    }
+}
+
+#[derive(Default)]
+struct Counts {
+    outcomes: BTreeMap<String, usize>,
+    forms: BTreeMap<String, (usize, usize)>,
+    sets: usize,
+    compared: usize,
+    differ: usize,
+    names: usize,
+    copies: usize,
+    relr: usize,
+}
+
+/// What came of a set: the outcome, whether it was compared with the Rust on the common domain, and the first difference.
+struct Verdict {
+    outcome: String,
+    compared: bool,
+    difference: Option<String>,
+}
+
+fn first_difference(ours: &[u8], theirs: &[u8]) -> String {
+    match ours.iter().zip(theirs).position(|(a, b)| a != b) {
+        Some(at) => format!("at arena offset {at:#x}: {:#04x}, the Rust {:#04x}", ours[at], theirs[at]),
+        None => "in length".into(),
+    }
+}
+
+/// Names that do not occur, near to one that does: longer, shorter, and one of the same GNU hash.
+fn near(name: &[u8]) -> Vec<Vec<u8>> {
+    let mut out = vec![[name, b"x"].concat()];
+    if let Some((_, shorter)) = name.split_last() {
+        out.push(shorter.to_vec());
+    }
+    if let Some(i) = (1..name.len()).find(|&i| (34..127).contains(&name[i]) && (1..126).contains(&name[i - 1])) {
+        let mut same = name.to_vec();
+        same[i - 1] += 1;
+        same[i] -= 33;
+        out.push(same);
+    }
+    out.retain(|name| std::str::from_utf8(name).is_ok() && !name.contains(&0));
+    out
+}
+
+/// What is asked: each name of a symbol and some others, by each requester.
+fn questions(set: &Set, objects: &[reader::Object], random: &mut Random) -> Vec<(u32, Vec<u8>)> {
+    let mut occur = HashSet::new();
+    for object in objects {
+        object.names(&mut occur);
+    }
+    let mut names: Vec<Vec<u8>> = occur.into_iter().filter(|name| std::str::from_utf8(name).is_ok()).collect();
+    names.sort();
+    let mut others = vec![Vec::new(), b"no_such_name".to_vec()];
+    for _ in 0..names.len().min(3) {
+        others.extend(near(&names[random.below(names.len())]));
+    }
+    names.extend(others);
+    let mut all: Vec<(u32, Vec<u8>)> =
+        names.iter().flat_map(|name| (0..objects.len() as u32).map(move |requester| (requester, name.clone()))).collect();
+    let most = MOST_QUERIES.min(MOST_BYTES / (set.arena + set.bytes.len() + 4096)).max(40);
+    while all.len() > most {
+        all.swap_remove(random.below(all.len()));
+    }
+    all
+}
+
+fn compare(set: &Set, rust: &mut Rust, random: &mut Random, counts: &mut Counts) -> Verdict {
+    let differs = |outcome: &str, text: String| Verdict { outcome: outcome.into(), compared: false, difference: Some(text) };
+    // Arena and report are not clear when they are handed over.
+    let mut arena = vec![0xa5u8; set.arena];
+    let mut report = vec![0xa5a5_a5a5u32; set.report];
+    let bound = bind(set, &mut arena, &mut report);
+    let mut placed = vec![0x5au8; set.arena];
+    let asked = query(set, &mut placed, 1, b"");
+    if let Err(refusal) = bound {
+        if arena.iter().any(|&byte| byte != 0) || report.iter().any(|&word| word != 0) {
+            return differs("refused", format!("{refusal:?}, and arena or report are not clear"));
+        }
+    }
+    match (bound, asked) {
+        (Err(a), Err(b)) if a == b && a.0 <= 12 => {
+            if placed.iter().any(|&byte| byte != 0) {
+                return differs("refused", format!("query: {a:?}, and the arena is not clear"));
+            }
+            return Verdict { outcome: format!("refused {}", a.0), compared: false, difference: None };
+        }
+        (Ok(()), Ok(_)) => (),
+        (Err(Refusal(14..=20, _)), Ok(_)) => (),
+        _ => return differs("bind and query", format!("bind: {bound:?}, query: {asked:?}")),
+    }
+
+    let objects = reader::objects(&set.sheet, &set.bytes, &placed);
+    let names_ok = {
+        let mut at = 0;
+        set.sheet.iter().enumerate().all(|(i, word)| {
+            let size = (word & 0x0fff_ffff) as usize;
+            at += size;
+            i < 3 || i % 2 == 0 || std::str::from_utf8(&set.bytes[at - size..at]).is_ok()
+        })
+    };
+    let outside = if names_ok {
+        objects.iter().find_map(|object| object.outside(set.address))
+    } else {
+        Some("a name that is not UTF-8")
+    };
+
+    let mut other = vec![0u8; set.arena];
+    if query(set, &mut other, objects.len() as u32, b"") != Err(Refusal(13, 0)) || other.iter().any(|&byte| byte != 0) {
+        return differs("query", "a requester that is no object is not refused by 13 with a clear arena".into());
+    }
+    let questions = questions(set, &objects, random);
+    let mut answers: Vec<Option<Found>> = Vec::with_capacity(questions.len());
+    for (requester, name) in &questions {
+        match query(set, &mut other, *requester, name) {
+            Ok(answer) => answers.push(answer),
+            Err(refusal) => return differs("query", format!("{refusal:?} for requester {requester}, name {:?}", String::from_utf8_lossy(name))),
+        }
+    }
+    if other != placed {
+        return differs("query", "the placed bytes depend on the query".into());
+    }
+
+    let number = bound.err().map_or(0, |refusal| refusal.0);
+    // Of the refusals after loading the Rust has 14 and 19; it has no report, so 20 is none to it.
+    let whole = matches!(number, 0 | 14 | 19);
+    rust.run(set, &questions, if whole { RELOCATED } else { ANSWERED });
+    let difference = against_the_rust(set, &rust.shared, number, &objects, &placed, &questions, &answers, &arena, &report);
+
+    let what = if number == 0 { "bound".to_string() } else { format!("refused {number}") };
+    match outside {
+        Some(why) => {
+            let equal = if difference.is_none() { "equal" } else { "not equal" };
+            Verdict { outcome: format!("{what}, outside the common domain ({why}), the Rust {equal}"), compared: false, difference: None }
+        }
+        None => {
+            counts.names += questions.len();
+            for object in &objects {
+                let (copies, relr) = object.forms();
+                counts.copies += copies;
+                counts.relr += relr;
+            }
+            let same = match number {
+                0 => "the Rust equal",
+                14 | 19 => "the Rust's error, placed bytes and names equal",
+                _ => "placed bytes and names equal",
+            };
+            let outcome = if difference.is_some() { format!("{what}, the Rust DIFFERENT") } else { format!("{what}, {same}") };
+            Verdict { outcome, compared: true, difference }
+        }
+    }
+}
+
+#[allow(clippy::too_many_arguments)]
+fn against_the_rust(
+    set: &Set, s: &Shared, number: u32, objects: &[reader::Object], placed: &[u8], questions: &[(u32, Vec<u8>)],
+    answers: &[Option<Found>], arena: &[u8], report: &[u32],
+) -> Option<String> {
+    let (stage, result) = (s.get(STAGE), s.get(RESULT));
+    if result == NO_ARENA {
+        return Some(format!("the Rust was not run: no memory at {:#x}", set.address));
+    }
+    if stage < PLACED {
+        return Some(format!("the Rust stopped at stage {stage}, signal {}, result {result}", s.get(SIGNAL)));
+    }
+    let theirs = s.part(AT_PLACED, set.arena);
+    if theirs != placed {
+        return Some(format!("placed bytes {}", first_difference(placed, theirs)));
+    }
+    if stage < ANSWERED {
+        return Some(format!("the Rust stopped while it answered queries, signal {}", s.get(SIGNAL)));
+    }
+    for (i, (answer, (requester, name))) in answers.iter().zip(questions).enumerate() {
+        let line = s.part(AT_ANSWERS + 48 * i, 48);
+        let word = |k: usize| u64::from_le_bytes(line[8 * k..8 * k + 8].try_into().unwrap());
+        let same = match answer {
+            None => word(0) == 0,
+            Some(found) => {
+                let symbol = objects.get(found.object as usize).and_then(|object| object.symbol(found.symbol as usize));
+                word(0) == 1 && word(1) == found.object && word(2) == found.address && symbol == Some(&line[24..])
+            }
+        };
+        if !same {
+            let name = String::from_utf8_lossy(name);
+            return Some(format!("requester {requester}, name {name:?}: {answer:?}, the Rust {}, {}, {:#x}", word(0), word(1), word(2)));
+        }
+    }
+    if s.get(WRONG) != 0 {
+        return Some("the Rust's arena has pages that cannot be read".into());
+    }
+    let ended = s.get(SIGNAL) == 0 && s.get(STATUS) == 0;
+    let wanted = match number {
+        14 => OUT_OF_BOUNDS,
+        19 => UNDEFINED,
+        _ => FINE,
+    };
+    if !ended || result != wanted {
+        return Some(format!("the Rust: stage {stage}, result {result}, signal {}, status {}", s.get(SIGNAL), s.get(STATUS)));
+    }
+    if !matches!(number, 0 | 19) {
+        return None;
+    }
+    // The names that the Rust prints or returns, and those of the entries that it found undefined by its own answers.
+    let (printed, expected) = (s.part(AT_PRINTED, s.get(PRINTED) as usize), s.part(AT_EXPECTED, s.get(EXPECTED) as usize));
+    if printed != expected {
+        return Some(format!("undefined names: the Rust says {:?}, its answers {:?}", String::from_utf8_lossy(printed), String::from_utf8_lossy(expected)));
+    }
+    if number == 19 {
+        return (expected.is_empty()).then(|| "refused 19, and the Rust has no undefined names".into());
+    }
+    let words: Vec<u32> =
+        s.part(AT_REPORT, 4 * s.get(REPORT) as usize).chunks(4).map(|w| u32::from_le_bytes(w.try_into().unwrap())).collect();
+    let ours: Vec<u32> = report.iter().copied().take_while(|&word| word != 0).collect();
+    if ours != words {
+        let at = ours.iter().zip(&words).position(|(a, b)| a != b).unwrap_or(ours.len().min(words.len()));
+        return Some(format!("word {at} of the report: {:08x?}, the Rust {:08x?}", ours.get(at), words.get(at)));
+    }
+    let theirs = s.part(AT_RELOCATED, set.arena);
+    (theirs != arena).then(|| format!("relocated bytes {}", first_difference(arena, theirs)))
+}
+
+fn main() {
+    let arguments: Vec<String> = std::env::args().collect();
+    let [_, program, file, seed] = &arguments[..] else { panic!("usage: driver RUST_SIDE FILE SEED") };
+    let mut random = Random(seed.parse().expect("a number"));
+    let mut rust = Rust::start(program);
+    let mut frames = Frames(std::io::BufReader::with_capacity(1 << 20, std::io::stdin()), Vec::new());
+    let mut counts = Counts::default();
+    let (start, mut said) = (Instant::now(), 0);
+    while let Some(set) = frames.next() {
+        let verdict = compare(&set, &mut rust, &mut random, &mut counts);
+        counts.sets += 1;
+        counts.compared += verdict.compared as usize;
+        *counts.outcomes.entry(verdict.outcome).or_default() += 1;
+        let form = counts.forms.entry(set.label.split(' ').next().unwrap_or("").to_string()).or_default();
+        form.0 += 1;
+        form.1 += verdict.compared as usize;
+        if let Some(text) = verdict.difference {
+            counts.differ += 1;
+            if counts.differ <= 10 {
+                println!("{}: {text}", set.label);
+            }
+            if counts.differ == 1 {
+                std::fs::write(file, &frames.1).expect("the file for the set that differs");
+                println!("  saved to {file}; again by compare/run --replay {file}");
+            }
+        }
+        let seconds = start.elapsed().as_secs();
+        if seconds >= said + 30 {
+            said = seconds;
+            eprintln!("{seconds} s: {} sets, {} compared, {} differ", counts.sets, counts.compared, counts.differ);
+        }
+    }
+    for (form, (sets, compared)) in &counts.forms {
+        println!("{sets:8} sets {form}, {compared} compared");
+    }
+    for (outcome, count) in &counts.outcomes {
+        println!("{count:8} {outcome}");
+    }
+    println!("{} queries, {} entries of type 5 and {} words of RELR tables in what was compared", counts.names, counts.copies, counts.relr);
+    println!("{} sets, {} compared, {} differ", counts.sets, counts.compared, counts.differ);
+    std::process::exit((counts.differ != 0) as i32);
+}

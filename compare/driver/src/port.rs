@@ -1,0 +1,62 @@
+//! The archive's functions. A slice reaches C as a pointer and a length.
+use std::ffi::c_void;
+
+extern "C" {
+    fn lugwormpin_bind(
+        sheet: *const u32, sheet_length: usize, bytes: *const u8, bytes_length: usize, arena: *mut u8, arena_length: usize, address: u64,
+        strict: u32, report: *mut u32, report_length: usize,
+    ) -> u64;
+    fn lugwormpin_query(
+        sheet: *const u32, sheet_length: usize, bytes: *const u8, bytes_length: usize, arena: *mut u8, arena_length: usize, address: u64,
+        requester: u32, name: *const u8, name_length: usize, answer: *mut u64, answer_length: usize,
+    ) -> u64;
+    pub fn memfd_create(name: *const i8, flags: u32) -> i32;
+    pub fn ftruncate(fd: i32, length: i64) -> i32;
+    pub fn mmap(at: *mut c_void, length: usize, protection: i32, flags: i32, fd: i32, offset: i64) -> *mut c_void;
+}
+
+/// A refusal: number and object.
+#[derive(Clone, Copy, PartialEq, Eq, Debug)]
+pub struct Refusal(pub u32, pub u32);
+
+fn refusal(packed: u64) -> Result<(), Refusal> {
+    if packed == 0 { Ok(()) } else { Err(Refusal(packed as u32, (packed >> 32) as u32)) }
+}
+
+/// What is handed in.
+pub struct Set {
+    pub label: String,
+    pub address: u64,
+    pub arena: usize,
+    pub report: usize,
+    pub strict: bool,
+    pub sheet: Vec<u32>,
+    pub bytes: Vec<u8>,
+}
+
+#[derive(Clone, Copy, PartialEq, Eq, Debug)]
+pub struct Found {
+    pub object: u64,
+    pub symbol: u64,
+    pub address: u64,
+}
+
+pub fn bind(set: &Set, arena: &mut [u8], report: &mut [u32]) -> Result<(), Refusal> {
+    refusal(unsafe {
+        lugwormpin_bind(
+            set.sheet.as_ptr(), set.sheet.len(), set.bytes.as_ptr(), set.bytes.len(), arena.as_mut_ptr(), arena.len(), set.address,
+            set.strict as u32, report.as_mut_ptr(), report.len(),
+        )
+    })
+}
+
+pub fn query(set: &Set, arena: &mut [u8], requester: u32, name: &[u8]) -> Result<Option<Found>, Refusal> {
+    let mut answer = [0u64; 4];
+    refusal(unsafe {
+        lugwormpin_query(
+            set.sheet.as_ptr(), set.sheet.len(), set.bytes.as_ptr(), set.bytes.len(), arena.as_mut_ptr(), arena.len(), set.address,
+            requester, name.as_ptr(), name.len(), answer.as_mut_ptr(), answer.len(),
+        )
+    })?;
+    Ok((answer[0] != 0).then_some(Found { object: answer[1], symbol: answer[2], address: answer[3] }))
+}
