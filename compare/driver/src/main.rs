@@ -119,9 +119,8 @@ struct Counts {
     sets: usize,
     compared: usize,
     differ: usize,
-    names: usize,
-    copies: usize,
-    relr: usize,
+    queries: usize,
+    seen: BTreeMap<&'static str, usize>,
 }
 
 /// What came of a set: the outcome, whether it was compared with the Rust on the common domain, and the first difference.
@@ -176,6 +175,37 @@ fn questions(set: &Set, objects: &[reader::Object], random: &mut Random) -> Vec<
     all
 }
 
+fn library_names(set: &Set) -> Vec<&[u8]> {
+    let mut at = 0;
+    let parts = set.sheet.iter().map(|word| {
+        let size = (word & 0x0fff_ffff) as usize;
+        at += size;
+        &set.bytes[at - size..at]
+    });
+    parts.skip(3).step_by(2).collect()
+}
+
+/// Counts the forms that a bound set has.
+fn count_forms(objects: &[reader::Object], names: &[&[u8]], seen: &mut BTreeMap<&'static str, usize>) {
+    for object in objects {
+        object.forms(seen);
+    }
+    let old = seen.entry("most libraries of a set").or_default();
+    *old = names.len().max(*old);
+    let needs: Vec<Vec<&[u8]>> = objects[2..].iter().map(|object| object.needs()).collect();
+    *seen.entry("sets with a need that is not listed").or_default() += needs.iter().flatten().any(|need| !names.contains(need)) as usize;
+    // What is needed, in one step or more.
+    let edges: Vec<u64> = needs.iter().map(|n| names.iter().enumerate().fold(0, |sum, (k, name)| sum | (n.contains(name) as u64) << k)).collect();
+    let mut reached = edges.clone();
+    for _ in 0..names.len() {
+        for k in 0..names.len() {
+            reached[k] |= (0..names.len()).filter(|j| reached[k] >> j & 1 == 1).fold(0, |sum, j| sum | edges[j]);
+        }
+    }
+    let longer = |k: usize| reached[k] >> k & 1 == 1 && edges[k] >> k & 1 == 0;
+    *seen.entry("sets with libraries that need each other").or_default() += (0..names.len()).any(longer) as usize;
+}
+
 fn compare(set: &Set, rust: &mut Rust, random: &mut Random, counts: &mut Counts) -> Verdict {
     let differs = |outcome: &str, text: String| Verdict { outcome: outcome.into(), compared: false, difference: Some(text) };
     // Arena and report are not clear when they are handed over.
@@ -202,15 +232,8 @@ fn compare(set: &Set, rust: &mut Rust, random: &mut Random, counts: &mut Counts)
     }
 
     let objects = reader::objects(&set.sheet, &set.bytes, &placed);
-    let names_ok = {
-        let mut at = 0;
-        set.sheet.iter().enumerate().all(|(i, word)| {
-            let size = (word & 0x0fff_ffff) as usize;
-            at += size;
-            i < 3 || i % 2 == 0 || std::str::from_utf8(&set.bytes[at - size..at]).is_ok()
-        })
-    };
-    let outside = if names_ok {
+    let names = library_names(set);
+    let outside = if names.iter().all(|name| std::str::from_utf8(name).is_ok()) {
         objects.iter().find_map(|object| object.outside(set.address))
     } else {
         Some("a name that is not UTF-8")
@@ -245,12 +268,10 @@ fn compare(set: &Set, rust: &mut Rust, random: &mut Random, counts: &mut Counts)
             Verdict { outcome: format!("{what}, outside the common domain ({why}), the Rust {equal}"), compared: false, difference: None }
         }
         None => {
-            counts.names += questions.len();
-            for object in &objects {
-                let (copies, relr) = object.forms();
-                counts.copies += copies;
-                counts.relr += relr;
+            if number == 0 {
+                count_forms(&objects, &names, &mut counts.seen);
             }
+            counts.queries += questions.len();
             let same = match number {
                 0 => "the Rust equal",
                 14 | 19 => "the Rust's error, placed bytes and names equal",
@@ -306,7 +327,8 @@ fn against_the_rust(
         _ => FINE,
     };
     if !ended || result != wanted {
-        return Some(format!("the Rust: stage {stage}, result {result}, signal {}, status {}", s.get(SIGNAL), s.get(STATUS)));
+        let text = String::from_utf8_lossy(s.part(AT_PRINTED, s.get(PRINTED).min(300) as usize));
+        return Some(format!("the Rust: stage {stage}, result {result}, signal {}, status {}: {text}", s.get(SIGNAL), s.get(STATUS)));
     }
     if !matches!(number, 0 | 19) {
         return None;
@@ -368,7 +390,11 @@ fn main() {
     for (outcome, count) in &counts.outcomes {
         println!("{count:8} {outcome}");
     }
-    println!("{} queries, {} entries of type 5 and {} words of RELR tables in what was compared", counts.names, counts.copies, counts.relr);
+    println!("In the bound sets that were compared:");
+    for (what, count) in &counts.seen {
+        println!("{count:8} {what}");
+    }
+    println!("{:8} queries were compared, those of refused sets among them.", counts.queries);
     println!("{} sets, {} compared, {} differ", counts.sets, counts.compared, counts.differ);
     std::process::exit((counts.differ != 0) as i32);
 }

@@ -1,5 +1,5 @@
 //! Reads the objects of a set that the port has placed: which names occur, and whether the set is in document 01's common domain.
-use std::collections::{BTreeSet, HashSet};
+use std::collections::{BTreeMap, BTreeSet, HashSet};
 
 const GNU: u64 = 0x6fff_fef5;
 /// The dynamic tags whose value is a pointer.
@@ -18,6 +18,7 @@ pub struct Object<'a> {
     image: &'a [u8],
     host: bool,
     dynamic: usize,
+    segments: usize,
     tags: Vec<(u64, u64)>,
     strings: usize,
     pub symbols: usize,
@@ -45,14 +46,15 @@ pub fn objects<'a>(sheet: &[u32], bytes: &[u8], arena: &'a [u8]) -> Vec<Object<'
         let end = heads.iter().filter(|&&h| number(file, h, 4) == 1).map(|&h| number(file, h + 16, 8) + number(file, h + 40, 8)).max();
         let span = if i == 0 { size } else { end.unwrap_or(0).div_ceil(4096) as usize * 4096 };
         let dynamic = heads.iter().rev().find(|&&h| number(file, h, 4) == 2).map_or(0, |&h| number(file, h + 16, 8) as usize);
-        out.push(Object::new(offset, &arena[offset..offset + span], i == 0, dynamic));
+        let segments = heads.iter().filter(|&&h| number(file, h, 4) == 1).count();
+        out.push(Object::new(offset, &arena[offset..offset + span], i == 0, dynamic, segments));
         offset += span;
     }
     out
 }
 
 impl<'a> Object<'a> {
-    fn new(offset: usize, image: &'a [u8], host: bool, dynamic: usize) -> Self {
+    fn new(offset: usize, image: &'a [u8], host: bool, dynamic: usize, segments: usize) -> Self {
         let mut tags = Vec::new();
         let mut at = dynamic;
         while at + 16 <= image.len() && number(image, at, 8) != 0 {
@@ -66,7 +68,7 @@ impl<'a> Object<'a> {
             (None, Some(first)) => Hash::SysV(first.1 as usize),
             _ => Hash::None,
         };
-        let mut object = Object { offset, image, host, dynamic, tags, strings, symbols, count: None, hash };
+        let mut object = Object { offset, image, host, dynamic, segments, tags, strings, symbols, count: None, hash };
         object.count = if strings > symbols {
             Some((strings - symbols) / 24)
         } else {
@@ -143,11 +145,64 @@ impl<'a> Object<'a> {
         out
     }
 
-    /// How many entries have type 5, and how many words the RELR table has.
-    pub fn forms(&self) -> (usize, usize) {
-        let copies = self.entries().iter().filter(|&&at| self.u32(at + 8) == 5).count();
-        let relr = if self.host || self.last(36).is_none() { 0 } else { self.last(35).unwrap_or(0) / 8 };
-        (copies, relr)
+    /// How many words the RELR table has.
+    fn relr_words(&self) -> usize {
+        if self.host || self.last(36).is_none() { 0 } else { self.last(35).unwrap_or(0) / 8 }
+    }
+
+    /// The names of what it needs.
+    pub fn needs(&self) -> Vec<&'a [u8]> {
+        self.tags.iter().filter(|t| t.0 == 1).filter_map(|t| self.name(t.1)).collect()
+    }
+
+    /// Counts the forms that the object has.
+    pub fn forms(&self, seen: &mut BTreeMap<&'static str, usize>) {
+        let mut count = |what: &'static str, n: usize| *seen.entry(what).or_default() += n;
+        count(
+            match (self.last(GNU).is_some(), self.last(4).is_some()) {
+                (true, true) => "objects with a GNU and a SysV table",
+                (true, false) => "objects with a GNU table",
+                (false, true) => "objects with a SysV table",
+                _ => "objects with no hash table",
+            },
+            1,
+        );
+        count(
+            match (self.strings > self.symbols, &self.hash, self.count) {
+                (_, _, None) => "symbol counts unknown",
+                (true, ..) => "symbol counts by the string table",
+                (_, Hash::SysV(_), _) => "symbol counts by a SysV table",
+                _ => "symbol counts by a GNU table",
+            },
+            1,
+        );
+        for at in self.entries() {
+            let kind = self.u32(at + 8);
+            count(
+                match kind {
+                    5 => "entries of type 5",
+                    6 | 7 => "entries of type 6 or 7",
+                    8 => "entries of type 8",
+                    _ => "entries of other types",
+                },
+                1,
+            );
+            count("entries of type 5, 6 or 7 with symbol 0", ([5, 6, 7].contains(&kind) && self.u32(at + 12) == 0) as usize);
+        }
+        count("RELR words", self.relr_words());
+        for symbol in self.walked().iter().filter_map(|&s| self.symbol(s as usize)) {
+            count("hashed symbols, weak", (symbol[4] >> 4 == 2) as usize);
+            count("hashed symbols, hidden or internal", [1, 2].contains(&(symbol[5] & 3)) as usize);
+            count("hashed symbols, protected", (symbol[5] & 3 == 3) as usize);
+            count("hashed symbols, absolute", (number(symbol, 6, 2) == 0xfff1) as usize);
+            count("hashed symbols, undefined", (number(symbol, 6, 2) == 0) as usize);
+        }
+        let mut most = |what: &'static str, n: usize| {
+            let old = seen.entry(what).or_default();
+            *old = n.max(*old);
+        };
+        most("most segments of an object", self.segments);
+        most("most needs of an object", self.tags.iter().filter(|t| t.0 == 1).count());
     }
 
     /// Adds the names of all symbols.
@@ -182,26 +237,27 @@ impl<'a> Object<'a> {
                 return Some("a path that is not read here");
             }
         }
-        let words = self.forms().1;
+        let words = self.relr_words();
         let relr = self.last(36).unwrap_or(0);
         if (0..words).map(|i| self.u64(relr + 8 * i)).any(|w| w % 2 == 0 && w % 8 != 0) {
             return Some("a RELR word that is not aligned");
         }
-        let mut names: Vec<Option<&[u8]>> = self.tags.iter().filter(|t| t.0 == 1).map(|t| self.name(t.1)).collect();
-        let mut read = self.walked();
+        let mut names = self.needs();
+        let walked = self.walked();
+        let mut read = walked.clone();
         read.extend(self.entries().iter().filter(|&&at| [5, 6, 7].contains(&self.u32(at + 8))).map(|&at| self.u32(at + 12)));
         for s in read {
             // An index that is refused by 14 or 15 is not followed.
-            if self.count.is_some_and(|count| s as usize >= count) && !self.walked().contains(&s) {
+            if self.count.is_some_and(|count| s as usize >= count) && !walked.contains(&s) {
                 continue;
             }
             if let Some(symbol) = self.symbol(s as usize) {
                 if base.checked_add(number(symbol, 8, 8)).is_none() {
                     return Some("a symbol's value past 2^64");
                 }
-                names.push(self.name(number(symbol, 0, 4)));
+                names.extend(self.name(number(symbol, 0, 4)));
             }
         }
-        names.iter().flatten().any(|name| std::str::from_utf8(name).is_err()).then_some("a name that is not UTF-8")
+        names.iter().any(|name| std::str::from_utf8(name).is_err()).then_some("a name that is not UTF-8")
     }
 }
