@@ -19,6 +19,9 @@ extern "C" {
 #[derive(Clone, Copy, PartialEq, Eq, Debug)]
 pub struct Refusal(pub u32, pub u32);
 
+/// Stands for an answer whose words are not as the header says.
+const WRONG_WORDS: Refusal = Refusal(u32::MAX, u32::MAX);
+
 fn refusal(packed: u64) -> Result<(), Refusal> {
     if packed == 0 { Ok(()) } else { Err(Refusal(packed as u32, (packed >> 32) as u32)) }
 }
@@ -51,12 +54,22 @@ pub fn bind(set: &Set, arena: &mut [u8], report: &mut [u32]) -> Result<(), Refus
 }
 
 pub fn query(set: &Set, arena: &mut [u8], requester: u32, name: &[u8]) -> Result<Option<Found>, Refusal> {
-    let mut answer = [0u64; 4];
-    refusal(unsafe {
+    let mut answer = [u64::MAX; 5];
+    let result = refusal(unsafe {
         lugwormpin_query(
             set.sheet.as_ptr(), set.sheet.len(), set.bytes.as_ptr(), set.bytes.len(), arena.as_mut_ptr(), arena.len(), set.address,
             requester, name.as_ptr(), name.len(), answer.as_mut_ptr(), answer.len(),
         )
-    })?;
-    Ok((answer[0] != 0).then_some(Found { object: answer[1], symbol: answer[2], address: answer[3] }))
+    });
+    // Absence and refusals clear the words of the answer.
+    let kept = match answer {
+        [0, 0, 0, 0, 0] => true,
+        [1, _, _, _, 0] => result.is_ok(),
+        _ => false,
+    };
+    if !kept {
+        return Err(WRONG_WORDS);
+    }
+    result?;
+    Ok((answer[0] == 1).then_some(Found { object: answer[1], symbol: answer[2], address: answer[3] }))
 }
