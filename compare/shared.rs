@@ -22,6 +22,9 @@ pub const PRINTED: usize = 21;
 pub const SIGNAL: usize = 22;
 pub const STATUS: usize = 23;
 pub const WRONG: usize = 24;
+/// Entries of type 5 whose source is smaller than, as large as, or larger than the destination: three words.
+pub const COPIES: usize = 25;
+pub const ANSWER_END: usize = 28;
 
 /// Stages. While objects are loaded, the stage is LOADING plus the object's number.
 pub const LOADING: u64 = 100;

@@ -270,6 +270,9 @@ fn compare(set: &Set, rust: &mut Rust, random: &mut Random, counts: &mut Counts)
         None => {
             if number == 0 {
                 count_forms(&objects, &names, &mut counts.seen);
+                for (i, what) in ["COPY of a smaller source", "COPY of a source of equal size", "COPY of a larger source"].into_iter().enumerate() {
+                    *counts.seen.entry(what).or_default() += rust.shared.get(COPIES + i) as usize;
+                }
             }
             counts.queries += questions.len();
             let same = match number {

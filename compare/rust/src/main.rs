@@ -72,7 +72,7 @@ fn main() {
         while input.read(&mut byte).unwrap() == 1 {
             printed.set_len(0).unwrap();
             printed.rewind().unwrap();
-            for word in STAGE..=WRONG {
+            for word in STAGE..ANSWER_END {
                 shared.set(word, 0);
             }
             let process = fork();
@@ -262,7 +262,12 @@ unsafe fn child(shared: &Shared) {
                         let Ok(symbol) = fields.checked_symbol(rela.r_sym() as usize) else { break 'objects };
                         let name = fields.string_table.get(symbol.st_name as usize);
                         let found = if rela.r_type() == 5 {
-                            graph.resolve_symbol_outside_program(name).is_some()
+                            let source = graph.resolve_symbol_outside_program(name);
+                            if let Some((source, _)) = &source {
+                                let way = COPIES + (source.st_size.cmp(&symbol.st_size) as isize + 1) as usize;
+                                shared.set(way, shared.get(way) + 1);
+                            }
+                            source.is_some()
                         } else {
                             graph.resolve_symbol_address(name, one.object).is_some()
                         };
