@@ -78,8 +78,9 @@ impl Rust {
             // PROT_READ | PROT_WRITE, MAP_SHARED
             let region = port::mmap(std::ptr::null_mut(), SIZE, 3, 1, fd, 0);
             assert!(region as isize > 0, "the shared file cannot be mapped");
-            let mut process =
-                Command::new(program).arg(fd.to_string()).stdin(Stdio::piped()).stdout(Stdio::piped()).spawn().expect("the program with the Rust");
+            let mut command = Command::new(program);
+            command.arg(fd.to_string()).stdin(Stdio::piped()).stdout(Stdio::piped());
+            let mut process = command.spawn().expect("the program with the Rust");
             let (input, output) = (process.stdin.take().unwrap(), process.stdout.take().unwrap());
             Rust { shared: Shared(region as *mut u8), input, output, _process: process }
         }
@@ -195,7 +196,8 @@ fn count_forms(objects: &[reader::Object], names: &[&[u8]], seen: &mut BTreeMap<
     let needs: Vec<Vec<&[u8]>> = objects[2..].iter().map(|object| object.needs()).collect();
     *seen.entry("sets with a need that is not listed").or_default() += needs.iter().flatten().any(|need| !names.contains(need)) as usize;
     // What is needed, in one step or more.
-    let edges: Vec<u64> = needs.iter().map(|n| names.iter().enumerate().fold(0, |sum, (k, name)| sum | (n.contains(name) as u64) << k)).collect();
+    let listed = |needs: &Vec<&[u8]>| names.iter().enumerate().fold(0, |sum, (k, name)| sum | (needs.contains(name) as u64) << k);
+    let edges: Vec<u64> = needs.iter().map(listed).collect();
     let mut reached = edges.clone();
     for _ in 0..names.len() {
         for k in 0..names.len() {
@@ -248,7 +250,10 @@ fn compare(set: &Set, rust: &mut Rust, random: &mut Random, counts: &mut Counts)
     for (requester, name) in &questions {
         match query(set, &mut other, *requester, name) {
             Ok(answer) => answers.push(answer),
-            Err(refusal) => return differs("query", format!("{refusal:?} for requester {requester}, name {:?}", String::from_utf8_lossy(name))),
+            Err(refusal) => {
+                let name = String::from_utf8_lossy(name);
+                return differs("query", format!("{refusal:?} for requester {requester}, name {name:?}"));
+            }
         }
     }
     if other != placed {
@@ -270,7 +275,8 @@ fn compare(set: &Set, rust: &mut Rust, random: &mut Random, counts: &mut Counts)
         None => {
             if number == 0 {
                 count_forms(&objects, &names, &mut counts.seen);
-                for (i, what) in ["COPY of a smaller source", "COPY of a source of equal size", "COPY of a larger source"].into_iter().enumerate() {
+                let copies = ["COPY of a smaller source", "COPY of a source of equal size", "COPY of a larger source"];
+                for (i, what) in copies.into_iter().enumerate() {
                     *counts.seen.entry(what).or_default() += rust.shared.get(COPIES + i) as usize;
                 }
             }
@@ -339,7 +345,8 @@ fn against_the_rust(
     // The names that the Rust prints or returns, and those of the entries that it found undefined by its own answers.
     let (printed, expected) = (s.part(AT_PRINTED, s.get(PRINTED) as usize), s.part(AT_EXPECTED, s.get(EXPECTED) as usize));
     if printed != expected {
-        return Some(format!("undefined names: the Rust says {:?}, its answers {:?}", String::from_utf8_lossy(printed), String::from_utf8_lossy(expected)));
+        let (printed, expected) = (String::from_utf8_lossy(printed), String::from_utf8_lossy(expected));
+        return Some(format!("undefined names: the Rust says {printed:?}, its answers {expected:?}"));
     }
     if number == 19 {
         return (expected.is_empty()).then(|| "refused 19, and the Rust has no undefined names".into());
