@@ -358,6 +358,9 @@ fn against_the_rust(
         let at = ours.iter().zip(&words).position(|(a, b)| a != b).unwrap_or(ours.len().min(words.len()));
         return Some(format!("word {at} of the report: {:08x?}, the Rust {:08x?}", ours.get(at), words.get(at)));
     }
+    if report[ours.len()..].iter().any(|&word| word != 0) {
+        return Some("a word of the report after the first 0".into());
+    }
     let theirs = s.part(AT_RELOCATED, set.arena);
     (theirs != arena).then(|| format!("relocated bytes {}", first_difference(arena, theirs)))
 }
