@@ -1,6 +1,6 @@
--- One turn of the runs of specs/Relocating.antt: over the entries of a table, and over the objects of an order; and what an object's turn
--- comes to once its record is read again. Assumes nothing.
-use mathlib.Core.Bool.{false}
+-- One turn of the runs of specs/Relocating.antt: over the entries of a table, and over the objects of an order; the ways out of a symbol's entry
+-- and of an object; and what an object's turn comes to once its record is read again. Assumes nothing.
+use mathlib.Core.Bool.{Bool, true, false}
 use mathlib.Core.List.{List}
 use mathlib.Core.Path.{_≡_, sym, _∙_}
 use Prim.Native.Nat.{ℕ, suc, _+_, _-_, _%_, _^_, _≤_, _<_}
@@ -12,7 +12,12 @@ use lib.Seq.{drop-cons, getD-take}
 use Rattle.object.specs.LoadTable.{Loaded, segmentsIn}
 use Rattle.object.specs.ProgramHeader.{loadsOf, dynamicOf}
 use Rattle.object.specs.Entries.{relaAt, actionOf}
-use Rattle.object.specs.Record.{Record, ReadBy, heldBy}
+use Rattle.object.specs.TableBytes.{inWritable}
+use Rattle.object.specs.Record.{Record, ReadBy, heldBy, checkedSymbol, nameOf}
+use Rattle.object.specs.declared.program_header.Segment.{Segment}
+use Rattle.object.specs.declared.symbol.Symbol.{Symbol}
+use Rattle.object.specs.declared.dynamic_fields.CheckedSymbol.{CheckedSymbol}
+use Rattle.object.specs.declared.dynamic_fields.CheckedSymbol.the-variants.{Refused, Checked}
 use Rattle.object.specs.declared.program_header.Dynamic.{Dynamic}
 use Rattle.object.specs.declared.program_header.Loads.{Loads}
 use Rattle.object.specs.declared.dynamic_fields.Read.{Read}
@@ -20,8 +25,37 @@ use Rattle.object.specs.declared.relocate.Rela.{Rela}
 use Rattle.object.specs.declared.relocate.Action.{Action}
 use Rattle.sheet.specs.Sheet.{Input, noInput}
 use Rattle.binder.specs.declared.report.Progress.{Progress}
+use Rattle.binder.specs.declared.scope.Scoped.{Scoped}
 use Rattle.binder.specs.declared.turn.Turn.{Turn}
-use Rattle.binder.specs.Relocating.{Left, left, unlessRefused, refusedBy, imageIn, turnOf, againRefusal, againRecord, runAction, runTable, runObject, runAt, runOrder}
+use Rattle.binder.specs.Relocating.{Left, left, noted, summed, unlessRefused, refusedBy, imageIn, turnOf, againRefusal, againRecord, symbolRefusal, soughtFor, soughtForCopy, foundOf, copyOf, symbolicOf, copyingOf, runAction, runTable, far, cutTo32, reportSum, noteOf, addRelrs, runTables, runObject, runAt, runOrder}
+
+-- ---- the entries of a symbol
+
+module _ (address : ℕ) (table : List ℕ) (count : ℕ) (t : Turn) (r : Record) (e : Rela) (i : ℕ) (p : Progress) (a report : List ℕ) {x : CheckedSymbol}
+    (hx : x ≡ checkedSymbol (imageIn a t) r (e .symbol)) where
+  module _ {n z : ℕ} {q : Progress} (hn : x ≡ Refused n) (hz : z ≡ symbolRefusal x) (hq : q ≡ refusedBy t z p) where
+    pub symbolic-refused : left q a report ≡ symbolicOf address table count t r e i (checkedSymbol (imageIn a t) r (e .symbol)) p a report
+    unfolding symbolicOf
+    symbolic-refused = rw (hq, hz, ← hx, hn)
+
+    pub copying-refused : left q a report ≡ copyingOf address table count t r e i (checkedSymbol (imageIn a t) r (e .symbol)) p a report
+    unfolding copyingOf
+    copying-refused = rw (hq, hz, ← hx, hn)
+
+  module _ {y : Symbol} {segments : List Segment} (hy : x ≡ Checked y) (hs : segments ≡ r .segments) where
+    -- the word is not inside a writable segment
+    pub symbolic-outside : {q : Progress} {b : Bool} → b ≡ inWritable segments (e .place) 8 → b ≡ false → q ≡ refusedBy t 17 p → left q a report ≡ symbolicOf address table count t r e i (checkedSymbol (imageIn a t) r (e .symbol)) p a report
+    unfolding symbolicOf
+    symbolic-outside hb f hq = rw (hq, ← hx, hy, ← hs, ← hb, f)
+
+    -- it is
+    pub symbolic-inside : {b : Bool} {s : Scoped} {out : Left} → b ≡ inWritable segments (e .place) 8 → b ≡ true → s ≡ soughtFor address table count t a (nameOf (imageIn a t) r y) → out ≡ foundOf t e i y s p a report → out ≡ symbolicOf address table count t r e i (checkedSymbol (imageIn a t) r (e .symbol)) p a report
+    unfolding symbolicOf
+    symbolic-inside hb f hf run = rw (← hx, hy, ← hs, ← hb, f, ← hf) run
+
+    pub copying-sought : {s : Scoped} {out : Left} → s ≡ soughtForCopy address table count a (nameOf (imageIn a t) r y) → out ≡ copyOf table t segments e i y s p a report → out ≡ copyingOf address table count t r e i (checkedSymbol (imageIn a t) r (e .symbol)) p a report
+    unfolding copyingOf
+    copying-sought hf run = rw (← hx, hy, ← hs, ← hf) run
 
 -- ---- the entries of a table
 
@@ -52,6 +86,29 @@ module _ (address : ℕ) (table : List ℕ) (count : ℕ) (t : Turn) (r : Record
   entries-end n i h all =
       let s : n - i ≡ 0 = omega arith in
       rw s at all
+
+-- ---- an object
+
+module _ (address : ℕ) (table : List ℕ) (count : ℕ) (t : Turn) (r : Record) (p : Progress) (a report : List ℕ) {q : Progress} {b marks : List ℕ} where
+  -- RELA, then PLT
+  module _ {n : ℕ} (hn : n ≡ cutTo32 (r .relas)) (run : left q b marks ≡ runTable address table count t r (r .rela) 0 n 0 (left p a report)) where
+    pub tables-stop : (q .refusal ≡ 0 → ⊥) → left q b marks ≡ runTables address table count t r (left p a report)
+    unfolding runTables
+    tables-stop h = rw (← hn, ← run, ne-eqb _ _ h)
+
+    pub tables-go : {m : ℕ} {out : Left} → q .refusal ≡ 0 → m ≡ cutTo32 (r .plts) → out ≡ runTable address table count t r (r .plt) n m 0 (left q b marks) → out ≡ runTables address table count t r (left p a report)
+    unfolding runTables
+    tables-go h hm next = rw (← hn, ← run, eq-eqb _ _ h, ← hm) next
+
+  -- the report word and RELR, then the tables
+  module _ {w z : ℕ} (hw : w ≡ reportSum 5 (t .number)) (hq : noted q marks ≡ noteOf w p report) (hz : summed z b ≡ addRelrs t r (cutTo32 (r .relrs)) 0 far a) where
+    pub relr-stops : {q′ : Progress} → (z ≡ 0 → ⊥) → q′ ≡ refusedBy t z q → left q′ b marks ≡ runObject address table count t r p a report
+    unfolding runObject
+    relr-stops h hr = rw (hr, ← hw, ← hq, ← hz, ne-eqb _ _ h)
+
+    pub relr-goes : {out : Left} → z ≡ 0 → out ≡ runTables address table count t r (left q b marks) → out ≡ runObject address table count t r p a report
+    unfolding runObject
+    relr-goes h next = rw (← hw, ← hq, ← hz, eq-eqb _ _ h) next
 
 -- ---- the objects of an order
 

@@ -1,20 +1,21 @@
 -- `binder::relocate::run_object` meets its contract. Assumes nothing.
 use mathlib.Core.Path.{_∙_}
-use borrow.Author.Tests.{eq-eqb, ne-eqb}
-use Rattle.binder.specs.Relocating.{runObject}
+use denote.Ref.{now}
+use Rattle.object.specs.Record.{heldBy}
+use Rattle.binder.proofs.RunLaws.{relr-stops, relr-goes}
 use borrow.Author.Needs.{needs}
 use Rattle.binder.proofs.relocate.run_object.Statement.{statement}
 use Rattle.binder.proofs.relocate.run_object.Tie as tie
 
 returns : tie.Need-returns
-unfolding runObject
 returns c =
-    rw (c .refused .ensures, ← c .before .before .before .before .before .before .before .before .before .wrapping-add-u32 .ensures, ← c .before .before .before .before .before .before .before .before .note .ensures, ← c .before .before .before .before .add-relrs .ensures, ne-eqb _ _ (c .before .if1 .taken))
+    let a = c .before .before .before .before .before .before .before .before .before .before .before .before .before .before .args in
+    relr-stops (a .address) (now (a .table)) (a .count) (a .t) (heldBy (a .o)) (a .p) (now (a .arena)) (now (a .report)) (c .before .before .before .before .before .before .before .before .before .wrapping-add-u32 .ensures) (c .before .before .before .before .before .before .before .before .note .ensures) (c .before .before .before .before .add-relrs .ensures) (c .before .if1 .taken) (c .refused .ensures)
 
 returns-2 : tie.Need-returns-2
-unfolding runObject
 returns-2 c =
-    rw (← c .before .before .before .before .before .before .before .before .before .before .before .before .before .before .before .wrapping-add-u32 .ensures, ← c .before .before .before .before .before .before .before .before .before .before .before .before .before .before .note .ensures, ← c .before .before .before .before .before .before .before .before .before .before .add-relrs .ensures, eq-eqb _ _ (c .before .before .before .before .before .before .before .if1 .left)) (c .before .before .before .before .run-tables .ensures)
+    let a = c .before .before .before .before .before .before .before .before .before .before .before .before .before .before .before .before .before .before .before .before .args in
+    relr-goes (a .address) (now (a .table)) (a .count) (a .t) (heldBy (a .o)) (a .p) (now (a .arena)) (now (a .report)) (c .before .before .before .before .before .before .before .before .before .before .before .before .before .before .before .wrapping-add-u32 .ensures) (c .before .before .before .before .before .before .before .before .before .before .before .before .before .before .note .ensures) (c .before .before .before .before .before .before .before .before .before .before .add-relrs .ensures) (c .before .before .before .before .before .before .before .if1 .left) (c .before .before .before .before .run-tables .ensures)
 
 pub run-object-spec : {M : Type 1} → statement M
 run-object-spec =
