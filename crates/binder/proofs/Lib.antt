@@ -27,5 +27,6 @@ pub mod TableIs
 pub mod ObjectIs
 pub mod ObjectCount
 pub mod RelocatedIs
+pub mod LoopLaws
 pub mod RunLaws
 pub mod BindIs

@@ -2,6 +2,7 @@
 use Prim.Native.Nat.{_-_, _≤_}
 use mathlib.Core.Path.{_≡_}
 use native.Mathlib.Omega.{arith}
+use Rattle.binder.proofs.LoopLaws.{counts-down}
 use borrow.Author.Needs.{needs}
 use lib.ListN.{length, replicate}
 use denote.Ref.{now}
@@ -51,7 +52,7 @@ fill-needs-spec =
     (λ c κs. search needs)
     (λ c κs. search needs)
     (λ c. search needs)
-    (λ c. search needs)
+    (λ c. counts-down (c .before .before .before .before .before .before .before .before .loop-test .taken))
     loop-again
     (λ c. search needs)
     returns)

@@ -1,6 +1,7 @@
 -- `binder::prepare::load_all` meets its contract. Assumes nothing.
 use Rattle.scope.specs.declared.seats.Seat.{Seat}
 use Prim.Native.Nat.{_^_}
+use Rattle.binder.proofs.LoopLaws.{counts-down}
 use borrow.Author.Needs.{needs}
 use Rattle.binder.proofs.PrepareLaws.{Loading, load-begin, load-fail, load-turn, load-finish}
 use Rattle.binder.specs.Prepared.{LoadedAt}
@@ -66,7 +67,7 @@ add-k : tie.Need-add-k Inv-loop μ-loop
 add-k c = search needs
 
 loop-less : tie.Need-loop-less Inv-loop μ-loop
-loop-less c = search needs
+loop-less c = counts-down (c .before .before .before .before .before .before .before .before .before .before .before .before .loop-test .taken)
 
 loop-again : tie.Need-loop-again Inv-loop μ-loop
 loop-again c = (

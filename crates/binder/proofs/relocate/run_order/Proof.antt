@@ -7,6 +7,7 @@ use lib.ListN.{length, take}
 use Rattle.sheet.specs.Parts.{inputsIn}
 use Rattle.binder.specs.Relocating.{left, started, runOrder}
 use Rattle.binder.proofs.RunLaws.{objectsLeft, object-stops, object-goes, objects-end}
+use Rattle.binder.proofs.LoopLaws.{counts-down}
 use borrow.Author.Needs.{needs}
 use Rattle.binder.proofs.relocate.run_order.Statement.{statement}
 use Rattle.binder.proofs.relocate.run_order.Tie as tie
@@ -63,7 +64,7 @@ run-order-spec =
     (λ c. c .before .before .before .before .before .before .run-at .kept .1 .0 ∙ c .before .before .before .before .before .before .before .before .before .before .before .loop .inv .1)
     returns
     (λ c. search needs)
-    (λ c. search needs)
+    (λ c. counts-down (c .before .before .before .before .before .before .before .before .before .before .loop-test .taken))
     loop-again
     (λ c. c .before .loop .inv .0)
     (λ c. c .before .loop .inv .1)

@@ -8,6 +8,7 @@ use lib.ListN.{length}
 use Rattle.object.specs.Record.{heldBy}
 use Rattle.binder.specs.Relocating.{left, runTable}
 use Rattle.binder.proofs.RunLaws.{entriesLeft, entry-stops, entry-goes, entries-end}
+use Rattle.binder.proofs.LoopLaws.{counts-down}
 use borrow.Author.Needs.{needs}
 use Rattle.binder.proofs.relocate.run_table.Statement.{statement}
 use Rattle.binder.proofs.relocate.run_table.Tie as tie
@@ -65,7 +66,7 @@ run-table-spec =
     (λ c. c .before .before .before .before .before .before .run-action .kept .1 .0 ∙ c .before .before .before .before .before .before .before .before .before .before .before .before .before .before .loop .inv .1)
     returns
     add-i
-    (λ c. search needs)
+    (λ c. counts-down (c .before .before .before .before .before .before .before .before .before .before .before .before .before .loop-test .taken))
     loop-again
     (λ c. c .before .loop .inv .0)
     (λ c. c .before .loop .inv .1)

@@ -1,6 +1,7 @@
 -- `scope::scope::scan` meets its contract. The invariant: the search from object `k` on gives what the whole one gives. Assumes nothing.
 use Prim.Native.Nat.{_-_}
 use mathlib.Core.Path.{_≡_, refl}
+use Rattle.binder.proofs.LoopLaws.{counts-down}
 use borrow.Author.Needs.{needs}
 use denote.Ref.{now}
 use Rattle.scope.proofs.ScopeLaws.{rest, scan-hit, scan-miss, scan-end}
@@ -46,6 +47,6 @@ scan-spec =
     (λ c. search needs)
     returns
     (λ c. search needs)
-    (λ c. search needs)
+    (λ c. counts-down (c .before .before .before .loop-test .taken))
     loop-again
     returns-2)

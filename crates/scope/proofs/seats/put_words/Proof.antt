@@ -3,6 +3,7 @@ use Prim.Native.Nat.{_≤_, _-_}
 use mathlib.Core.Path.{_≡_, refl}
 use native.Mathlib.Omega.{arith}
 use native.Mathlib.Numerals.{add-one}
+use Rattle.binder.proofs.LoopLaws.{counts-down}
 use borrow.Author.Needs.{needs}
 use lib.Seq.{paste, paste-zero, paste-suc}
 use lib.ListN.{length, length-set}
@@ -52,7 +53,7 @@ put-words-spec =
     (λ c. search needs)
     (λ c. search needs)
     (λ c. search needs)
-    (λ c. search needs)
+    (λ c. counts-down (c .loop-test .taken))
     loop-again
     (λ c. c .before .loop .inv .1 .0)
     returns)
