@@ -25,7 +25,7 @@ use Rattle.object.specs.declared.relocate.Rela.{Rela}
 use Rattle.object.specs.declared.relocate.Action.{Action}
 use Rattle.sheet.specs.Sheet.{Input, noInput}
 use Rattle.binder.specs.declared.report.Progress.{Progress}
-use Rattle.binder.specs.declared.scope.Scoped.{Scoped}
+use Rattle.scope.specs.declared.scope.Scoped.{Scoped}
 use Rattle.binder.specs.declared.turn.Turn.{Turn}
 use Rattle.binder.specs.Relocating.{Left, left, noted, summed, unlessRefused, refusedBy, imageIn, turnOf, againRefusal, againRecord, symbolRefusal, soughtFor, soughtForCopy, foundOf, copyOf, symbolicOf, copyingOf, runAction, runTable, far, cutTo32, reportSum, noteOf, addRelrs, runTables, runObject, runAt, runOrder}
 

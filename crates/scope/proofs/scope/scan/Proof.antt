@@ -1,7 +1,6 @@
 -- `scope::scope::scan` meets its contract. The invariant: the search from object `k` on gives what the whole one gives. Assumes nothing.
 use Prim.Native.Nat.{_-_}
 use mathlib.Core.Path.{_≡_, refl}
-use Rattle.binder.proofs.LoopLaws.{counts-down}
 use borrow.Author.Needs.{needs}
 use denote.Ref.{now}
 use Rattle.scope.proofs.ScopeLaws.{rest, scan-hit, scan-miss, scan-end}
@@ -47,6 +46,6 @@ scan-spec =
     (λ c. search needs)
     returns
     (λ c. search needs)
-    (λ c. counts-down (c .before .before .before .loop-test .taken))
+    (λ c. search needs)
     loop-again
     returns-2)

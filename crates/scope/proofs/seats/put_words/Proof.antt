@@ -3,7 +3,6 @@ use Prim.Native.Nat.{_≤_, _-_}
 use mathlib.Core.Path.{_≡_, refl}
 use native.Mathlib.Omega.{arith}
 use native.Mathlib.Numerals.{add-one}
-use Rattle.binder.proofs.LoopLaws.{counts-down}
 use borrow.Author.Needs.{needs}
 use lib.Seq.{paste, paste-zero, paste-suc}
 use lib.ListN.{length, length-set}
@@ -53,7 +52,7 @@ put-words-spec =
     (λ c. search needs)
     (λ c. search needs)
     (λ c. search needs)
-    (λ c. counts-down (c .loop-test .taken))
+    (λ c. search needs)
     loop-again
     (λ c. c .before .loop .inv .1 .0)
     returns)
