@@ -5,6 +5,7 @@
 // report length (2), length of the set (4), patches (2), queries (1); then the patches, which change zeros into the set as document 01's
 // program reads it, each a place (2), a length (2) and bytes; then the queries, each a requester (4), a length (1) and a name. Before each
 // call the arena holds the input's first bytes, and before `bind` the report holds ones. The sheet has at most 130 words.
+ghost use Prim.Native.Nat.{_≤_};
 use binder::Answer;
 use binder::Policy;
 use binder::Reply;
@@ -106,6 +107,12 @@ fn stain(arena: &mut [u8], input: &[u8]) {
     words::bytes::copy(arena, 0, input, 0, n);
 }
 
+fn show_bound(a: Answer, report: &[u32], arena: &[u8]) {
+    show_answer(a);
+    show_words(report);
+    show_arena(arena);
+}
+
 fn bind_set(
     arena: &mut [u8],
     sheet: &[u32],
@@ -115,18 +122,26 @@ fn bind_set(
     report: &mut [u32],
 ) {
     let a = binder::bind::bind(sheet, bytes, arena, address, policy, report);
-    show_answer(a);
-    show_words(report);
-    show_arena(arena);
+    show_bound(a, report, arena);
+}
+
+fn policy_at(input: &[u8], at: usize) -> Policy {
+    policy_of(words::bytes::byte_at(input, at, 0))
+}
+
+// How many of 1,024 words are not for the report of the set at `at`.
+fn spare_words(input: &[u8], at: usize) -> usize
+    ensures { λ r. ⌜ r ≤ 1024 ⌝ }
+{
+    words::bytes::monus(1024, words::bytes::u16_off(input, at, 13) as usize)
 }
 
 // Binds with the policy, address and report of the set at `at`.
 fn bind_at(arena: &mut [u8], sheet: &[u32], bytes: &[u8], input: &[u8], at: usize) {
     let mut report = [0xffff_ffffu32; 1024];
-    let from = words::bytes::monus(1024, words::bytes::u16_off(input, at, 13) as usize);
-    let policy = policy_of(words::bytes::byte_at(input, at, 0));
+    let from = spare_words(input, at);
+    let policy = policy_at(input, at);
     let address = words::bytes::u64_off(input, at, 1);
-    stain(arena, input);
     bind_set(arena, sheet, bytes, address, policy, &mut report[from..]);
 }
 
@@ -143,6 +158,16 @@ fn ask_name(
     show_arena(arena);
 }
 
+fn name_at<'a>(input: &'a [u8], at: usize) -> &'a [u8] {
+    let n = words::bytes::byte_at(input, at, 4) as usize;
+    part(input, at, 5, n)
+}
+
+fn past_query(input: &[u8], at: usize) -> usize {
+    let n = words::bytes::byte_at(input, at, 4) as usize;
+    words::bytes::place(input.len(), at, 5 + n)
+}
+
 // The query at `at`; the answer is where the next one stands.
 fn ask(
     arena: &mut [u8],
@@ -153,17 +178,9 @@ fn ask(
     at: usize,
 ) -> usize {
     let requester = words::bytes::u32_off(input, at, 0);
-    let n = words::bytes::byte_at(input, at, 4) as usize;
     stain(arena, input);
-    ask_name(
-        arena,
-        sheet,
-        bytes,
-        address,
-        requester,
-        part(input, at, 5, n),
-    );
-    words::bytes::place(input.len(), at, 5 + n)
+    ask_name(arena, sheet, bytes, address, requester, name_at(input, at));
+    past_query(input, at)
 }
 
 // The queries of the set at `at`, which stand at `start`; the answer is where the next set stands.
@@ -193,6 +210,7 @@ fn both(
     at: usize,
     start: usize,
 ) -> usize {
+    stain(arena, input);
     bind_at(arena, sheet, bytes, input, at);
     asks(arena, sheet, bytes, input, at, start)
 }
@@ -260,12 +278,17 @@ fn patches(set: &mut [u8], input: &[u8], start: usize, count: u16) -> usize {
     at
 }
 
-// The set at `at`; the answer is where the next one stands.
-fn case(arena: &mut [u8], set: &mut [u8], input: &[u8], at: usize) -> usize {
+// Makes the set at `at`; the answer is where its queries stand.
+fn fill(set: &mut [u8], input: &[u8], at: usize) -> usize {
     let n = set.len();
     words::bytes::zero(set, 0, n);
     let first = words::bytes::place(input.len(), at, 22);
-    let start = patches(set, input, first, words::bytes::u16_off(input, at, 19));
+    patches(set, input, first, words::bytes::u16_off(input, at, 19))
+}
+
+// The set at `at`; the answer is where the next one stands.
+fn case(arena: &mut [u8], set: &mut [u8], input: &[u8], at: usize) -> usize {
+    let start = fill(set, input, at);
     let length = words::bytes::u32_off(input, at, 15) as usize;
     play_part(arena, part(set, 0, 0, length), input, at, start)
 }
