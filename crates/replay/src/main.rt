@@ -4,7 +4,8 @@
 // Numbers are little-endian. Input: how many sets there are (2 bytes). A set: policy (1: 0 for strict), address (8), arena length (4),
 // report length (2), length of the set (4), patches (2), queries (1); then the patches, which change zeros into the set as document 01's
 // program reads it, each a place (2), a length (2) and bytes; then the queries, each a requester (4), a length (1) and a name. Before each
-// call the arena holds the input's first bytes, and before `bind` the report holds ones. The sheet has at most 130 words.
+// call the arena holds the input's first bytes, and before `bind` each bit of the report is 1. A set has at most 65,536 bytes, its sheet at
+// most 130 words, its arena at most 262,144 bytes.
 ghost use Prim.Native.Nat.{_≤_};
 use binder::Answer;
 use binder::Policy;
