@@ -11,6 +11,9 @@ pub const BYTES: usize = 4;
 pub const QUERIES: usize = 5;
 /// How far the Rust is to go, a stage.
 pub const LAST: usize = 6;
+/// Benchmarks only: whether the set is a new one, and whether the relocated bytes are wanted.
+pub const NEW: usize = 7;
+pub const WANTED: usize = 8;
 
 /// Then the answer.
 pub const STAGE: usize = 16;
@@ -24,7 +27,9 @@ pub const STATUS: usize = 23;
 pub const WRONG: usize = 24;
 /// Entries of type 5 whose source is smaller than, as large as, or larger than the destination: three words.
 pub const COPIES: usize = 25;
-pub const ANSWER_END: usize = 28;
+/// Benchmarks only: nanoseconds of loading, of the queries, and of relocation: three words.
+pub const TIMES: usize = 28;
+pub const ANSWER_END: usize = 31;
 
 /// Stages. While objects are loaded, the stage is LOADING plus the object's number.
 pub const LOADING: u64 = 100;

@@ -3,16 +3,16 @@
 mod port;
 mod reader;
 mod shared;
+mod sides;
 
 use std::{
     collections::{BTreeMap, HashSet},
-    io::{Read, Write},
-    process::{Child, ChildStdin, ChildStdout, Command, Stdio},
     time::Instant,
 };
 
 use port::{bind, query, Found, Refusal, Set};
 use shared::*;
+use sides::{Frames, Rust};
 
 /// Queries are left out, at random, where a set has more than this many, or where they would go over more bytes than this.
 const MOST_QUERIES: usize = 1500;
@@ -31,85 +31,6 @@ impl Random {
     }
     fn below(&mut self, n: usize) -> usize {
         (self.next() % n as u64) as usize
-    }
-}
-
-/// The frames of standard input, as sets.py writes them.
-struct Frames<R: Read>(R, Vec<u8>);
-
-impl<R: Read> Frames<R> {
-    fn take(&mut self, length: usize) -> Option<Vec<u8>> {
-        let mut bytes = vec![0; length];
-        self.0.read_exact(&mut bytes).ok()?;
-        self.1.extend(&bytes);
-        Some(bytes)
-    }
-    fn word(&mut self) -> Option<usize> {
-        Some(u32::from_le_bytes(self.take(4)?.try_into().unwrap()) as usize)
-    }
-    fn long(&mut self) -> Option<u64> {
-        Some(u64::from_le_bytes(self.take(8)?.try_into().unwrap()))
-    }
-    fn next(&mut self) -> Option<Set> {
-        self.1.clear();
-        let length = self.word()?;
-        let label = String::from_utf8_lossy(&self.take(length)?).into_owned();
-        let (address, arena) = (self.long()?, self.long()? as usize);
-        let (report, strict) = (self.word()?, self.word()? != 0);
-        let (words, bytes) = (self.word()?, self.word()?);
-        let sheet = self.take(4 * words)?.chunks(4).map(|w| u32::from_le_bytes(w.try_into().unwrap())).collect();
-        Some(Set { label, address, arena, report, strict, sheet, bytes: self.take(bytes)? })
-    }
-}
-
-/// The program with the Rust, which runs beside.
-struct Rust {
-    shared: Shared,
-    input: ChildStdin,
-    output: ChildStdout,
-    _process: Child,
-}
-
-impl Rust {
-    fn start(program: &str) -> Rust {
-        unsafe {
-            let fd = port::memfd_create(c"shared".as_ptr(), 0);
-            assert!(fd >= 0 && port::ftruncate(fd, SIZE as i64) == 0, "no shared file");
-            // PROT_READ | PROT_WRITE, MAP_SHARED
-            let region = port::mmap(std::ptr::null_mut(), SIZE, 3, 1, fd, 0);
-            assert!(region as isize > 0, "the shared file cannot be mapped");
-            let mut command = Command::new(program);
-            command.arg(fd.to_string()).stdin(Stdio::piped()).stdout(Stdio::piped());
-            let mut process = command.spawn().expect("the program with the Rust");
-            let (input, output) = (process.stdin.take().unwrap(), process.stdout.take().unwrap());
-            Rust { shared: Shared(region as *mut u8), input, output, _process: process }
-        }
-    }
-
-    /// Runs the Rust on a set, up to a stage. What it answers is in `shared`.
-    fn run(&mut self, set: &Set, queries: &[(u32, Vec<u8>)], last: u64) {
-        let s = &self.shared;
-        for (word, value) in [
-            (ADDRESS, set.address), (ARENA, set.arena as u64), (STRICT, set.strict as u64), (WORDS, set.sheet.len() as u64),
-            (BYTES, set.bytes.len() as u64), (QUERIES, queries.len() as u64), (LAST, last),
-        ] {
-            s.set(word, value);
-        }
-        for (i, word) in set.sheet.iter().enumerate() {
-            s.part_mut(AT_WORDS + 4 * i, 4).copy_from_slice(&word.to_le_bytes());
-        }
-        s.part_mut(AT_BYTES, set.bytes.len()).copy_from_slice(&set.bytes);
-        let mut at = AT_QUERIES;
-        for (requester, name) in queries {
-            s.part_mut(at, 4).copy_from_slice(&requester.to_le_bytes());
-            s.part_mut(at + 4, 4).copy_from_slice(&(name.len() as u32).to_le_bytes());
-            s.part_mut(at + 8, name.len()).copy_from_slice(name);
-            at += 8 + name.len();
-        }
-        assert!(at <= AT_ANSWERS && queries.len() <= MAX_ANSWERS);
-        self.input.write_all(b"!").unwrap();
-        self.input.flush().unwrap();
-        self.output.read_exact(&mut [0]).expect("the program with the Rust has ended");
     }
 }
 
@@ -369,7 +290,7 @@ fn main() {
     let arguments: Vec<String> = std::env::args().collect();
     let [_, program, file, seed] = &arguments[..] else { panic!("usage: driver RUST_SIDE FILE SEED") };
     let mut random = Random(seed.parse().expect("a number"));
-    let mut rust = Rust::start(program);
+    let mut rust = Rust::start(program, &[]);
     let mut frames = Frames(std::io::BufReader::with_capacity(1 << 20, std::io::stdin()), Vec::new());
     let mut counts = Counts::default();
     let (start, mut said) = (Instant::now(), 0);

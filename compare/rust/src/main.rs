@@ -16,6 +16,7 @@ macro_rules! signature_matches_libc {
     ($($tokens:tt)*) => {};
 }
 
+mod bench;
 mod elf;
 mod error;
 mod io_macros;
@@ -65,6 +66,9 @@ fn main() {
         let region = syscall::kernel(9, [0, SIZE, 3, 1, fd, 0]);
         assert!(region > 0, "the shared file cannot be mapped");
         let shared = Shared(region as *mut u8);
+        if std::env::args().nth(2).as_deref() == Some("bench") {
+            return bench::serve(&shared);
+        }
         let printed = memory_file();
         let mut printed = File::from_raw_fd(printed);
         let (mut input, mut output) = (std::io::stdin(), std::io::stdout());
@@ -126,6 +130,17 @@ fn dump(shared: &Shared, to: usize) {
     }
 }
 
+/// The parts of a set, as the sheet's words cut them.
+fn parts<'a>(words: &[u8], bytes: &'a [u8]) -> Vec<&'a [u8]> {
+    let mut at = 0;
+    let cut = words.chunks(4).map(|word| {
+        let size = u32::from_le_bytes(word.try_into().unwrap()) as usize & 0x0fff_ffff;
+        at += size;
+        &bytes[at - size..at]
+    });
+    cut.collect()
+}
+
 struct Numbered<'a> {
     object: &'a ObjectData,
     number: usize,
@@ -165,13 +180,7 @@ unsafe fn child(shared: &Shared) {
     syscall::ARENA.address = address;
     syscall::ARENA.length = length;
 
-    // The parts, as the sheet's words cut them.
-    let mut at = 0;
-    let mut parts = words.chunks(4).map(|word| {
-        let size = u32::from_le_bytes(word.try_into().unwrap()) as usize & 0x0fff_ffff;
-        at += size;
-        &bytes[at - size..at]
-    });
+    let mut parts = parts(words, bytes).into_iter();
     let (host, program) = (parts.next().unwrap(), parts.next().unwrap());
     let rest: Vec<&[u8]> = parts.collect();
 

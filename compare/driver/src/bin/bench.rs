@@ -1,0 +1,169 @@
+//! Times the port and the Rust on the sets of standard input, in turn. usage: bench RUST_SIDE SECONDS
+//! SECONDS is how long each set is repeated; 0 is one round, without the figures that need a second one (for callgrind).
+//! Output, one line a figure: set, what, least, median and number of rounds (nanoseconds), or set, what and one number.
+#[path = "../port.rs"]
+mod port;
+#[path = "../shared.rs"]
+mod shared;
+#[path = "../sides.rs"]
+mod sides;
+
+use std::{arch::asm, ffi::c_void, hint::black_box, time::Instant};
+
+use port::{bind, mmap, query, Set};
+use shared::*;
+use sides::{Frames, Rust};
+
+extern "C" {
+    fn munmap(at: *mut c_void, length: usize) -> i32;
+}
+
+const QUESTIONS: usize = 400;
+const ROUNDS: (usize, usize) = (5, 400);
+const PAINTED: usize = 512 << 10;
+
+/// Zero pages that nothing has touched.
+struct Pages(*mut c_void, usize);
+
+impl Pages {
+    fn new(length: usize) -> Pages {
+        // PROT_READ | PROT_WRITE, MAP_PRIVATE | MAP_ANONYMOUS
+        let at = unsafe { mmap(std::ptr::null_mut(), length, 3, 0x22, -1, 0) };
+        assert!(at as isize > 0, "no memory");
+        Pages(at, length)
+    }
+    fn bytes(&mut self) -> &mut [u8] {
+        unsafe { std::slice::from_raw_parts_mut(self.0 as *mut u8, self.1) }
+    }
+}
+
+impl Drop for Pages {
+    fn drop(&mut self) {
+        unsafe { munmap(self.0, self.1) };
+    }
+}
+
+fn nanoseconds(work: impl FnOnce()) -> u64 {
+    let start = Instant::now();
+    work();
+    start.elapsed().as_nanos() as u64
+}
+
+/// The bytes of stack that a call of bind uses: those below the caller's that it changed.
+#[inline(never)]
+fn stack(set: &Set, arena: &mut [u8], report: &mut [u32]) -> usize {
+    const PAINT: u8 = 0xa7;
+    let top: usize;
+    unsafe { asm!("mov {}, rsp", out(reg) top) };
+    let painted = (top - PAINTED..top - 256).map(|at| at as *mut u8);
+    for at in painted.clone() {
+        unsafe { at.write_volatile(PAINT) };
+    }
+    let result = bind(set, arena, report);
+    let lowest = painted.clone().find(|at| unsafe { at.read_volatile() } != PAINT);
+    assert!(result.is_ok());
+    top - lowest.map_or(top, |at| at as usize)
+}
+
+#[derive(Default)]
+struct Figures(Vec<(&'static str, Vec<u64>)>);
+
+impl Figures {
+    fn add(&mut self, what: &'static str, time: u64) {
+        match self.0.iter_mut().find(|(known, _)| *known == what) {
+            Some((_, times)) => times.push(time),
+            None => self.0.push((what, vec![time])),
+        }
+    }
+}
+
+fn questions(set: &Set) -> Vec<(u32, Vec<u8>)> {
+    let objects = set.sheet.len() / 2 + 1;
+    let one = |k: usize| ((7 * k % objects) as u32, format!("name_{}_of_lib", 13 * k).into_bytes());
+    if set.label.contains("queries") { (0..QUESTIONS).map(one).collect() } else { Vec::new() }
+}
+
+fn measure(set: &Set, rust: &mut Rust, seconds: f64) {
+    let label = set.label.split(' ').next().unwrap();
+    let asked = questions(set);
+    rust.hand_over(set, &asked, RELOCATED);
+    rust.shared.set(NEW, 1);
+    rust.shared.set(WANTED, 1);
+    let mut warm = Pages::new(set.arena);
+    let arena = warm.bytes();
+    let mut report = vec![0u32; set.report];
+    let mut figures = Figures::default();
+    let start = Instant::now();
+    for round in 0.. {
+        // The first round is not counted: it brings memory and files in, and compares the results.
+        let mut port = 0;
+        let mut ask = 0;
+        if asked.is_empty() {
+            port = nanoseconds(|| assert_eq!(bind(set, arena, &mut report), Ok(())));
+        } else {
+            ask = nanoseconds(|| {
+                let mut found = 0;
+                for (requester, name) in &asked {
+                    found += query(set, arena, *requester, name).unwrap().is_some() as u64;
+                }
+                report[0] = found as u32;
+            });
+        }
+        rust.go();
+        let time = |i: usize| rust.shared.get(TIMES + i);
+        if round == 0 {
+            assert_eq!((rust.shared.get(RESULT), rust.shared.get(WRONG)), (FINE, 0), "the Rust on {label}");
+            if asked.is_empty() {
+                assert!(rust.shared.part(AT_RELOCATED, set.arena) == arena, "{label}: the relocated bytes differ");
+            } else {
+                assert_eq!(rust.shared.get(OBJECT), report[0] as u64, "{label}: the number of names that are found differs");
+            }
+            rust.shared.set(NEW, 0);
+            rust.shared.set(WANTED, 0);
+            if seconds == 0.0 {
+                return;
+            }
+            continue;
+        }
+        figures.add("rust load", time(0));
+        if asked.is_empty() {
+            figures.add("port bind", port);
+            figures.add("rust relocate", time(2));
+            figures.add("rust load and relocate", time(0) + time(2));
+            let mut fresh = Pages::new(set.arena);
+            figures.add("port bind, fresh arena", nanoseconds(|| assert_eq!(bind(set, fresh.bytes(), &mut report), Ok(()))));
+        } else {
+            figures.add("port queries", ask);
+            figures.add("rust queries", time(1));
+            figures.add("rust load and queries", time(0) + time(1));
+        }
+        if label == "ii" {
+            let length = set.bytes.len();
+            figures.add("memcpy", nanoseconds(|| black_box(&mut arena[..length]).copy_from_slice(black_box(&set.bytes))));
+            figures.add("memset", nanoseconds(|| black_box(&mut arena[..]).fill(black_box(0))));
+        }
+        if round >= ROUNDS.1 || round >= ROUNDS.0 && start.elapsed().as_secs_f64() >= seconds {
+            break;
+        }
+    }
+    for (what, mut times) in figures.0 {
+        times.sort();
+        println!("{label}\t{what}\t{}\t{}\t{}", times[0], times[times.len() / 2], times.len());
+    }
+    if asked.is_empty() {
+        println!("{label}\tstack\t{}", stack(set, arena, &mut report));
+    }
+    println!("{label}\tbytes\t{}", set.bytes.len());
+    println!("{label}\tarena\t{}", set.arena);
+}
+
+fn main() {
+    let arguments: Vec<String> = std::env::args().collect();
+    let [_, program, seconds] = &arguments[..] else { panic!("usage: bench RUST_SIDE SECONDS") };
+    let seconds = seconds.parse().expect("a number of seconds");
+    let mut rust = Rust::start(program, &["bench"]);
+    let mut frames = Frames(std::io::BufReader::with_capacity(1 << 20, std::io::stdin()), Vec::new());
+    while let Some(set) = frames.next() {
+        measure(&set, &mut rust, seconds);
+    }
+}
