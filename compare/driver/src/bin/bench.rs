@@ -43,15 +43,21 @@ impl Drop for Pages {
     }
 }
 
+/// Before each call that is timed, untimed: the set's bytes are read and the arena is filled, so that each meets them in the same state.
+fn make_ready(set: &Set, arena: &mut [u8]) {
+    black_box(set.bytes.iter().fold(0u8, |sum, byte| sum.wrapping_add(*byte)));
+    black_box(arena).fill(black_box(0xa5));
+}
+
 fn nanoseconds(work: impl FnOnce()) -> u64 {
     let start = Instant::now();
     work();
     start.elapsed().as_nanos() as u64
 }
 
-/// The bytes of stack that a call of bind uses: those below the caller's that it changed.
+/// The bytes of stack that a call uses: those below the caller's that it changed.
 #[inline(never)]
-fn stack(set: &Set, arena: &mut [u8], report: &mut [u32]) -> usize {
+fn stack(call: &mut dyn FnMut()) -> usize {
     const PAINT: u8 = 0xa7;
     let top: usize;
     unsafe { asm!("mov {}, rsp", out(reg) top) };
@@ -59,9 +65,8 @@ fn stack(set: &Set, arena: &mut [u8], report: &mut [u32]) -> usize {
     for at in painted.clone() {
         unsafe { at.write_volatile(PAINT) };
     }
-    let result = bind(set, arena, report);
+    call();
     let lowest = painted.clone().find(|at| unsafe { at.read_volatile() } != PAINT);
-    assert!(result.is_ok());
     top - lowest.map_or(top, |at| at as usize)
 }
 
@@ -98,6 +103,7 @@ fn measure(set: &Set, rust: &mut Rust, seconds: f64) {
         // The first round is not counted: it brings memory and files in, and compares the results.
         let mut port = 0;
         let mut ask = 0;
+        make_ready(set, arena);
         if asked.is_empty() {
             port = nanoseconds(|| assert_eq!(bind(set, arena, &mut report), Ok(())));
         } else {
@@ -139,8 +145,14 @@ fn measure(set: &Set, rust: &mut Rust, seconds: f64) {
         }
         if label == "ii" {
             let length = set.bytes.len();
+            make_ready(set, arena);
             figures.add("memcpy", nanoseconds(|| black_box(&mut arena[..length]).copy_from_slice(black_box(&set.bytes))));
-            figures.add("memset", nanoseconds(|| black_box(&mut arena[..]).fill(black_box(0))));
+            make_ready(set, arena);
+            // The work of a bind that has nothing to check and nothing to relocate.
+            figures.add("memset, then memcpy", nanoseconds(|| {
+                black_box(&mut arena[..]).fill(black_box(0));
+                black_box(&mut arena[..length]).copy_from_slice(black_box(&set.bytes));
+            }));
         }
         if round >= ROUNDS.1 || round >= ROUNDS.0 && start.elapsed().as_secs_f64() >= seconds {
             break;
@@ -150,9 +162,11 @@ fn measure(set: &Set, rust: &mut Rust, seconds: f64) {
         times.sort();
         println!("{label}\t{what}\t{}\t{}\t{}", times[0], times[times.len() / 2], times.len());
     }
-    if asked.is_empty() {
-        println!("{label}\tstack\t{}", stack(set, arena, &mut report));
-    }
+    let used = match asked.first() {
+        None => stack(&mut || bind(set, arena, &mut report).unwrap()),
+        Some((requester, name)) => stack(&mut || assert!(query(set, arena, *requester, name).is_ok())),
+    };
+    println!("{label}\tstack\t{used}");
     println!("{label}\tbytes\t{}", set.bytes.len());
     println!("{label}\tarena\t{}", set.arena);
 }
