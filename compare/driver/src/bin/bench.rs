@@ -101,20 +101,16 @@ fn measure(set: &Set, rust: &mut Rust, seconds: f64) {
     let start = Instant::now();
     for round in 0.. {
         // The first round is not counted: it brings memory and files in, and compares the results.
-        let mut port = 0;
-        let mut ask = 0;
         make_ready(set, arena);
-        if asked.is_empty() {
-            port = nanoseconds(|| assert_eq!(bind(set, arena, &mut report), Ok(())));
-        } else {
-            ask = nanoseconds(|| {
-                let mut found = 0;
-                for (requester, name) in &asked {
-                    found += query(set, arena, *requester, name).unwrap().is_some() as u64;
-                }
-                report[0] = found as u32;
-            });
-        }
+        let mut found = 0;
+        let port = nanoseconds(|| {
+            if asked.is_empty() {
+                assert_eq!(bind(set, arena, &mut report), Ok(()));
+            }
+            for (requester, name) in &asked {
+                found += query(set, arena, *requester, name).unwrap().is_some() as u64;
+            }
+        });
         rust.go();
         let time = |i: usize| rust.shared.get(TIMES + i);
         if round == 0 {
@@ -122,7 +118,7 @@ fn measure(set: &Set, rust: &mut Rust, seconds: f64) {
             if asked.is_empty() {
                 assert!(rust.shared.part(AT_RELOCATED, set.arena) == arena, "{label}: the relocated bytes differ");
             } else {
-                assert_eq!(rust.shared.get(OBJECT), report[0] as u64, "{label}: the number of names that are found differs");
+                assert_eq!(rust.shared.get(OBJECT), found, "{label}: the number of names that are found differs");
             }
             rust.shared.set(NEW, 0);
             rust.shared.set(WANTED, 0);
@@ -139,7 +135,7 @@ fn measure(set: &Set, rust: &mut Rust, seconds: f64) {
             let mut fresh = Pages::new(set.arena);
             figures.add("port bind, fresh arena", nanoseconds(|| assert_eq!(bind(set, fresh.bytes(), &mut report), Ok(()))));
         } else {
-            figures.add("port queries", ask);
+            figures.add("port queries", port);
             figures.add("rust queries", time(1));
             figures.add("rust load and queries", time(0) + time(1));
         }
