@@ -1,5 +1,6 @@
 //! The Rust's side of bench/run: loads and relocates one set again and again, in one process, and writes down the times.
-//! A set with queries is not relocated. Outside the times: the arena is reserved again (fresh zero pages), and each file is opened again; the Rust closes it.
+//! A set with queries is not relocated. Outside the times: the arena is reserved again (fresh zero pages), and each file is opened again,
+//! since the Rust closes it.
 use std::{
     ffi::c_void,
     fs::File,
