@@ -29,4 +29,6 @@ pub mod ObjectCount
 pub mod RelocatedIs
 pub mod LoopLaws
 pub mod RunLaws
+pub mod RelativeLaws
+pub mod BitLaws
 pub mod BindIs

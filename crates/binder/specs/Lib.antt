@@ -12,5 +12,6 @@ pub mod Prepared
 pub mod ScopeModel
 pub mod Asked
 pub mod Relocating
+pub mod RunSteps
 pub mod Needed
 pub mod Settled

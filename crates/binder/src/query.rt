@@ -61,8 +61,7 @@ fn ask_set(
         };
     }
     let gnu = words::hash::gnu_hash(name);
-    let elf = words::hash::elf_hash(name);
-    let s = scope::scope::resolve(arena, &table, count, address, requester, name, gnu, elf);
+    let s = scope::scope::resolve(arena, &table, count, address, requester, name, gnu);
     reply_of(s)
 }
 

@@ -5,8 +5,10 @@ ghost use lib.ListN.{take};
 ghost use Rattle.words.specs.Names.{nameAt};
 ghost use Rattle.object.specs.Entries.{relaAt};
 ghost use Rattle.object.specs.Record.{heldBy, checkedSymbol};
+ghost use Rattle.object.specs.WritableRange.{WritableRange};
 ghost use Rattle.sheet.specs.Parts.{inputsIn};
 ghost use Rattle.binder.specs.Relocating.{left, wrote, started, imageIn, relativeOf, symbolRefusal, foundOf, soughtFor, soughtForCopy, symbolicOf, copyingOf, runAction, runTable, runTables, runObject, runAt, runOrder};
+ghost use Rattle.binder.specs.RunSteps.{EntriesPassed};
 use crate::order::Order;
 use crate::report::Progress;
 use crate::turn::Turn;
@@ -16,6 +18,7 @@ use object::relocate::Action;
 use object::relocate::Rela;
 use object::symbol::Symbol;
 use object::table_bytes::Bounds;
+use object::table_bytes::Writable;
 use scope::scope::Scoped;
 use sheet::sheet::Parts;
 
@@ -58,17 +61,7 @@ fn search(
 {
     let wanted = words::names::name_off(crate::turn::image_of(arena, t), strings, name as usize);
     let gnu = words::hash::gnu_hash(wanted);
-    let elf = words::hash::elf_hash(wanted);
-    scope::scope::resolve(
-        arena,
-        table,
-        count,
-        address,
-        t.number as usize,
-        wanted,
-        gnu,
-        elf,
-    )
+    scope::scope::resolve(arena, table, count, address, t.number as usize, wanted, gnu)
 }
 
 // COPY's search.
@@ -85,8 +78,7 @@ fn search_copy(
 {
     let wanted = words::names::name_off(crate::turn::image_of(arena, t), strings, name as usize);
     let gnu = words::hash::gnu_hash(wanted);
-    let elf = words::hash::elf_hash(wanted);
-    scope::scope::resolve_copy(arena, table, count, address, wanted, gnu, elf)
+    scope::scope::resolve_copy(arena, table, count, address, wanted, gnu)
 }
 
 // Types 6 and 7, of the entry with number `i` and the symbol `y`: what was found, or 0 and a word of the report.
@@ -210,6 +202,75 @@ fn rela_in(arena: &[u8], t: Turn, table: usize, i: u32) -> Rela
     object::relocate::rela_at(crate::turn::image_of(arena, t), table, i)
 }
 
+// As many entries of type 8 as follow one another from entry `start` on, below `n`, with places in low .. high, which is in a writable
+// segment: base + addend. The first entry that is not of this kind. The entries are read where the table is inside the span, and nothing is
+// done elsewhere.
+fn relatives(
+    arena: &mut [u8],
+    t: Turn,
+    at: usize,
+    start: u32,
+    n: u32,
+    low: usize,
+    high: usize,
+) -> u32
+    requires { ⌜ start ≤ n ⌝ }
+    ensures { λ r. ⌜ (start ≤ r) × (r ≤ n) × EntriesPassed t at n low high start (now (arena .entry)) r (now (arena .exit)) ⌝ }
+{
+    let off = t.offset;
+    let span = t.span;
+    let base = t.base;
+    if high < 8 {
+        return start;
+    }
+    if span < high {
+        return start;
+    }
+    if arena.len() < off {
+        return start;
+    }
+    if arena.len() - off < span {
+        return start;
+    }
+    if span < at {
+        return start;
+    }
+    if (span - at) / 24 < n as usize {
+        return start;
+    }
+    let last = high - 8;
+    let mut i = start;
+    let mut k = off + at + 24 * (start as usize);
+    while i < n {
+        if words::bytes::u32_in(arena, k + 8) != 8 {
+            return i;
+        }
+        let place = words::bytes::u64_in(arena, k) as usize;
+        if place < low {
+            return i;
+        }
+        if last < place {
+            return i;
+        }
+        let v = words::bytes::sum_u64(base, words::bytes::u64_in(arena, k + 16));
+        words::bytes::store_in(arena, off + place, v);
+        k += 24;
+        i += 1;
+    }
+    i
+}
+
+// The range to be used after an entry: after one of type 8, the segment of its place.
+fn range_after(w: Writable, b: Bounds, kind: u32, place: usize) -> Writable
+    requires { ⌜ WritableRange (take (b .count) (b .segments)) (w .low) (w .high) ⌝ }
+    ensures { λ r. ⌜ WritableRange (take (b .count) (b .segments)) (r .low) (r .high) ⌝ }
+{
+    if kind != 8 {
+        return w;
+    }
+    object::table_bytes::writable_at(b, place, 8)
+}
+
 // The `n` entries of the table at `at`; the first has the number `first`.
 fn run_table(
     arena: &mut [u8],
@@ -226,17 +287,24 @@ fn run_table(
 ) -> Progress
     ensures { λ r. ⌜ left r (now (arena .exit)) (now (report .exit)) ≡ runTable address (now (table .entry)) count t (heldBy o) at first n 0 (left p (now (arena .entry)) (now (report .entry))) ⌝ }
 {
+    let b = object::dynamic_fields::bounds_of(o);
+    let mut w = Writable { low: 0, high: 0 };
     let mut q = p;
     let mut i = 0u32;
     while i < n {
-        let e = rela_in(arena, t, at, i);
+        let j = relatives(arena, t, at, i, n, w.low, w.high);
+        if n <= j {
+            return q;
+        }
+        let e = rela_in(arena, t, at, j);
         let a = object::relocate::action_of(e.kind);
-        let number = std::num::wrapping_add_u32(first, i);
+        let number = std::num::wrapping_add_u32(first, j);
         q = run_action(arena, report, q, table, count, address, t, o, number, e, a);
         if q.refusal != 0 {
             return q;
         }
-        i += 1;
+        w = range_after(w, b, e.kind, e.place);
+        i = j + 1;
     }
     q
 }

@@ -1,10 +1,11 @@
 // RELR: an even entry names a word, which gains the base; an odd one has a bit for each of the 63 words after the last.
 ghost use mathlib.Core.Path.{_≡_};
-ghost use Prim.Native.Nat.{_≤_};
-ghost use lib.ListN.{take};
+ghost use Prim.Native.Nat.{_+_, _≤_};
+ghost use lib.ListN.{length, take};
 ghost use Rattle.object.specs.Entries.{relrAt};
 ghost use Rattle.object.specs.Record.{heldBy};
 ghost use Rattle.binder.specs.Relocating.{imageIn, far, cutTo32, summed, shifted, wordAdded, addBits, addRelr, addRelrs};
+ghost use Rattle.binder.specs.RunSteps.{BitsPassed};
 use crate::turn::Turn;
 use object::dynamic_fields::ObjectData;
 use object::relocate::Relr;
@@ -46,6 +47,54 @@ pub(crate) fn add_bits(arena: &mut [u8], t: Turn, b: Bounds, location: usize, bi
     0
 }
 
+// The word at `place`, all of it in the arena, gains the base.
+fn add_word_in(arena: &mut [u8], t: Turn, place: usize)
+    requires { ⌜ t .offset + place + 8 ≤ length (now arena) ⌝ }
+    ensures { λ _. ⌜ now (arena .exit) ≡ wordAdded t place (now (arena .entry)) ⌝ }
+{
+    let at = t.offset + place;
+    let w = words::bytes::u64_in(arena, at);
+    words::bytes::store_in(arena, at, words::bytes::sum_u64(w, t.base));
+}
+
+// The words of a bitmap whose 63 words are in the arena and in one writable segment: no test for each.
+fn add_bits_in(arena: &mut [u8], t: Turn, location: usize, bits: u64)
+    requires { ⌜ t .offset + location + 504 ≤ length (now arena) ⌝ }
+    ensures { λ _. ⌜ BitsPassed t location bits (now (arena .entry)) (now (arena .exit)) ⌝ }
+{
+    let mut p = location;
+    let mut left = bits;
+    let mut n = 63u32;
+    while 0 < n {
+        if left % 2 == 1 {
+            add_word_in(arena, t, p);
+        }
+        p += 8;
+        left = left / 2;
+        n -= 1;
+    }
+}
+
+// The words of any bitmap.
+pub(crate) fn add_bitmap(arena: &mut [u8], t: Turn, b: Bounds, location: usize, bits: u64) -> u32
+    requires { ⌜ location ≤ far ⌝ }
+    ensures { λ r. ⌜ summed r (now (arena .exit)) ≡ addBits t (take (b .count) (b .segments)) 63 location bits (now (arena .entry)) ⌝ }
+{
+    let size = arena.len();
+    let off = t.offset;
+    if off <= size {
+        if 504 <= size - off {
+            if location <= size - off - 504 {
+                if object::table_bytes::in_writable(b, location, 504) {
+                    add_bits_in(arena, t, location, bits);
+                    return 0;
+                }
+            }
+        }
+    }
+    add_bits(arena, t, b, location, bits)
+}
+
 // One entry. A location of 2^62 is no place of any object: it stands for none, and no location passes it.
 pub(crate) fn add_relr(arena: &mut [u8], t: Turn, b: Bounds, location: usize, e: Relr) -> Moved
     requires { ⌜ location ≤ far ⌝ }
@@ -66,7 +115,7 @@ pub(crate) fn add_relr(arena: &mut [u8], t: Turn, b: Bounds, location: usize, e:
             }
         }
         Relr::Bitmap(bits) => {
-            let number = add_bits(arena, t, b, location, bits);
+            let number = add_bitmap(arena, t, b, location, bits);
             Moved {
                 refusal: number,
                 location: words::bytes::place(0x4000_0000_0000_0000, location, 504),

@@ -8,12 +8,13 @@ pub mod FieldLaws
 pub mod ReadLaws
 pub mod LoadedLaws
 pub mod Ranges
+pub mod LastZeroLaws
 pub mod SymbolLaws
 pub mod FindLaws
 pub mod WalkLaws
 pub mod CheckLaws
 pub mod WalkEnds
-pub mod KnownLaws
+pub mod MarkLaws
 pub mod CountLaws
 pub mod LookupSame
 pub mod ReadingsSame

@@ -1,7 +1,7 @@
 -- The laws of `below`, of table bytes and of writable segments. No contract cites this file. Assumes nothing.
 use mathlib.Core.Path.{_≡_, refl, sym, _∙_}
 use mathlib.Core.Bool.{Bool, true, false, not}
-use mathlib.Core.List.{List, _∷_, map}
+use mathlib.Core.List.{List, [], _∷_, map}
 use mathlib.Core.Logic.{_⊎_, inl, inr, ⊎-elim}
 use Prim.Native.Nat.{ℕ, zero, suc, _+_, _-_, _/_, _%_, _≤_, _<_}
 use native.Mathlib.Nat.{eq-or-lt-of-le, le-of-suc-le-suc, not-suc-le-zero}
@@ -11,10 +11,11 @@ use borrow.Author.Tests.{eq-eqb, le-leb, lt-ltb, le-ltb, eqb-true, leb-true, ltb
 use lib.Dec.{eqb, leb, ltb}
 use lib.ListN.{length, getD, take, drop, drop-of-length-le, length-take, length-map}
 use lib.Seq.{drop-cons, getD-take}
-use Rattle.words.specs.Choice.{both, every, some, below}
+use Rattle.words.specs.Choice.{both, either, every, some, below}
 use Rattle.words.proofs.Choice.{both-true, both-false}
 use Rattle.object.specs.declared.program_header.Segment.{Segment}
 use Rattle.object.specs.TableBytes.{isWritable, holdsRange, isTable, tableBytes, inWritable}
+use Rattle.object.specs.WritableRange.{WritableRange}
 
 pub length-mapped : (X Y : Type 0) (f : X → Y) (l : List X) (n : ℕ) → length (map f l) ≡ n → length l ≡ n
 length-mapped X Y f l n e = sym (length-map l f) ∙ e
@@ -157,3 +158,51 @@ module _ (at n c : ℕ) (l : List Segment) (i : ℕ) where
         → inWritable (drop i (take c l)) at n ≡ inWritable (drop (i + 1) (take c l)) at n
     unfolding inWritable some
     some-on e = rw (one c l i d h h′, e)
+
+-- ---- ranges of places in one writable segment
+
+segment-part : (s : Segment) (at m p n : ℕ) → both (isWritable s) (holdsRange s at m) ≡ true → at ≤ p → p + n ≤ at + m → both (isWritable s) (holdsRange s p n) ≡ true
+segment-part s at m p n e l u =
+    let w = both-true (isWritable s) (holdsRange s at m) e in
+    let h = both-true (leb (s .vaddr) at) (leb (at + m) (s .vaddr + s .memsz)) (w .1) in
+    let a = leb-true (s .vaddr) at (h .0) in
+    let b = leb-true (at + m) (s .vaddr + s .memsz) (h .1) in
+    let a′ : s .vaddr ≤ p = omega arith in
+    let b′ : p + n ≤ s .vaddr + s .memsz = omega arith in
+    rw (w .0, le-leb _ _ a′, le-leb _ _ b′)
+
+either-right : (a b : Bool) → b ≡ true → either a b ≡ true
+either-right false b e = e
+either-right true b e = refl
+
+-- a part of a range in one writable segment is in one
+pub writable-part : (ss : List Segment) (at m p n : ℕ) → inWritable ss at m ≡ true → at ≤ p → p + n ≤ at + m → inWritable ss p n ≡ true
+unfolding inWritable some
+writable-part [] at m p n e l u = e
+writable-part (s ∷ ss) at m p n e l u = go (both (isWritable s) (holdsRange s at m)) refl e (λ h. writable-part ss at m p n h l u)
+  where
+    go : (b : Bool) → both (isWritable s) (holdsRange s at m) ≡ b → either b (inWritable ss at m) ≡ true
+        → (inWritable ss at m ≡ true → inWritable ss p n ≡ true)
+        → either (both (isWritable s) (holdsRange s p n)) (inWritable ss p n) ≡ true
+    go true f h next = rw (segment-part s at m p n f l u)
+    go false f h next = either-right (both (isWritable s) (holdsRange s p n)) (inWritable ss p n) (next h)
+
+writable-after : (i : ℕ) (ss : List Segment) (at n : ℕ) → inWritable (drop i ss) at n ≡ true → inWritable ss at n ≡ true
+unfolding inWritable some
+writable-after zero ss at n e = e
+writable-after (suc i) [] at n e = e
+writable-after (suc i) (s ∷ ss) at n e = either-right (both (isWritable s) (holdsRange s at n)) (inWritable ss at n) (writable-after i ss at n e)
+
+-- no place
+pub range-none : (ss : List Segment) → WritableRange ss 0 0
+range-none ss at n l u pos = absurd (omega arith)
+
+-- the places of a segment
+pub range-at :
+    (c : ℕ) (l : List Segment) (i : ℕ) (d : Segment) (at n high : ℕ) → i < c → i < length l
+    → both (isWritable (getD l i d)) (holdsRange (getD l i d) at n) ≡ true → high ≤ getD l i d .vaddr + getD l i d .memsz
+    → WritableRange (take c l) (getD l i d .vaddr) high
+range-at c l i d at n high h h′ e top p k low fits pos =
+    let w = both-true (isWritable (getD l i d)) (holdsRange (getD l i d) at n) e in
+    let u : p + k ≤ getD l i d .vaddr + getD l i d .memsz = omega arith in
+    writable-after i (take c l) p k (some-yes p k c l i d h h′ (rw (w .0, le-leb _ _ low, le-leb _ _ u)))

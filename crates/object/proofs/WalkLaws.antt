@@ -6,10 +6,10 @@ use Prim.Native.Nat.{ℕ, zero, suc, _+_, _-_, _*_, _≤_, _<_}
 use native.Mathlib.Nat.{not-suc-le-zero}
 use native.Mathlib.Numerals.{add-one}
 use native.Mathlib.Omega.{arith}
-use borrow.Author.Tests.{eq-eqb, ne-eqb, le-leb, lt-leb, lt-ltb, not-true, not-false}
+use borrow.Author.Tests.{ne-eqb, le-leb, lt-leb, not-false}
 use lib.Dec.{leb, leb·zero, leb·suc-suc, leb·suc-zero}
 use lib.ListN.{length}
-use Rattle.words.specs.Choice.{both, pick, every}
+use Rattle.words.specs.Choice.{pick, every}
 use Rattle.words.specs.Memory.{mem}
 use Rattle.words.specs.Words.{leAt}
 use Rattle.words.proofs.Choice.{both-false}
@@ -18,18 +18,13 @@ use Rattle.object.specs.declared.hash_tables.HashTable.the-variants.{Sys
 use Rattle.object.specs.TableBytes.{tableBytes}
 use Rattle.object.specs.HashCheck.{bucketOk, lengthOk, chainOk, symbolOk, stepOk, walkOk}
 use Rattle.object.specs.HashTable.{chainAt, isLast, next, fuel, walk, walkFrom}
+use Rattle.object.specs.Marks.{within}
 
 module _ (m : List ℕ) (t : HashTable) (p : ℕ → Bool) (s : ℕ) where
   pub every-no : (n : ℕ) → 0 < n → p s ≡ false → every p (walk m t n s) ≡ false
   unfolding walk every
   every-no zero l e = absurd (not-suc-le-zero l)
   every-no (suc n) l e = rw e
-
-  pub every-last : (n w : ℕ) → 0 < n → w ≡ leAt 4 (mem m) (chainAt t s) → p s ≡ true → isLast t w ≡ true
-      → every p (walk m t n s) ≡ true
-  unfolding walk every
-  every-last zero w l we e la = absurd (not-suc-le-zero l)
-  every-last (suc n) w l we e la = rw (e, ← we, la)
 
   pub every-on : (n w k : ℕ) → n ≡ suc k → w ≡ leAt 4 (mem m) (chainAt t s) → p s ≡ true → isLast t w ≡ false
       → every p (walk m t n s) ≡ every p (walk m t k (next t s w))
@@ -41,20 +36,17 @@ module _ (m : List ℕ) (t : HashTable) (p : ℕ → Bool) (s : ℕ) where
   every-out zero l = refl
   every-out (suc n) l = absurd (not-suc-le-zero l)
 
-  -- the walk has at most `n` symbols, and all of them are fine
-  pub within : ℕ → Bool
-  within n = both (leb (length (walk m t (suc n) s)) n) (every p (walk m t (suc n) s))
-
-  pub within-no : (n : ℕ) → p s ≡ false → within n ≡ false
+  pub within-no : (n : ℕ) → p s ≡ false → within m t p s n ≡ false
   unfolding within walk every
   within-no n e = rw e (both-false (leb (length (walk m t (suc n) s)) n) false refl)
 
-  pub within-out : (n : ℕ) → n ≤ 0 → within n ≡ false
+  pub within-out : (n : ℕ) → n ≤ 0 → within m t p s n ≡ false
   unfolding within walk
   within-out zero l = rw (leb·suc-zero (length (pick (isLast t (leAt 4 (mem m) (chainAt t s))) [] [])))
   within-out (suc n) l = absurd (not-suc-le-zero l)
 
-  pub within-last : (n w : ℕ) → 0 < n → w ≡ leAt 4 (mem m) (chainAt t s) → p s ≡ true → isLast t w ≡ true → within n ≡ true
+  pub within-last : (n w : ℕ) → 0 < n → w ≡ leAt 4 (mem m) (chainAt t s) → p s ≡ true → isLast t w ≡ true
+      → within m t p s n ≡ true
   unfolding within walk every
   within-last n w l we e la = rw (e, ← we, la, le-leb 1 n l)
 
@@ -93,28 +85,6 @@ module _ (isT : ℕ → Bool) (m : List ℕ) (symbols strings at n : ℕ) where
     unfolding walkOk walkFrom bucketOk lengthOk
     gnu-start b e nz l = rw (← e, ne-eqb b 0 nz, le-leb first b l)
 
--- ---- one turn of the check of a System V walk
-
-module _ (isT : ℕ → Bool) (m : List ℕ) (symbols strings at n c i s k : ℕ) (y : Bool)
-    (left : walkOk isT m symbols strings (SysV at n c) i ≡ within m (SysV at n c) (stepOk isT m symbols strings (SysV at n c)) s k)
-    (lt : s < c) (ye : y ≡ symbolOk isT m symbols strings s) where
-  step-is : stepOk isT m symbols strings (SysV at n c) s ≡ y
-  unfolding chainOk
-  step-is = rw (lt-ltb s c lt) (sym ye)
-
-  pub sysv-no-symbol : not y ≡ true → false ≡ walkOk isT m symbols strings (SysV at n c) i
-  sysv-no-symbol o = sym (left ∙ within-no m (SysV at n c) (stepOk isT m symbols strings (SysV at n c)) s k (step-is ∙ not-true y o))
-
-  module _ (w : ℕ) (more : 0 < k) (we : w ≡ leAt 4 (mem m) (at + (8 + 4 * n + 4 * s))) (o : not y ≡ false) where
-    pub sysv-last : w ≡ 0 → true ≡ walkOk isT m symbols strings (SysV at n c) i
-    sysv-last z =
-        sym (left ∙ within-last m (SysV at n c) (stepOk isT m symbols strings (SysV at n c)) s k w more we (step-is ∙ not-false y o) (eq-eqb w 0 z))
-
-    pub sysv-next : (w ≡ 0 → ⊥)
-        → walkOk isT m symbols strings (SysV at n c) i ≡ within m (SysV at n c) (stepOk isT m symbols strings (SysV at n c)) w (k - 1)
-    sysv-next z =
-        left ∙ within-on m (SysV at n c) (stepOk isT m symbols strings (SysV at n c)) s k w (k - 1) (omega arith) we (step-is ∙ not-false y o) (ne-eqb w 0 z)
-
 -- ---- one turn of the check of a GNU walk
 
 pub gnu-step : (isT : ℕ → Bool) (m : List ℕ) (symbols strings at n first blooms shift s : ℕ) (d y : Bool)
@@ -125,8 +95,5 @@ gnu-step isT m symbols strings at n first blooms shift s d y de ye nd ny = rw (�
 
 module _ (m : List ℕ) (t : HashTable) (p : ℕ → Bool) (f : Bool) (s k w : ℕ) (left : f ≡ every p (walk m t k s)) (more : 0 < k)
     (we : w ≡ leAt 4 (mem m) (chainAt t s)) (st : p s ≡ true) where
-  pub left-last : isLast t w ≡ true → true ≡ f
-  left-last la = sym (left ∙ every-last m t p s k w more we st la)
-
   pub left-on : isLast t w ≡ false → f ≡ every p (walk m t (k - 1) (next t s w))
   left-on la = left ∙ every-on m t p s k w (k - 1) (omega arith) we st la

@@ -3,6 +3,8 @@ pub mod Header
 pub mod ProgramHeader
 pub mod LoadTable
 pub mod TableBytes
+pub mod WritableRange
+pub mod LastZero
 pub mod Segments
 pub mod Placed
 pub mod DynamicArray
@@ -12,7 +14,7 @@ pub mod Symbol
 pub mod HashTable
 pub mod HashCheck
 pub mod SymbolCount
-pub mod KnownRange
+pub mod Marks
 pub mod Record
 pub mod Loaded
 pub mod Entries

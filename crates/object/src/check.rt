@@ -1,20 +1,23 @@
-// Refusal 12 of a hash table: whether all that a lookup can read of it is table bytes. A GNU chain that the last walk covered is not
-// walked again.
+// Refusal 12 of a hash table: whether all that a lookup can read of it is table bytes. No name is read, and a walk ends at a symbol that an
+// earlier walk passed: it is marked. In a System V table the symbols below 16,384 have a mark each; in a GNU table each symbol, or each
+// `step`th of more (`step_of`).
 ghost use mathlib.Core.Path.{_≡_};
-ghost use Prim.Native.Nat.{_^_, _≤_, _<_};
-ghost use lib.ListN.{take};
-ghost use Rattle.words.specs.Choice.{every};
+ghost use mathlib.Core.Bool.{true, false};
+ghost use Prim.Native.Nat.{_+_, _-_, _^_, _≤_, _<_};
+ghost use lib.ListN.{length, take, getD};
+ghost use Rattle.words.specs.Choice.{every, below};
+ghost use Rattle.words.specs.Memory.{mem};
 ghost use Rattle.object.specs.declared.hash_tables.HashTable.the-variants.{SysV, Gnu};
 ghost use Rattle.object.specs.TableBytes.{isTable};
 ghost use Rattle.object.specs.HashTable.{fuel, walk};
 ghost use Rattle.object.specs.HashCheck.{symbolOk, stepOk, walkOk, tableOk};
-ghost use Rattle.object.specs.KnownRange.{KnownRange};
+ghost use Rattle.object.specs.LastZero.{LastZeros};
+ghost use Rattle.object.specs.Marks.{MarkAt, NewMark, Marked, SysvMore, GnuMore, within, Passes};
 
-// Whether what was walked passes, and the symbols from low to high, which the last walk reached (none where high is below low).
+// Whether a walk passes, and how many symbols it passed before a marked one or its end.
 struct Walked {
     ok: bool,
-    low: usize,
-    high: usize,
+    count: usize,
 }
 
 // Whether symbol `s`, and its name with the zero byte, are in table bytes.
@@ -48,43 +51,249 @@ pub fn symbol_ok(
     symbol_fits(image, b, symbols, strings, s as usize)
 }
 
-// The walk of bucket `i` of a System V table.
-fn sysv_walk_ok(
+// The same as `symbol_fits`, without reading the name.
+fn symbol_in(
     image: &[u8],
     b: crate::table_bytes::Bounds,
+    zeros: &[usize; 17],
+    symbols: usize,
+    strings: usize,
+    s: usize,
+) -> bool
+    requires { ⌜ (s < 2 ^ 40) × LastZeros (mem (now image)) (b .span) (b .segments) (now zeros) ⌝ }
+    ensures { λ r. ⌜ r ≡ symbolOk (isTable (b .span) (take (b .count) (b .segments))) (now (image .entry)) symbols strings s ⌝ }
+{
+    let span = b.span;
+    let k = 24 * s;
+    if span <= k {
+        return false;
+    }
+    if span - k <= symbols {
+        return false;
+    }
+    let p = symbols + k;
+    let w = words::bytes::u32_at(image, p) as usize;
+    if span <= w {
+        return false;
+    }
+    if span - w <= strings {
+        return false;
+    }
+    crate::table_bytes::both_in(image, b, zeros, p, 24, strings + w)
+}
+
+// Whether `d` has a mark, and it is set.
+fn is_marked(seen: &[bool; 16384], step: usize, d: usize) -> bool
+    requires { ⌜ 0 < step ⌝ }
+    ensures { λ r. ⌜ (r ≡ true → MarkAt (now (seen .entry)) step d) ⌝ }
+{
+    if d % step != 0 {
+        return false;
+    }
+    let j = d / step;
+    if j < 16384 {
+        return seen[j];
+    }
+    false
+}
+
+// Sets the mark of `d`, if it has one.
+fn set_mark(seen: &mut [bool; 16384], step: usize, d: usize)
+    requires { ⌜ 0 < step ⌝ }
+    ensures { λ _. ⌜ NewMark (now (seen .entry)) (now (seen .exit)) step d ⌝ }
+{
+    if d % step != 0 {
+        return;
+    }
+    let j = d / step;
+    if j < 16384 {
+        seen[j] = true;
+    }
+}
+
+// The walk of a System V table from `word`. No walk from a marked symbol has more than `total` symbols.
+fn sysv_walk(
+    image: &[u8],
+    b: crate::table_bytes::Bounds,
+    zeros: &[usize; 17],
     symbols: usize,
     strings: usize,
     at: usize,
     buckets: u32,
     chains: u32,
-    i: usize,
-) -> bool
-    requires { ⌜ i < buckets ⌝ }
-    ensures { λ r. ⌜ r ≡ walkOk (isTable (b .span) (take (b .count) (b .segments))) (now (image .entry)) symbols strings (SysV at buckets chains) i ⌝ }
+    seen: &[bool; 16384],
+    total: usize,
+    word: usize,
+) -> Walked
+    requires { ⌜ (word < 2 ^ 32) × LastZeros (mem (now image)) (b .span) (b .segments) (now zeros)
+        × Marked (now seen) 1 (λ s. within (now image) (SysV at buckets chains) (stepOk (isTable (b .span) (take (b .count) (b .segments))) (now image) symbols strings (SysV at buckets chains)) s (total) ≡ true) ⌝ }
+    ensures { λ r. ⌜ (r .ok ≡ within (now (image .entry)) (SysV at buckets chains) (stepOk (isTable (b .span) (take (b .count) (b .segments))) (now (image .entry)) symbols strings (SysV at buckets chains)) word chains)
+        × (r .count ≤ chains)
+        × (r .ok ≡ true → within (now (image .entry)) (SysV at buckets chains) (stepOk (isTable (b .span) (take (b .count) (b .segments))) (now (image .entry)) symbols strings (SysV at buckets chains)) word (total + r .count) ≡ true) ⌝ }
 {
-    let word = words::bytes::u32_off(image, at, 8 + 4 * i);
-    if word == 0 {
-        return true;
-    }
     let n = buckets as usize;
     let most = chains as usize;
-    let mut s = word as usize;
+    let mut s = word;
     let mut left = most;
     while 0 < left {
         if most <= s {
-            return false;
+            return Walked {
+                ok: false,
+                count: 0,
+            };
         }
-        if !symbol_fits(image, b, symbols, strings, s) {
-            return false;
+        if is_marked(seen, 1, s) {
+            if total <= left {
+                return Walked {
+                    ok: true,
+                    count: most - left,
+                };
+            }
+        }
+        if !symbol_in(image, b, zeros, symbols, strings, s) {
+            return Walked {
+                ok: false,
+                count: 0,
+            };
         }
         let w = words::bytes::u32_off(image, at, 8 + 4 * n + 4 * s);
         if w == 0 {
-            return true;
+            return Walked {
+                ok: true,
+                count: most - left + 1,
+            };
         }
         s = w as usize;
         left -= 1;
     }
-    false
+    Walked {
+        ok: false,
+        count: 0,
+    }
+}
+
+// Marks the symbols of the walk from `word`, `n` of them.
+fn sysv_mark(
+    image: &[u8],
+    at: usize,
+    buckets: u32,
+    chains: u32,
+    seen: &mut [bool; 16384],
+    word: usize,
+    n: usize,
+)
+    requires { ⌜ word < 2 ^ 32 ⌝ }
+    ensures { λ _. ⌜ SysvMore (now (image .entry)) (SysV at buckets chains) (now (seen .entry)) (now (seen .exit)) word ⌝ }
+{
+    let chain = 8 + 4 * (buckets as usize);
+    let mut s = word;
+    let mut i = 0;
+    while i < n {
+        set_mark(seen, 1, s);
+        let w = words::bytes::u32_off(image, at, chain + 4 * s);
+        if w == 0 {
+            return;
+        }
+        s = w as usize;
+        i += 1;
+    }
+}
+
+// The walk of bucket `i` of a System V table; its symbols get marks, and `total` grows by the count.
+fn sysv_bucket(
+    image: &[u8],
+    b: crate::table_bytes::Bounds,
+    zeros: &[usize; 17],
+    symbols: usize,
+    strings: usize,
+    at: usize,
+    buckets: u32,
+    chains: u32,
+    seen: &mut [bool; 16384],
+    total: usize,
+    i: usize,
+) -> Walked
+    requires { ⌜ (i < buckets) × (total ≤ chains) × LastZeros (mem (now image)) (b .span) (b .segments) (now zeros)
+        × Marked (now seen) 1 (λ s. within (now image) (SysV at buckets chains) (stepOk (isTable (b .span) (take (b .count) (b .segments))) (now image) symbols strings (SysV at buckets chains)) s (total) ≡ true) ⌝ }
+    ensures { λ r. ⌜ (r .ok ≡ walkOk (isTable (b .span) (take (b .count) (b .segments))) (now (image .entry)) symbols strings (SysV at buckets chains) i)
+        × (total + r .count ≤ chains)
+        × (r .ok ≡ true → Marked (now (seen .exit)) 1 (λ s. within (now (image .entry)) (SysV at buckets chains) (stepOk (isTable (b .span) (take (b .count) (b .segments))) (now (image .entry)) symbols strings (SysV at buckets chains)) s (total + r .count) ≡ true)) ⌝ }
+{
+    let word = words::bytes::u32_off(image, at, 8 + 4 * i);
+    if word == 0 {
+        return Walked { ok: true, count: 0 };
+    }
+    let s = word as usize;
+    let w = sysv_walk(
+        image,
+        b,
+        zeros,
+        symbols,
+        strings,
+        at,
+        buckets,
+        chains,
+        seen,
+        total,
+        s,
+    );
+    if !w.ok {
+        return Walked {
+            ok: false,
+            count: 0,
+        };
+    }
+    let count = w.count;
+    if (chains as usize) - total < count {
+        return Walked { ok: true, count: 0 };
+    }
+    sysv_mark(image, at, buckets, chains, seen, s, count);
+    Walked {
+        ok: true,
+        count: count,
+    }
+}
+
+// The walks of all buckets of a System V table.
+fn sysv_walks(
+    image: &[u8],
+    b: crate::table_bytes::Bounds,
+    zeros: &[usize; 17],
+    symbols: usize,
+    strings: usize,
+    at: usize,
+    buckets: u32,
+    chains: u32,
+    seen: &mut [bool; 16384],
+) -> bool
+    requires { ⌜ LastZeros (mem (now image)) (b .span) (b .segments) (now zeros)
+        × Marked (now seen) 1 (λ s. within (now image) (SysV at buckets chains) (stepOk (isTable (b .span) (take (b .count) (b .segments))) (now image) symbols strings (SysV at buckets chains)) s (0) ≡ true) ⌝ }
+    ensures { λ r. ⌜ r ≡ below (walkOk (isTable (b .span) (take (b .count) (b .segments))) (now (image .entry)) symbols strings (SysV at buckets chains)) buckets ⌝ }
+{
+    let n = buckets as usize;
+    let mut total = 0;
+    let mut i = 0;
+    while i < n {
+        let w = sysv_bucket(
+            image,
+            b,
+            zeros,
+            symbols,
+            strings,
+            at,
+            buckets,
+            chains,
+            seen,
+            total,
+            i,
+        );
+        if !w.ok {
+            return false;
+        }
+        total += w.count;
+        i += 1;
+    }
+    true
 }
 
 fn sysv_ok(
@@ -105,21 +314,27 @@ fn sysv_ok(
     if !crate::table_bytes::table_bytes(b, at, 8 + 4 * n + 4 * (chains as usize)) {
         return false;
     }
-    let mut i = 0;
-    while i < n {
-        if !sysv_walk_ok(image, b, symbols, strings, at, buckets, chains, i) {
-            return false;
-        }
-        i += 1;
-    }
-    true
+    let mut zeros = [0usize; 17];
+    crate::table_bytes::last_zeros(image, b, &mut zeros);
+    let mut seen = [false; 16384];
+    sysv_walks(
+        image,
+        b,
+        &zeros,
+        symbols,
+        strings,
+        at,
+        buckets,
+        chains,
+        &mut seen,
+    )
 }
 
-// The walk from the bucket word `word` of a GNU table, where the symbols from `from` to `upto` are known: it ends where it meets the first
-// of them.
+// The walk of a GNU table from `word`.
 fn gnu_walk(
     image: &[u8],
     b: crate::table_bytes::Bounds,
+    zeros: &[usize; 17],
     symbols: usize,
     strings: usize,
     at: usize,
@@ -127,67 +342,90 @@ fn gnu_walk(
     first: u32,
     blooms: u32,
     shift: u32,
+    seen: &[bool; 16384],
+    step: usize,
     word: usize,
-    from: usize,
-    upto: usize,
 ) -> Walked
-    requires { ⌜ (first ≤ word) × (word < 2 ^ 32)
-        × KnownRange (isTable (b .span) (take (b .count) (b .segments))) (now image) symbols strings (Gnu at buckets first blooms shift) from upto ⌝ }
-    ensures { λ r. ⌜ (r .ok ≡ every (stepOk (isTable (b .span) (take (b .count) (b .segments))) (now (image .entry)) symbols strings (Gnu at buckets first blooms shift))
-        (walk (now (image .entry)) (Gnu at buckets first blooms shift) (fuel (now (image .entry)) (Gnu at buckets first blooms shift)) word))
-        × KnownRange (isTable (b .span) (take (b .count) (b .segments))) (now (image .entry)) symbols strings (Gnu at buckets first blooms shift) (r .low) (r .high) ⌝ }
+    requires { ⌜ (first ≤ word) × (word < 2 ^ 32) × (0 < step) × LastZeros (mem (now image)) (b .span) (b .segments) (now zeros)
+        × Marked (now seen) step (λ d. Passes (now image) (Gnu at buckets first blooms shift) (stepOk (isTable (b .span) (take (b .count) (b .segments))) (now image) symbols strings (Gnu at buckets first blooms shift)) (first + d)) ⌝ }
+    ensures { λ r. ⌜ (r .ok ≡ every (stepOk (isTable (b .span) (take (b .count) (b .segments))) (now (image .entry)) symbols strings (Gnu at buckets first blooms shift)) (walk (now (image .entry)) (Gnu at buckets first blooms shift) (fuel (now (image .entry)) (Gnu at buckets first blooms shift)) word))
+        × (r .ok ≡ true → 0 < r .count → Passes (now (image .entry)) (Gnu at buckets first blooms shift) (stepOk (isTable (b .span) (take (b .count) (b .segments))) (now (image .entry)) symbols strings (Gnu at buckets first blooms shift)) word) ⌝ }
 {
     let chain = 16 + 8 * (blooms as usize) + 4 * (buckets as usize);
     let low = first as usize;
+    let most = words::bytes::smaller(image.len(), 0x1000_0000);
     let mut s = word;
-    let mut left = words::bytes::smaller(image.len(), 0x1000_0000);
+    let mut left = most;
     while 0 < left {
-        if s == from {
-            if from <= upto {
-                return Walked {
-                    ok: true,
-                    low: word,
-                    high: upto,
-                };
-            }
-        }
-        let k = chain + 4 * (s - low);
-        if !crate::table_bytes::table_off(b, at, k, 4) {
+        let d = s - low;
+        if is_marked(seen, step, d) {
             return Walked {
-                ok: false,
-                low: 1,
-                high: 0,
+                ok: true,
+                count: most - left,
             };
         }
-        if !symbol_fits(image, b, symbols, strings, s) {
+        if !crate::table_bytes::table_off(b, at, chain + 4 * d, 4) {
             return Walked {
                 ok: false,
-                low: 1,
-                high: 0,
+                count: 0,
             };
         }
-        let w = words::bytes::u32_off(image, at, k);
+        if !symbol_in(image, b, zeros, symbols, strings, s) {
+            return Walked {
+                ok: false,
+                count: 0,
+            };
+        }
+        let w = words::bytes::u32_off(image, at, chain + 4 * d);
         if w % 2 == 1 {
             return Walked {
                 ok: true,
-                low: word,
-                high: s,
+                count: most - left + 1,
             };
         }
         s += 1;
         left -= 1;
     }
-    Walked {
-        ok: true,
-        low: 1,
-        high: 0,
+    Walked { ok: true, count: 0 }
+}
+
+// Marks the symbols of the walk from `word`, `n` of them.
+fn gnu_mark(
+    image: &[u8],
+    at: usize,
+    buckets: u32,
+    first: u32,
+    blooms: u32,
+    shift: u32,
+    seen: &mut [bool; 16384],
+    step: usize,
+    word: usize,
+    n: usize,
+)
+    requires { ⌜ (first ≤ word) × (word < 2 ^ 32) × (0 < step) × (n ≤ 2 ^ 32) ⌝ }
+    ensures { λ _. ⌜ GnuMore (now (image .entry)) (Gnu at buckets first blooms shift) first step (now (seen .entry)) (now (seen .exit)) word ⌝ }
+{
+    let chain = 16 + 8 * (blooms as usize) + 4 * (buckets as usize);
+    let low = first as usize;
+    let mut s = word;
+    let mut i = 0;
+    while i < n {
+        let d = s - low;
+        set_mark(seen, step, d);
+        let w = words::bytes::u32_off(image, at, chain + 4 * d);
+        if w % 2 == 1 {
+            return;
+        }
+        s += 1;
+        i += 1;
     }
 }
 
-// The walk of bucket `i` of a GNU table, where the symbols from low to high are known.
+// The walk of bucket `i` of a GNU table; its symbols get marks.
 fn gnu_bucket(
     image: &[u8],
     b: crate::table_bytes::Bounds,
+    zeros: &[usize; 17],
     symbols: usize,
     strings: usize,
     at: usize,
@@ -195,43 +433,27 @@ fn gnu_bucket(
     first: u32,
     blooms: u32,
     shift: u32,
+    seen: &mut [bool; 16384],
+    step: usize,
     i: usize,
-    low: usize,
-    high: usize,
-) -> Walked
-    requires { ⌜ (i < buckets)
-        × KnownRange (isTable (b .span) (take (b .count) (b .segments))) (now image) symbols strings (Gnu at buckets first blooms shift) low high ⌝ }
-    ensures { λ r. ⌜ (r .ok ≡ walkOk (isTable (b .span) (take (b .count) (b .segments))) (now (image .entry)) symbols strings (Gnu at buckets first blooms shift) i)
-        × KnownRange (isTable (b .span) (take (b .count) (b .segments))) (now (image .entry)) symbols strings (Gnu at buckets first blooms shift) (r .low) (r .high) ⌝ }
+) -> bool
+    requires { ⌜ (i < buckets) × (0 < step) × LastZeros (mem (now image)) (b .span) (b .segments) (now zeros)
+        × Marked (now seen) step (λ d. Passes (now image) (Gnu at buckets first blooms shift) (stepOk (isTable (b .span) (take (b .count) (b .segments))) (now image) symbols strings (Gnu at buckets first blooms shift)) (first + d)) ⌝ }
+    ensures { λ r. ⌜ (r ≡ walkOk (isTable (b .span) (take (b .count) (b .segments))) (now (image .entry)) symbols strings (Gnu at buckets first blooms shift) i)
+        × (r ≡ true → Marked (now (seen .exit)) step (λ d. Passes (now (image .entry)) (Gnu at buckets first blooms shift) (stepOk (isTable (b .span) (take (b .count) (b .segments))) (now (image .entry)) symbols strings (Gnu at buckets first blooms shift)) (first + d))) ⌝ }
 {
     let word = words::bytes::u32_off(image, at, 16 + 8 * (blooms as usize) + 4 * i);
     if word == 0 {
-        return Walked {
-            ok: true,
-            low: low,
-            high: high,
-        };
+        return true;
     }
     if word < first {
-        return Walked {
-            ok: false,
-            low: low,
-            high: high,
-        };
+        return false;
     }
     let s = word as usize;
-    if low <= s {
-        if s <= high {
-            return Walked {
-                ok: true,
-                low: low,
-                high: high,
-            };
-        }
-    }
-    gnu_walk(
+    let w = gnu_walk(
         image,
         b,
+        zeros,
         symbols,
         strings,
         at,
@@ -239,10 +461,85 @@ fn gnu_bucket(
         first,
         blooms,
         shift,
+        seen,
+        step,
         s,
-        low,
-        high,
-    )
+    );
+    if !w.ok {
+        return false;
+    }
+    let count = words::bytes::smaller(w.count, 0x1000_0000);
+    if count == 0 {
+        return true;
+    }
+    gnu_mark(
+        image,
+        at,
+        buckets,
+        first,
+        blooms,
+        shift,
+        seen,
+        step,
+        s,
+        count,
+    );
+    true
+}
+
+// The walks of all buckets of a GNU table.
+fn gnu_walks(
+    image: &[u8],
+    b: crate::table_bytes::Bounds,
+    zeros: &[usize; 17],
+    symbols: usize,
+    strings: usize,
+    at: usize,
+    buckets: u32,
+    first: u32,
+    blooms: u32,
+    shift: u32,
+    seen: &mut [bool; 16384],
+    step: usize,
+) -> bool
+    requires { ⌜ (0 < step) × LastZeros (mem (now image)) (b .span) (b .segments) (now zeros)
+        × Marked (now seen) step (λ d. Passes (now image) (Gnu at buckets first blooms shift) (stepOk (isTable (b .span) (take (b .count) (b .segments))) (now image) symbols strings (Gnu at buckets first blooms shift)) (first + d)) ⌝ }
+    ensures { λ r. ⌜ r ≡ below (walkOk (isTable (b .span) (take (b .count) (b .segments))) (now (image .entry)) symbols strings (Gnu at buckets first blooms shift)) buckets ⌝ }
+{
+    let n = buckets as usize;
+    let mut i = 0;
+    while i < n {
+        if !gnu_bucket(
+            image,
+            b,
+            zeros,
+            symbols,
+            strings,
+            at,
+            buckets,
+            first,
+            blooms,
+            shift,
+            seen,
+            step,
+            i,
+        ) {
+            return false;
+        }
+        i += 1;
+    }
+    true
+}
+
+// How many symbols share a mark, so that those from `first` to `high` have marks; where `high` is no symbol, as many as the image has room
+// for.
+fn step_of(known: bool, high: usize, first: usize, size: usize) -> usize
+    ensures { λ r. ⌜ 0 < r ⌝ }
+{
+    if known {
+        return words::bytes::monus(high, first) / 16384 + 1;
+    }
+    size / 393216 + 1
 }
 
 fn gnu_ok(
@@ -271,32 +568,26 @@ fn gnu_ok(
     if !crate::table_bytes::table_bytes(b, at, 16 + 8 * (blooms as usize) + 4 * n) {
         return false;
     }
-    let mut low = 1;
-    let mut high = 0;
-    let mut i = 0;
-    while i < n {
-        let w = gnu_bucket(
-            image,
-            b,
-            symbols,
-            strings,
-            at,
-            buckets,
-            first,
-            blooms,
-            shift,
-            i,
-            low,
-            high,
-        );
-        if !w.ok {
-            return false;
-        }
-        low = w.low;
-        high = w.high;
-        i += 1;
-    }
-    true
+    let mut zeros = [0usize; 17];
+    crate::table_bytes::last_zeros(image, b, &mut zeros);
+    let high = crate::hash_tables::highest_bucket(image, at, buckets, first, blooms, shift);
+    let known = symbol_in(image, b, &zeros, symbols, strings, high);
+    let step = step_of(known, high, first as usize, image.len());
+    let mut seen = [false; 16384];
+    gnu_walks(
+        image,
+        b,
+        &zeros,
+        symbols,
+        strings,
+        at,
+        buckets,
+        first,
+        blooms,
+        shift,
+        &mut seen,
+        step,
+    )
 }
 
 // Whether the object's hash table is not refused.

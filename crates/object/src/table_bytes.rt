@@ -1,10 +1,13 @@
 // Table bytes: which parts of an object's span no relocation of it may change.
 ghost use mathlib.Core.Path.{_≡_};
 ghost use mathlib.Core.Bool.{not};
-ghost use Prim.Native.Nat.{_+_};
-ghost use lib.ListN.{take};
+ghost use Prim.Native.Nat.{_+_, _<_};
+ghost use lib.ListN.{length, take};
 ghost use Rattle.words.specs.Choice.{both, below};
+ghost use Rattle.words.specs.Memory.{mem};
 ghost use Rattle.object.specs.TableBytes.{isWritable, holdsRange, isTable, tableBytes, tableName, inWritable};
+ghost use Rattle.object.specs.WritableRange.{WritableRange};
+ghost use Rattle.object.specs.LastZero.{LastZero, LastZeros, Nearer};
 
 // An object's span, and its load segments: the first `count` of them. The host has none.
 pub struct Bounds {
@@ -95,6 +98,101 @@ pub fn name_ok(image: &[u8], b: Bounds, at: usize, k: usize) -> bool
     table_off(b, at, k, n + 1)
 }
 
+// One past the last zero byte before `end`; 0 where there is none.
+fn last_zero(image: &[u8], end: usize) -> usize
+    ensures { λ r. ⌜ LastZero (mem (now (image .entry))) end r ⌝ }
+{
+    if image.len() < end {
+        return end;
+    }
+    let mut i = end;
+    while 0 < i {
+        let k = i - 1;
+        if image[k] == 0 {
+            return i;
+        }
+        i = k;
+    }
+    0
+}
+
+// One past the last zero byte before each segment, and before the span's end.
+pub fn last_zeros(image: &[u8], b: Bounds, zeros: &mut [usize; 17])
+    requires { ⌜ length (now zeros) ≡ 17 ⌝ }
+    ensures { λ _. ⌜ LastZeros (mem (now (image .entry))) (b .span) (b .segments) (now (zeros .exit)) ⌝ }
+{
+    let span = b.span;
+    let mut i = 0;
+    while i < 16 {
+        let s = b.segments[i];
+        zeros[i] = last_zero(image, words::bytes::smaller(s.vaddr, span));
+        i += 1;
+    }
+    zeros[16] = last_zero(image, span);
+}
+
+// Where a run of table bytes ends, and one past the last zero byte before that.
+struct Run {
+    end: usize,
+    low: usize,
+}
+
+// What a segment leaves of the run from `p` to `end`; `zero` is one past the last zero byte before the segment.
+fn nearer(s: crate::program_header::Segment, p: usize, end: usize, low: usize, zero: usize) -> Run
+    ensures { λ r. ⌜ Nearer s p end low zero (r .end) (r .low) ⌝ }
+{
+    if s.flags / 2 % 2 != 1 {
+        return Run { end: end, low: low };
+    }
+    if s.memsz == 0 {
+        return Run { end: end, low: low };
+    }
+    if s.vaddr <= p {
+        if p - s.vaddr < s.memsz {
+            return Run { end: p, low: 0 };
+        }
+        return Run { end: end, low: low };
+    }
+    if end <= s.vaddr {
+        return Run { end: end, low: low };
+    }
+    Run {
+        end: s.vaddr,
+        low: zero,
+    }
+}
+
+// Whether the `k` bytes from `p`, and the name at `q` with its zero byte, are in table bytes: no byte of the name is read.
+pub fn both_in(image: &[u8], b: Bounds, zeros: &[usize; 17], p: usize, k: usize, q: usize) -> bool
+    requires { ⌜ (p < b .span) × (q < b .span) × LastZeros (mem (now image)) (b .span) (b .segments) (now zeros) ⌝ }
+    ensures { λ r. ⌜ r ≡ both (tableBytes (isTable (b .span) (take (b .count) (b .segments))) p k) (tableName (isTable (b .span) (take (b .count) (b .segments))) (now (image .entry)) q) ⌝ }
+{
+    let span = b.span;
+    let n = words::bytes::smaller(b.count, 16);
+    let mut last = span;
+    let mut least = zeros[16];
+    let mut end = span;
+    let mut low = zeros[16];
+    let mut i = 0;
+    while i < n {
+        let s = b.segments[i];
+        let one = nearer(s, p, last, least, zeros[i]);
+        last = one.end;
+        least = one.low;
+        let two = nearer(s, q, end, low, zeros[i]);
+        end = two.end;
+        low = two.low;
+        i += 1;
+    }
+    if last - p < k {
+        return false;
+    }
+    if q < low {
+        return true;
+    }
+    false
+}
+
 // Whether the `n` bytes from `at` lie in the segment, and it is writable.
 fn holds(s: crate::program_header::Segment, at: usize, n: usize) -> bool
     ensures { λ r. ⌜ r ≡ both (isWritable s) (holdsRange s at n) ⌝ }
@@ -112,6 +210,31 @@ fn holds(s: crate::program_header::Segment, at: usize, n: usize) -> bool
         return false;
     }
     true
+}
+
+// Places that lie in one writable segment: from `low` to below `high`. None where `high` is 0.
+pub struct Writable {
+    pub low: usize,
+    pub high: usize,
+}
+
+// The writable segment that holds the `n` bytes from `at`, or none.
+pub fn writable_at(b: Bounds, at: usize, n: usize) -> Writable
+    ensures { λ r. ⌜ WritableRange (take (b .count) (b .segments)) (r .low) (r .high) ⌝ }
+{
+    let count = words::bytes::smaller(b.count, 16);
+    let mut i = 0;
+    while i < count {
+        let s = b.segments[i];
+        if holds(s, at, n) {
+            return Writable {
+                low: s.vaddr,
+                high: words::bytes::place(0xffff_ffff_ffff_ffff, s.vaddr, s.memsz),
+            };
+        }
+        i += 1;
+    }
+    Writable { low: 0, high: 0 }
 }
 
 // Whether the `n` bytes from `at` lie in one writable segment.

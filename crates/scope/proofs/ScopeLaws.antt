@@ -1,14 +1,55 @@
 -- The turns of a search over the table of seats. No contract cites this file. Assumes nothing.
-use Prim.Native.Nat.{ℕ, suc, _+_, _-_, _≤_, _<_}
-use mathlib.Core.Path.{_≡_, refl, sym, _∙_}
+use Prim.Native.Nat.{ℕ, zero, suc, _+_, _-_, _%_, _^_, _≤_, _<_}
+use mathlib.Core.Path.{_≡_, refl, sym, ap, _∙_}
+use mathlib.Core.Bool.{Bool, true, false}
 use mathlib.Core.List.{List}
 use native.Mathlib.Omega.{arith}
+use native.Mathlib.Decide.{decLt}
 use native.Mathlib.Numerals.{add-one}
+use borrow.Author.Tests.{eqb-true}
+use lib.Dec.{eqb}
+use lib.ListN.{take, drop}
+use Rattle.words.specs.Choice.{pick}
 use Rattle.object.specs.declared.hash_tables.Definition.{Definition}
+use Rattle.object.specs.declared.hash_tables.HashTable.the-variants.{Without, Gnu}
+use Rattle.object.specs.declared.hash_tables.Found as looked
+use Rattle.object.specs.HashTable as hash
+use Rattle.object.specs.HashTable.{findBy, answerOf}
 use Rattle.scope.specs.declared.scope.Scoped.{Scoped}
 use Rattle.scope.specs.declared.scope.Scoped.the-variants.{Absent, Found}
-use Rattle.scope.specs.Seats.{seatAt, seatsFrom}
-use Rattle.scope.specs.ScopeCode.{orElse, seatAnswer, scanSeats}
+use Rattle.scope.specs.Seats.{wordAt, seatAt, seatsFrom}
+use Rattle.scope.specs.ScopeCode.{answerAt, Lacks, scopedBy, guardedBy, orElse, seatAnswer, ownAnswer, scanSeats}
+use Rattle.scope.proofs.BloomLaws.{Past}
+
+-- ---- a table that is not System V's has no use for the System V hash
+
+no-use :
+    (image : List ℕ) (symbols strings : ℕ) (b : Bool) (at n first blooms shift : ℕ) (name : List ℕ) (g e e′ : ℕ)
+    → findBy image symbols strings (pick b (Gnu at n first blooms shift) Without) name g e
+    ≡ findBy image symbols strings (pick b (Gnu at n first blooms shift) Without) name g e′
+unfolding hash.findBy hash.mayHold
+no-use image symbols strings true at n first blooms shift name g e e′ = refl
+no-use image symbols strings false at n first blooms shift name g e e′ = refl
+
+module _ (arena table : List ℕ) (k : ℕ) (name : List ℕ) (g e e′ : ℕ) (same : wordAt table k 4 ≡ 1 → e ≡ e′) where
+  answer-any : answerAt arena (seatAt table k) name g e ≡ answerAt arena (seatAt table k) name g e′
+  unfolding answerAt seatAt
+  answer-any = go (eqb (wordAt table k 4) 1) refl
+    where
+      go : (b : Bool) → eqb (wordAt table k 4) 1 ≡ b → answerAt arena (seatAt table k) name g e ≡ answerAt arena (seatAt table k) name g e′
+      go true q = ap (λ (h : ℕ). answerAt arena (seatAt table k) name g h) (same (eqb-true (wordAt table k 4) 1 q))
+      go false q =
+          rw q
+          (ap (λ (f : looked.Found). answerOf (take (wordAt table k 1) (drop (wordAt table k 0) arena)) (wordAt table k 2) f)
+          (no-use (take (wordAt table k 1) (drop (wordAt table k 0) arena)) (wordAt table k 2) (wordAt table k 3) (eqb (wordAt table k 4) 2) (wordAt table k 5) (wordAt table k 6 % 2 ^ 32) (wordAt table k 7 % 2 ^ 32) (wordAt table k 8 % 2 ^ 32) (wordAt table k 9 % 2 ^ 32) name g e e′))
+
+  pub seat-any : (address : ℕ) → seatAnswer address arena k (seatAt table k) name g e ≡ seatAnswer address arena k (seatAt table k) name g e′
+  unfolding seatAnswer
+  seat-any address = rw answer-any
+
+  pub own-any : (address : ℕ) → ownAnswer address arena k (seatAt table k) name g e ≡ ownAnswer address arena k (seatAt table k) name g e′
+  unfolding ownAnswer
+  own-any address = rw answer-any
 
 module _ (address : ℕ) (arena table name : List ℕ) (g e : ℕ) where
   -- what is left of the search from object `k` on
@@ -42,3 +83,36 @@ module _ (address : ℕ) (arena table name : List ℕ) (g e : ℕ) where
     scan-end {whole} h inv =
         let s : count - k ≡ 0 = omega arith in
         rw s at inv
+
+  -- ---- objects that lack the name
+
+  pub own-lacks : (k : ℕ) → Lacks arena (seatAt table k) g → Absent ≡ ownAnswer address arena k (seatAt table k) name g e
+  unfolding ownAnswer guardedBy
+  own-lacks k lack = rw (lack name e)
+
+  here-lacks : (k : ℕ) → Lacks arena (seatAt table k) g → here k ≡ Absent
+  unfolding seatAnswer scopedBy
+  here-lacks k lack = rw (lack name e)
+
+  pass : (k count : ℕ) → Lacks arena (seatAt table k) g → rest k count ≡ rest (k + 1) count
+  pass k count lack = go (decLt k count)
+    where
+      go : Dec (k < count) → rest k count ≡ rest (k + 1) count
+      go (yes h) = sym (scan-miss k count h refl (here-lacks k lack) refl)
+      go (no h) = sym (scan-end k count (omega arith) refl) ∙ scan-end (k + 1) count (omega arith) refl
+
+  skip-by : (n j count : ℕ) → ((k : ℕ) → j ≤ k → k < j + n → Lacks arena (seatAt table k) g) → rest j count ≡ rest (j + n) count
+  skip-by zero j count lack =
+      let s : j ≡ j + 0 = omega arith in
+      ap (λ (m : ℕ). rest m count) s
+  skip-by (suc n) j count lack =
+      let s : j + 1 + n ≡ j + suc n = omega arith in
+      pass j count (lack j (omega arith) (omega arith))
+      ∙ skip-by n (j + 1) count (λ k low high. lack k (omega arith) (omega arith))
+      ∙ ap (λ (m : ℕ). rest m count) s
+
+  -- the search goes on from an object before which all lack the name
+  pub skip : (j r count : ℕ) {whole : Scoped} → Past arena table g j r → rest j count ≡ whole → rest r count ≡ whole
+  skip j r count {whole} c inv =
+      let s : j + (r - j) ≡ r = omega (arith, c .0) in
+      sym (skip-by (r - j) j count (λ k low high. c .1 k low (omega (arith, s))) ∙ ap (λ (m : ℕ). rest m count) s) ∙ inv

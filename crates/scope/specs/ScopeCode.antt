@@ -2,6 +2,7 @@
 -- protected definition of the requester, else program, libraries in list order, host. COPY searches libraries, then host. A lookup yields
 -- an object, a symbol index and an address, or absence". The model's own words are model/specs/Scope; binder/proofs/ScopeIs joins the two.
 -- Assumes nothing.
+use mathlib.Core.Path.{_≡_}
 use Prim.Native.Nat.{ℕ, suc, _-_}
 use mathlib.Core.List.{List, [], _∷_}
 use lib.ListN.{take, drop}
@@ -25,6 +26,10 @@ imageAt arena s = take (s .span) (drop (s .offset) arena)
 -- what the object has for a name with the hashes `g` (GNU) and `e` (System V)
 unfoldable pub answerAt : List ℕ → Seat → List ℕ → ℕ → ℕ → Answer
 answerAt arena s name g e = answerBy (imageAt arena s) (s .view) name g e
+
+-- it has no name with the GNU hash `g`
+abbrev pub Lacks : List ℕ → Seat → ℕ → Type 0
+Lacks arena s g = (name : List ℕ) (e : ℕ) → answerAt arena s name g e ≡ object.Absent
 
 -- object `k` at `base` answers
 unfoldable pub scopedBy : ℕ → ℕ → Answer → Scoped

@@ -1,9 +1,12 @@
 // Which object answers for a name: `resolve_symbol_address` of object_data_graph.rs, over the arena and the table of seats.
 ghost use mathlib.Core.Path.{_≡_};
-ghost use Prim.Native.Nat.{_+_, _-_, _≤_};
+ghost use mathlib.Core.Bool.{true};
+ghost use Prim.Native.Nat.{ℕ, _+_, _-_, _*_, _/_, _%_, _^_, _≤_, _<_};
+ghost use lib.ListN.{length};
 ghost use Rattle.words.specs.Words.{sum64};
-ghost use Rattle.scope.specs.Seats.{seatAt, seatsFrom};
-ghost use Rattle.scope.specs.ScopeCode.{answerAt, seatAnswer, ownAnswer, scanSeats, resolveSeats, resolveCopySeats};
+ghost use Rattle.words.specs.Hash.{elfHash};
+ghost use Rattle.scope.specs.Seats.{wordAt, seatAt, seatsFrom};
+ghost use Rattle.scope.specs.ScopeCode.{answerAt, Lacks, seatAnswer, ownAnswer, scanSeats, resolveSeats, resolveCopySeats};
 use crate::seats::Seat;
 use object::hash_tables::Answer;
 use object::hash_tables::Definition;
@@ -30,6 +33,94 @@ pub fn answer_at(arena: &[u8], s: Seat, name: &[u8], gnu: u32, elf: u32) -> Answ
         gnu,
         elf,
     )
+}
+
+// The System V hash of a name, where object `k` has a System V table; else 0, since no other table asks for it.
+fn elf_for(table: &[u64], k: usize, name: &[u8]) -> u32
+    ensures { λ r. ⌜ (wordAt (now (table .entry)) k 4 ≡ 1 → r ≡ elfHash (now (name .entry))) ⌝ }
+{
+    if crate::seats::word(table, k, 4) == 1 {
+        return words::hash::elf_hash(name);
+    }
+    0
+}
+
+// Where the bloom word of a GNU hash ends in a table that has `n` of them.
+fn bloom_end(gnu: u32, n: u32) -> u64
+    requires { ⌜ 0 < n ⌝ }
+    ensures { λ r. ⌜ (r ≡ 24 + 8 * (gnu / 64 % n)) × (r < 2 ^ 40) ⌝ }
+{
+    24 + 8 * (((gnu / 64) % n) as u64)
+}
+
+// Whether the bloom filter of object `k` rules out every name with this GNU hash.
+fn rules_out(arena: &[u8], table: &[u64], k: usize, gnu: u32) -> bool
+    requires { ⌜ 16 * k + 16 ≤ length (now table) ⌝ }
+    ensures { λ r. ⌜ (r ≡ true → Lacks (now (arena .entry)) (seatAt (now (table .entry)) k) gnu) ⌝ }
+{
+    let size = arena.len() as u64;
+    let p = 16 * k;
+    if table[p + 4] != 2 {
+        return false;
+    }
+    let off = table[p + 0];
+    let span = table[p + 1];
+    let at = table[p + 5];
+    let n = (table[p + 8] % 0x1_0000_0000) as u32;
+    let shift = table[p + 9];
+    if n == 0 {
+        return false;
+    }
+    if 31 < shift {
+        return false;
+    }
+    if span < at {
+        return false;
+    }
+    let end = bloom_end(gnu, n);
+    if span - at < end {
+        return false;
+    }
+    if size < off {
+        return false;
+    }
+    if size - off < span {
+        return false;
+    }
+    let w = words::bytes::u64_in(arena, (off + at + end - 8) as usize);
+    let one = (w >> (gnu % 64)) % 2;
+    let two = (w >> ((gnu >> (shift as u32)) % 64)) % 2;
+    if one + two == 2 {
+        return false;
+    }
+    true
+}
+
+// An object from `start` on, or `count`: the bloom filter of each one before it rules out every name with this GNU hash.
+fn candidate(arena: &[u8], table: &[u64], start: usize, count: usize, gnu: u32) -> usize
+    ensures { λ r. ⌜ (start ≤ r) × ((k : ℕ) → start ≤ k → k < r → Lacks (now (arena .entry)) (seatAt (now (table .entry)) k) gnu) ⌝ }
+{
+    if table.len() / 16 < count {
+        return start;
+    }
+    let mut k = start;
+    while k < count {
+        if !rules_out(arena, table, k, gnu) {
+            return k;
+        }
+        k += 1;
+    }
+    k
+}
+
+// Whether object `k` has no name with this GNU hash, as its bloom filter says; a seat past the table's end is not looked at.
+fn ruled_out(arena: &[u8], table: &[u64], k: usize, gnu: u32) -> bool
+    ensures { λ r. ⌜ (r ≡ true → Lacks (now (arena .entry)) (seatAt (now (table .entry)) k) gnu) ⌝ }
+{
+    if k < table.len() / 16 {
+        return rules_out(arena, table, k, gnu);
+    }
+    false
 }
 
 // The answer of object `k`.
@@ -69,6 +160,9 @@ fn own_answer(
 ) -> Scoped
     ensures { λ r. ⌜ r ≡ ownAnswer address (now (arena .entry)) k (seatAt (now (table .entry)) k) (now (name .entry)) gnu elf ⌝ }
 {
+    if ruled_out(arena, table, k, gnu) {
+        return Scoped::Absent;
+    }
     let s = crate::seats::seat_at(table, k);
     let a = answer_at(arena, s, name, gnu, elf);
     let Answer::Present(d) = a else {
@@ -85,8 +179,8 @@ fn own_answer(
     Scoped::Absent
 }
 
-// The first answer of the objects from `start` on, below `count`.
-fn scan(
+// The first answer of the objects from `start` on, below `count`, for a name whose hashes are given.
+fn scan_hashed(
     arena: &[u8],
     table: &[u64],
     start: usize,
@@ -104,12 +198,39 @@ fn scan(
         let Scoped::Absent = a else {
             return a;
         };
-        k += 1;
+        k = candidate(arena, table, k + 1, count, gnu);
     }
     Scoped::Absent
 }
 
-// The answer for a name, whose hashes are given: a protected definition of the requester, else program, libraries in list order, host.
+// The same for a name whose GNU hash is given: its System V hash is made at the first object that has a System V table.
+fn scan(
+    arena: &[u8],
+    table: &[u64],
+    start: usize,
+    count: usize,
+    address: u64,
+    name: &[u8],
+    gnu: u32,
+) -> Scoped
+    ensures { λ r. ⌜ r ≡ scanSeats address (now (arena .entry)) start (seatsFrom (now (table .entry)) start (count - start)) (now (name .entry)) gnu (elfHash (now (name .entry))) ⌝ }
+{
+    let mut k = candidate(arena, table, start, count, gnu);
+    while k < count {
+        if crate::seats::word(table, k, 4) == 1 {
+            let elf = words::hash::elf_hash(name);
+            return scan_hashed(arena, table, k, count, address, name, gnu, elf);
+        }
+        let a = seat_answer(arena, table, k, address, name, gnu, 0);
+        let Scoped::Absent = a else {
+            return a;
+        };
+        k = candidate(arena, table, k + 1, count, gnu);
+    }
+    Scoped::Absent
+}
+
+// The answer for a name, whose GNU hash is given: a protected definition of the requester, else program, libraries in list order, host.
 pub fn resolve(
     arena: &[u8],
     table: &[u64],
@@ -118,19 +239,20 @@ pub fn resolve(
     requester: usize,
     name: &[u8],
     gnu: u32,
-    elf: u32,
 ) -> Scoped
-    ensures { λ r. ⌜ r ≡ resolveSeats address (now (arena .entry)) (now (table .entry)) count requester (now (name .entry)) gnu elf ⌝ }
+    ensures { λ r. ⌜ r ≡ resolveSeats address (now (arena .entry)) (now (table .entry)) count requester (now (name .entry)) gnu (elfHash (now (name .entry))) ⌝ }
 {
+    let elf = elf_for(table, requester, name);
     let own = own_answer(arena, table, requester, address, name, gnu, elf);
     let Scoped::Absent = own else {
         return own;
     };
-    let a = scan(arena, table, 1, count, address, name, gnu, elf);
+    let a = scan(arena, table, 1, count, address, name, gnu);
     let Scoped::Absent = a else {
         return a;
     };
-    seat_answer(arena, table, 0, address, name, gnu, elf)
+    let elf0 = elf_for(table, 0, name);
+    seat_answer(arena, table, 0, address, name, gnu, elf0)
 }
 
 // COPY's answer for a name: libraries in list order, then host.
@@ -141,13 +263,13 @@ pub fn resolve_copy(
     address: u64,
     name: &[u8],
     gnu: u32,
-    elf: u32,
 ) -> Scoped
-    ensures { λ r. ⌜ r ≡ resolveCopySeats address (now (arena .entry)) (now (table .entry)) count (now (name .entry)) gnu elf ⌝ }
+    ensures { λ r. ⌜ r ≡ resolveCopySeats address (now (arena .entry)) (now (table .entry)) count (now (name .entry)) gnu (elfHash (now (name .entry))) ⌝ }
 {
-    let a = scan(arena, table, 2, count, address, name, gnu, elf);
+    let a = scan(arena, table, 2, count, address, name, gnu);
     let Scoped::Absent = a else {
         return a;
     };
-    seat_answer(arena, table, 0, address, name, gnu, elf)
+    let elf0 = elf_for(table, 0, name);
+    seat_answer(arena, table, 0, address, name, gnu, elf0)
 }

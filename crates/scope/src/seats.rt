@@ -14,7 +14,7 @@ pub struct Seat {
 }
 
 // Word `j` of object `k`.
-fn word(table: &[u64], k: usize, j: usize) -> u64
+pub(crate) fn word(table: &[u64], k: usize, j: usize) -> u64
     ensures { λ r. ⌜ r ≡ getD (now (table .entry)) (16 * k + j) 0 ⌝ }
 {
     let n = table.len();

@@ -132,6 +132,18 @@ unfolding inputsIn
 input-at bs p k h =
     List·getD-map (inputIn bs) (take (p .count) (p .list)) k noPart ∙ ap (inputIn bs) (getD-take (p .count) (p .list) k noPart h)
 
+-- the first objects of a table, without its count
+front : (f : Part → Input) (l : List Part) (k n : ℕ) → k ≤ n → take k (map f (take n l)) ≡ take k (map f l)
+front f l zero n h = refl
+front f [] (suc k) zero h = refl
+front f [] (suc k) (suc n) h = refl
+front f (x ∷ l) (suc k) zero h = absurd (omega arith)
+front f (x ∷ l) (suc k) (suc n) h = ap (λ (r : List Input). f x ∷ r) (front f l k n (omega arith))
+
+pub inputs-front : (bs : List ℕ) (p : Parts) (k : ℕ) → k ≤ p .count → take k (inputsIn bs p) ≡ take k (map (inputIn bs) (p .list))
+unfolding inputsIn
+inputs-front bs p k h = front (inputIn bs) (p .list) k (p .count) h
+
 pub input-past : (bs : List ℕ) (p : Parts) (k : ℕ) → min (p .count) (length (p .list)) ≤ k → getD (inputsIn bs p) k noInput ≡ noInput
 input-past bs p k h = List·getD-eq-default (inputsIn bs p) noInput (omega (arith, inputs-length bs p))
 

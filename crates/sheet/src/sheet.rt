@@ -218,9 +218,11 @@ fn named_before(bytes: &[u8], parts: Parts, k: usize, name: &[u8]) -> bool
     requires { ⌜ (k ≤ 64) × (k ≤ parts .count) ⌝ }
     ensures { λ r. ⌜ r ≡ named (now (name .entry)) (drop 2 (take k (inputsIn (now (bytes .entry)) parts))) ⌝ }
 {
+    let list = parts.list;
     let mut j = 2;
     while j < k {
-        if words::names::same(name, name_of(bytes, parts, j)) {
+        let q = list[j];
+        if words::names::same(name, part_of(bytes, q.name, q.chars)) {
             return true;
         }
         j += 1;

@@ -1,5 +1,6 @@
 // Little-endian reads and stores, copies and zero fill in byte slices. A byte past a slice's end reads as 0, and a byte that is
-// written there is dropped, so no function asks anything of its caller.
+// written there is dropped, so no function asks anything of its caller, but for those whose names end in `_in`: they are for loops whose
+// places are known to be in the slice.
 ghost use mathlib.Core.Path.{_≡_};
 ghost use Prim.Native.Nat.{_+_, _-_, _*_, _≤_, min};
 ghost use lib.ListN.{length, set};
@@ -57,6 +58,14 @@ pub fn u16_at(s: &[u8], at: usize) -> u16
     word16(byte_at(s, at, 0), byte_at(s, at, 1))
 }
 
+// The number of four bytes at `at`, all of them in the slice.
+pub fn u32_in(s: &[u8], at: usize) -> u32
+    requires { ⌜ at + 4 ≤ length (now s) ⌝ }
+    ensures { λ r. ⌜ r ≡ leAt 4 (mem (now (s .entry))) at ⌝ }
+{
+    word32(s[at + 0], s[at + 1], s[at + 2], s[at + 3])
+}
+
 // The number of four bytes at `at`.
 pub fn u32_at(s: &[u8], at: usize) -> u32
     ensures { λ r. ⌜ r ≡ leAt 4 (mem (now (s .entry))) at ⌝ }
@@ -64,7 +73,7 @@ pub fn u32_at(s: &[u8], at: usize) -> u32
     let n = s.len();
     if 4 <= n {
         if at <= n - 4 {
-            return word32(s[at + 0], s[at + 1], s[at + 2], s[at + 3]);
+            return u32_in(s, at);
         }
     }
     word32(
@@ -75,6 +84,23 @@ pub fn u32_at(s: &[u8], at: usize) -> u32
     )
 }
 
+// The number of eight bytes at `at`, all of them in the slice.
+pub fn u64_in(s: &[u8], at: usize) -> u64
+    requires { ⌜ at + 8 ≤ length (now s) ⌝ }
+    ensures { λ r. ⌜ r ≡ leAt 8 (mem (now (s .entry))) at ⌝ }
+{
+    word64(
+        s[at + 0],
+        s[at + 1],
+        s[at + 2],
+        s[at + 3],
+        s[at + 4],
+        s[at + 5],
+        s[at + 6],
+        s[at + 7],
+    )
+}
+
 // The number of eight bytes at `at`.
 pub fn u64_at(s: &[u8], at: usize) -> u64
     ensures { λ r. ⌜ r ≡ leAt 8 (mem (now (s .entry))) at ⌝ }
@@ -82,16 +108,7 @@ pub fn u64_at(s: &[u8], at: usize) -> u64
     let n = s.len();
     if 8 <= n {
         if at <= n - 8 {
-            return word64(
-                s[at + 0],
-                s[at + 1],
-                s[at + 2],
-                s[at + 3],
-                s[at + 4],
-                s[at + 5],
-                s[at + 6],
-                s[at + 7],
-            );
+            return u64_in(s, at);
         }
     }
     word64(
@@ -181,6 +198,21 @@ pub fn store_u32(s: &mut [u8], at: usize, v: u32)
     put_bytes(s, at, v as u64, 4);
 }
 
+// The eight bytes of `v` go to the places from `at`, all of them in the slice.
+pub fn store_in(s: &mut [u8], at: usize, v: u64)
+    requires { ⌜ at + 8 ≤ length (now s) ⌝ }
+    ensures { λ _. ⌜ now (s .exit) ≡ patch (now (s .entry)) at 8 (byteOf v) ⌝ }
+{
+    s[at + 0] = (v / 1 % 256) as u8;
+    s[at + 1] = (v / 0x100 % 256) as u8;
+    s[at + 2] = (v / 0x1_0000 % 256) as u8;
+    s[at + 3] = (v / 0x100_0000 % 256) as u8;
+    s[at + 4] = (v / 0x1_0000_0000 % 256) as u8;
+    s[at + 5] = (v / 0x100_0000_0000 % 256) as u8;
+    s[at + 6] = (v / 0x1_0000_0000_0000 % 256) as u8;
+    s[at + 7] = (v / 0x100_0000_0000_0000 % 256) as u8;
+}
+
 // The eight bytes of `v` go to the places from `at`.
 pub fn store_u64(s: &mut [u8], at: usize, v: u64)
     ensures { λ _. ⌜ now (s .exit) ≡ patch (now (s .entry)) at 8 (byteOf v) ⌝ }
@@ -188,14 +220,7 @@ pub fn store_u64(s: &mut [u8], at: usize, v: u64)
     let n = s.len();
     if 8 <= n {
         if at <= n - 8 {
-            s[at + 0] = (v / 1 % 256) as u8;
-            s[at + 1] = (v / 0x100 % 256) as u8;
-            s[at + 2] = (v / 0x1_0000 % 256) as u8;
-            s[at + 3] = (v / 0x100_0000 % 256) as u8;
-            s[at + 4] = (v / 0x1_0000_0000 % 256) as u8;
-            s[at + 5] = (v / 0x100_0000_0000 % 256) as u8;
-            s[at + 6] = (v / 0x1_0000_0000_0000 % 256) as u8;
-            s[at + 7] = (v / 0x100_0000_0000_0000 % 256) as u8;
+            store_in(s, at, v);
             return;
         }
     }

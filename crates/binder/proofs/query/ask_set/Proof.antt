@@ -19,7 +19,6 @@ use Rattle.binder.proofs.prepare.load_all.Reads as load-all-reads
 use Rattle.binder.proofs.query.reply_of.Reads as reply-of-reads
 use Rattle.scope.proofs.scope.resolve.Reads as resolve-reads
 use Rattle.sheet.proofs.wipe.clear.Reads as clear-reads
-use Rattle.words.proofs.hash.elf_hash.Reads as elf-hash-reads
 use Rattle.words.proofs.hash.gnu_hash.Reads as gnu-hash-reads
 
 slice-aggregate-load-all : tie.Need-slice-aggregate-load-all
@@ -60,9 +59,6 @@ returns-2 c =
 gnu-hash-requires : tie.Need-gnu-hash-requires
 gnu-hash-requires c κs = search needs
 
-elf-hash-requires : tie.Need-elf-hash-requires
-elf-hash-requires c κs = search needs
-
 slice-aggregate-resolve : tie.Need-slice-aggregate-resolve
 slice-aggregate-resolve c = search needs
 
@@ -73,16 +69,16 @@ reply-of-requires : tie.Need-reply-of-requires
 reply-of-requires c κs = search needs
 
 same-length-3 : tie.Need-same-length-3
-same-length-3 c = c .before .before .before .before .before .before .before .before .before .before .before .load-all .kept .1 .1 .0
+same-length-3 c = c .before .before .before .before .before .before .before .before .before .before .load-all .kept .1 .1 .0
 
 returns-3 : tie.Need-returns-3
 returns-3 c =
-    let a = c .before .before .before .before .before .before .before .before .before .before .before .before .before .before .before .before .before .args in
+    let a = c .before .before .before .before .before .before .before .before .before .before .before .before .before .before .before .before .args in
     let os = inputsIn (now (a .bytes)) (a .parts) in
-    let n : length (c .before .before .before .before .before .before .before .before .before .before .before .load-all .last .1 .1 .0) ≡ length (now (a .arena)) = c .before .before .before .before .before .before .before .before .before .before .before .load-all .kept .1 .1 .0 in
-    asked os (a .parts .count) (now (a .arena)) (c .before .before .before .before .before .before .before .before .before .before .before .load-all .last .1 .1 .0) (c .before .before .before .before .before .before .before .before .before .before .before .load-all .last .1 .1 .1 .0) (a .address) (a .requester) (now (a .name))
-    (c .before .before .before .before .before .before .before .before .before .before .before .load-all .result) (c .before .before .before .before .before .before .before .before .before .before .before .before .before .before .before .before .before .pre) (c .before .before .before .before .before .before .before .before .before .before .before .load-all .ensures) (c .before .before .before .before .before .before .before .if1 .left) (omega (arith, c .before .before .before .before .before .before .if2 .left)) n (c .reply-of .result)
-    (c .reply-of .ensures ∙ ap (λ (s : Scoped). replyOf (scopedOf s)) (rw (c .before .before .before .before .before .gnu-hash .ensures, c .before .before .before .before .elf-hash .ensures) at (c .before .resolve .ensures)))
+    let n : length (c .before .before .before .before .before .before .before .before .before .before .load-all .last .1 .1 .0) ≡ length (now (a .arena)) = c .before .before .before .before .before .before .before .before .before .before .load-all .kept .1 .1 .0 in
+    asked os (a .parts .count) (now (a .arena)) (c .before .before .before .before .before .before .before .before .before .before .load-all .last .1 .1 .0) (c .before .before .before .before .before .before .before .before .before .before .load-all .last .1 .1 .1 .0) (a .address) (a .requester) (now (a .name))
+    (c .before .before .before .before .before .before .before .before .before .before .load-all .result) (c .before .before .before .before .before .before .before .before .before .before .before .before .before .before .before .before .pre) (c .before .before .before .before .before .before .before .before .before .before .load-all .ensures) (c .before .before .before .before .before .before .if1 .left) (omega (arith, c .before .before .before .before .before .if2 .left)) n (c .reply-of .result)
+    (c .reply-of .ensures ∙ ap (λ (s : Scoped). replyOf (scopedOf s)) (rw (c .before .before .before .before .gnu-hash .ensures) at (c .before .resolve .ensures)))
 
 pub ask-set-spec : {M : Type 1} → statement M
 ask-set-spec =
@@ -97,7 +93,6 @@ ask-set-spec =
     same-length-2
     returns-2
     gnu-hash-requires
-    elf-hash-requires
     slice-aggregate-resolve
     resolve-requires
     reply-of-requires

@@ -12,40 +12,13 @@ use Rattle.object.specs.TableBytes.{inWritable}
 use Rattle.object.specs.declared.program_header.Segment.{Segment}
 use Rattle.binder.specs.declared.turn.Turn.{Turn}
 use Rattle.binder.specs.Relocating.{summed, far, wordAdded, addBits}
+use Rattle.binder.proofs.BitLaws.{bit-0, bit-1, refused, none}
 use Rattle.binder.proofs.relr.add_bits.Statement.{statement}
 use Rattle.binder.proofs.relr.add_bits.Tie as tie
 use Rattle.binder.proofs.relr.add_bits.Reads as reads
 use Rattle.binder.proofs.relr.add_bits.Lts as lts
 use Rattle.binder.proofs.relr.add_word.Reads as add-word-reads
 use Rattle.object.proofs.table_bytes.in_writable.Reads as in-writable-reads
-
--- one turn: the bit is 0; it is 1, and its word may be written, or not
-module _ (t : Turn) (ss : List Segment) where
-  bit-0 : (n p bits : ℕ) (a : List ℕ) → 0 < n → ¬ (bits % 2 ≡ 1) → addBits t ss n p bits a ≡ addBits t ss (n - 1) (p + 8) (bits / 2) a
-  unfolding addBits
-  bit-0 zero p bits a h e = absurd (omega arith)
-  bit-0 (suc n) p bits a h e =
-      let z : suc n - 1 ≡ n = omega arith in
-      rw (z, ne-eqb _ _ e) refl
-
-  bit-1 :
-      (n p bits : ℕ) (a : List ℕ) → 0 < n → bits % 2 ≡ 1 → inWritable ss p 8 ≡ true
-      → addBits t ss n p bits a ≡ addBits t ss (n - 1) (p + 8) (bits / 2) (wordAdded t p a)
-  unfolding addBits
-  bit-1 zero p bits a h e w = absurd (omega arith)
-  bit-1 (suc n) p bits a h e w =
-      let z : suc n - 1 ≡ n = omega arith in
-      rw (z, eq-eqb _ _ e, w) refl
-
-  refused : (n p bits : ℕ) (a : List ℕ) → 0 < n → bits % 2 ≡ 1 → inWritable ss p 8 ≡ false → addBits t ss n p bits a ≡ summed 17 a
-  unfolding addBits
-  refused zero p bits a h e w = absurd (omega arith)
-  refused (suc n) p bits a h e w = rw (eq-eqb _ _ e, w) refl
-
-  none : (n p bits : ℕ) (a : List ℕ) → n ≤ 0 → addBits t ss n p bits a ≡ summed 0 a
-  unfolding addBits
-  none zero p bits a h = refl
-  none (suc n) p bits a h = absurd (omega arith)
 
 abbrev Inv-loop : tie.InvT-loop
 Inv-loop arena₀ t b location bits p₀ left₀ n₀ arena p left n =

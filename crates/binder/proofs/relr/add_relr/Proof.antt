@@ -17,7 +17,7 @@ use Rattle.binder.proofs.relr.add_relr.Statement.{statement}
 use Rattle.binder.proofs.relr.add_relr.Tie as tie
 use Rattle.binder.proofs.relr.add_relr.Reads as reads
 use Rattle.binder.proofs.relr.add_relr.Lts as lts
-use Rattle.binder.proofs.relr.add_bits.Reads as add-bits-reads
+use Rattle.binder.proofs.relr.add_bitmap.Reads as add-bitmap-reads
 use Rattle.binder.proofs.relr.add_word.Reads as add-word-reads
 use Rattle.object.proofs.table_bytes.in_writable.Reads as in-writable-reads
 use Rattle.words.proofs.bytes.place.Reads as place-reads
@@ -63,8 +63,8 @@ place-requires c κs = search needs
 enum-known-e-2 : tie.Need-enum-known-e-2
 enum-known-e-2 c = search needs
 
-add-bits-requires : tie.Need-add-bits-requires
-add-bits-requires c κs = search needs
+add-bitmap-requires : tie.Need-add-bitmap-requires
+add-bitmap-requires c κs = search needs
 
 place-requires-2 : tie.Need-place-requires-2
 place-requires-2 c κs = search needs
@@ -79,13 +79,13 @@ returns-2 c =
     (sym (c .before .before .before .before .before .before .in-writable .ensures) ∙ not-false _ (c .before .before .before .before .before .if1 .left)) (c .place .ensures) (c .before .before .before .add-word .ensures)
 
 same-length-2 : tie.Need-same-length-2
-same-length-2 c = c .before .before .before .add-bits .kept .0
+same-length-2 c = c .before .before .before .add-bitmap .kept .0
 
 returns-3 : tie.Need-returns-3
 returns-3 c =
     let a = c .before .before .before .before .before .before .before .before .before .args in
     bitmap-added (a .t) (take (a .b .count) (a .b .segments)) (a .location) (a .e) (c .before .before .before .before .before .before .e2 .given .0 .0) (now (a .arena)) (c .before .before .before .before .before .before .e2 .given .1)
-    (c .place2 .ensures) (c .before .before .before .add-bits .ensures)
+    (c .place2 .ensures) (c .before .before .before .add-bitmap .ensures)
 
 pub add-relr-spec : {M : Type 1} → statement M
 add-relr-spec =
@@ -97,7 +97,7 @@ add-relr-spec =
     add-word-requires
     place-requires
     enum-known-e-2
-    add-bits-requires
+    add-bitmap-requires
     place-requires-2
     same-length
     returns-2

@@ -1,34 +1,31 @@
--- `object::check::gnu_walk` meets its contract. The invariant: what is left of the walk decides, and the symbols from `word` to `s` pass. Assumes nothing.
-use mathlib.Core.Path.{_≡_, sym, ap, _∙_}
-use mathlib.Core.Bool.{true}
-use Prim.Native.Nat.{ℕ, _+_, _^_, _≤_, _<_}
+-- `object::check::gnu_walk` meets its contract. The invariant: what is left of the walk decides, and if it passes the walk from `word` does. Assumes nothing.
+use mathlib.Core.Path.{_≡_, refl, sym, ap, _∙_}
+use Prim.Native.Nat.{ℕ, _+_, _-_, _^_, _≤_}
 use native.Mathlib.Omega.{arith}
 use borrow.Author.Needs.{needs}
 use borrow.Author.Tests.{eq-eqb, ne-eqb, not-true, not-false}
 use denote.Ref.{now}
 use lib.ListN.{take}
 use Rattle.words.specs.Choice.{every}
-use Rattle.object.specs.TableBytes.{isTable}
-use Rattle.object.specs.HashTable.{walk, fuel}
-use Rattle.object.specs.HashCheck.{chainOk, stepOk}
 use Rattle.object.specs.declared.hash_tables.HashTable.the-variants.{Gnu}
-use Rattle.object.proofs.WalkLaws.{every-no, every-out, gnu-step, left-last, left-on}
-use Rattle.object.proofs.KnownLaws.{more, join, known-walk}
+use Rattle.object.specs.Marks.{Passes}
+use Rattle.object.specs.HashCheck.{chainOk, stepOk}
+use Rattle.object.specs.HashTable.{walk, fuel}
+use Rattle.object.specs.TableBytes.{isTable}
+use Rattle.object.proofs.MarkLaws.{never, marked-use, GnuAt, gnu-fails, gnu-known, gnu-out, gnu-ends-at, gnu-turn}
+use Rattle.object.proofs.WalkLaws.{gnu-step}
 use Rattle.object.proofs.check.gnu_walk.Statement.{statement}
 use Rattle.object.proofs.check.gnu_walk.Tie as tie
 
 abbrev Inv-loop : tie.InvT-loop
-Inv-loop image b symbols strings at buckets first blooms shift word from upto chain low s₀ left₀ s left =
-    (first ≤ s) × (word ≤ s) × (s + left ≤ 2 ^ 32 + 2 ^ 28)
-    × (every (stepOk (isTable (b .span) (take (b .count) (b .segments))) image symbols strings (Gnu at buckets first blooms shift))
-    (walk image (Gnu at buckets first blooms shift) (fuel image (Gnu at buckets first blooms shift)) word)
-    ≡ every (stepOk (isTable (b .span) (take (b .count) (b .segments))) image symbols strings (Gnu at buckets first blooms shift))
-    (walk image (Gnu at buckets first blooms shift) left s))
-    × ((k : ℕ) → word ≤ k → k < s
-    → stepOk (isTable (b .span) (take (b .count) (b .segments))) image symbols strings (Gnu at buckets first blooms shift) k ≡ true)
+Inv-loop image b zeros symbols strings at buckets first blooms shift seen step word chain low most s₀ left₀ s left =
+    (first ≤ s) × (s + left ≡ word + most) × ((left ≤ most) × (most ≤ 2 ^ 28))
+    × GnuAt image (Gnu at buckets first blooms shift) (stepOk (isTable (b .span) (take (b .count) (b .segments))) image symbols strings (Gnu at buckets first blooms shift))
+    (every (stepOk (isTable (b .span) (take (b .count) (b .segments))) image symbols strings (Gnu at buckets first blooms shift))
+    (walk image (Gnu at buckets first blooms shift) (fuel image (Gnu at buckets first blooms shift)) word)) word s left
 
 abbrev μ-loop : tie.MeasureT-loop
-μ-loop image b symbols strings at buckets first blooms shift word from upto chain low s₀ left₀ s left =
+μ-loop image b zeros symbols strings at buckets first blooms shift seen step word chain low most s₀ left₀ s left =
     left
 
 mul-chain : tie.Need-mul-chain Inv-loop μ-loop
@@ -51,13 +48,18 @@ loop-holds c =
     let a = c .before .before .args in
     let m = now (a .image) in
     let t = Gnu (a .at) (a .buckets) (a .first) (a .blooms) (a .shift) in
-    let p = stepOk (isTable (a .b .span) (take (a .b .count) (a .b .segments))) m (a .symbols) (a .strings) t in (
-      search needs,
-      search needs,
-      omega arith,
-      ap (λ (f : ℕ). every p (walk m t f (a .word))) (sym (c .smaller .ensures)),
-      λ k l h. absurd (omega arith),
-    )
+    let p = stepOk (isTable (a .b .span) (take (a .b .count) (a .b .segments))) m (a .symbols) (a .strings) t in
+    (search needs, refl, (omega arith, omega arith), record { same = ap (λ (f : ℕ). every p (walk m t f (a .word))) (sym (c .smaller .ensures)); on = λ h. h })
+
+sub-d : tie.Need-sub-d Inv-loop μ-loop
+sub-d c = search needs
+
+is-marked-requires : tie.Need-is-marked-requires Inv-loop μ-loop
+is-marked-requires c κs =
+    c .before .before .before .before .pre .2
+
+sub-t28 : tie.Need-sub-t28 Inv-loop μ-loop
+sub-t28 c = search needs
 
 returns : tie.Need-returns Inv-loop μ-loop
 returns c =
@@ -66,19 +68,16 @@ returns c =
     let m = now (a .image) in
     let t = Gnu (a .at) (a .buckets) (a .first) (a .blooms) (a .shift) in
     let p = stepOk (isTable (a .b .span) (take (a .b .count) (a .b .segments))) m (a .symbols) (a .strings) t in
-    let k = c .before .before .before .before .before .before .pre .2 (c .if2 .taken) in (
-      sym (l .inv .3 ∙ known-walk m (a .at) (a .buckets) (a .first) (a .blooms) (a .shift) p (a .from) (a .upto) (k .0) (k .1) (l .left) (l .s) (omega arith) (omega arith)),
-      λ h. (join p (a .word) (l .s) (a .upto) (l .inv .4) (λ j lo hi. k .0 j (omega arith) hi), k .1),
-    )
+    let e : a .first + (l .s - a .first) ≡ l .s = omega arith in
+    let h = marked-use (a .step) (λ d. Passes m t p (a .first + d)) (l .s - a .first) (now (a .seen)) (c .before .before .before .before .before .before .pre .4) (c .before .is-marked .ensures (c .if1 .taken)) in
+    let r = gnu-known m t p (every p (walk m t (fuel m t) (a .word))) (a .word) (l .s) (l .left) (l .inv .3) (rw e at h) in
+    (r .0, λ _ _. r .1)
 
-sub-k : tie.Need-sub-k Inv-loop μ-loop
-sub-k c = search needs
+mul-table-off : tie.Need-mul-table-off Inv-loop μ-loop
+mul-table-off c = search needs
 
-mul-k : tie.Need-mul-k Inv-loop μ-loop
-mul-k c = search needs
-
-add-k : tie.Need-add-k Inv-loop μ-loop
-add-k c = search needs
+add-table-off : tie.Need-add-table-off Inv-loop μ-loop
+add-table-off c = search needs
 
 table-off-requires : tie.Need-table-off-requires Inv-loop μ-loop
 table-off-requires c κs = search needs
@@ -86,47 +85,52 @@ table-off-requires c κs = search needs
 returns-2 : tie.Need-returns-2 Inv-loop μ-loop
 unfolding chainOk
 returns-2 c =
-    let a = c .before .before .before .before .before .before .before .args in
-    let l = c .before .before .before .before .loop in
+    let a = c .before .before .before .before .before .before .before .before .args in
+    let l = c .before .before .before .before .before .loop in
     let m = now (a .image) in
     let t = Gnu (a .at) (a .buckets) (a .first) (a .blooms) (a .shift) in
-    let p = stepOk (isTable (a .b .span) (take (a .b .count) (a .b .segments))) m (a .symbols) (a .strings) t in (
-      sym (l .inv .3 ∙ every-no m t p (l .s) (l .left) (c .before .before .before .loop-test .taken) (rw (sym (c .before .table-off .ensures) ∙ not-true _ (c .if3 .taken)))),
-      λ h. absurd (omega arith),
-    )
+    let p = stepOk (isTable (a .b .span) (take (a .b .count) (a .b .segments))) m (a .symbols) (a .strings) t in
+    (gnu-fails m t p (every p (walk m t (fuel m t) (a .word))) (a .word) (l .s) (l .left) (l .inv .3) (c .before .before .before .before .loop-test .taken) (rw (sym (c .before .table-off .ensures) ∙ not-true _ (c .if2 .taken))), never)
 
-symbol-fits-requires : tie.Need-symbol-fits-requires Inv-loop μ-loop
-symbol-fits-requires c κs = search needs
+symbol-in-requires : tie.Need-symbol-in-requires Inv-loop μ-loop
+symbol-in-requires c κs =
+    (search needs, c .before .before .before .before .before .before .before .before .pre .3)
 
 returns-3 : tie.Need-returns-3 Inv-loop μ-loop
 unfolding chainOk
 returns-3 c =
-    let a = c .before .before .before .before .before .before .before .before .before .args in
-    let l = c .before .before .before .before .before .before .loop in
+    let a = c .before .before .before .before .before .before .before .before .before .before .args in
+    let l = c .before .before .before .before .before .before .before .loop in
     let m = now (a .image) in
     let t = Gnu (a .at) (a .buckets) (a .first) (a .blooms) (a .shift) in
-    let p = stepOk (isTable (a .b .span) (take (a .b .count) (a .b .segments))) m (a .symbols) (a .strings) t in (
-      sym (l .inv .3 ∙ every-no m t p (l .s) (l .left) (c .before .before .before .before .before .loop-test .taken)
-          (rw (sym (c .before .before .before .table-off .ensures) ∙ not-false _ (c .before .before .if3 .left)) (sym (c .before .symbol-fits .ensures) ∙ not-true _ (c .if4 .taken)))),
-      λ h. absurd (omega arith),
-    )
+    let p = stepOk (isTable (a .b .span) (take (a .b .count) (a .b .segments))) m (a .symbols) (a .strings) t in
+    (gnu-fails m t p (every p (walk m t (fuel m t) (a .word))) (a .word) (l .s) (l .left) (l .inv .3) (c .before .before .before .before .before .before .loop-test .taken) (rw (sym (c .before .before .before .table-off .ensures) ∙ not-false _ (c .before .before .if2 .left)) (sym (c .before .symbol-in .ensures) ∙ not-true _ (c .if3 .taken))), never)
+
+mul-u32-off : tie.Need-mul-u32-off Inv-loop μ-loop
+mul-u32-off c = search needs
+
+add-u32-off : tie.Need-add-u32-off Inv-loop μ-loop
+add-u32-off c = search needs
 
 u32-off-requires : tie.Need-u32-off-requires Inv-loop μ-loop
 u32-off-requires c κs = search needs
 
+sub-t33 : tie.Need-sub-t33 Inv-loop μ-loop
+sub-t33 c = search needs
+
+add-t34 : tie.Need-add-t34 Inv-loop μ-loop
+add-t34 c = search needs
+
 returns-4 : tie.Need-returns-4 Inv-loop μ-loop
-unfolding chainOk
 returns-4 c =
-    let a = c .before .before .before .before .before .before .before .before .before .before .before .args in
-    let l = c .before .before .before .before .before .before .before .before .loop in
+    let a = c .before .before .before .before .before .before .before .before .before .before .before .before .args in
+    let l = c .before .before .before .before .before .before .before .before .before .loop in
     let m = now (a .image) in
     let t = Gnu (a .at) (a .buckets) (a .first) (a .blooms) (a .shift) in
     let p = stepOk (isTable (a .b .span) (take (a .b .count) (a .b .segments))) m (a .symbols) (a .strings) t in
-    let st = gnu-step (isTable (a .b .span) (take (a .b .count) (a .b .segments))) m (a .symbols) (a .strings) (a .at) (a .buckets) (a .first) (a .blooms) (a .shift) (l .s) (c .before .before .before .before .before .table-off .result) (c .before .before .before .symbol-fits .result) (c .before .before .before .before .before .table-off .ensures) (c .before .before .before .symbol-fits .ensures) (c .before .before .before .before .if3 .left) (c .before .before .if4 .left) in
-    let f = every p (walk m t (fuel m t) (a .word)) in (
-      left-last m t p f (l .s) (l .left) (c .before .u32-off .result) (l .inv .3) (c .before .before .before .before .before .before .before .loop-test .taken) (c .before .u32-off .ensures) st (eq-eqb _ _ (c .if5 .taken)),
-      λ h. (more p (a .word) (l .s) (l .inv .4) st, rw (← c .before .u32-off .ensures) (eq-eqb _ _ (c .if5 .taken))),
-    )
+    let st = gnu-step (isTable (a .b .span) (take (a .b .count) (a .b .segments))) m (a .symbols) (a .strings) (a .at) (a .buckets) (a .first) (a .blooms) (a .shift) (l .s) (c .before .before .before .before .before .table-off .result) (c .before .before .before .symbol-in .result) (c .before .before .before .before .before .table-off .ensures) (c .before .before .before .symbol-in .ensures) (c .before .before .before .before .if2 .left) (c .before .before .if3 .left) in
+    let r = gnu-ends-at m t p (every p (walk m t (fuel m t) (a .word))) (a .word) (l .s) (l .left) (l .inv .3) (c .before .u32-off .result) (c .before .before .before .before .before .before .before .before .loop-test .taken) (c .before .u32-off .ensures) st (eq-eqb _ _ (c .if4 .taken)) in
+    (r .0, λ _ _. r .1)
 
 add-s : tie.Need-add-s Inv-loop μ-loop
 add-s c = search needs
@@ -138,26 +142,23 @@ loop-less : tie.Need-loop-less Inv-loop μ-loop
 loop-less c = search needs
 
 loop-again : tie.Need-loop-again Inv-loop μ-loop
-unfolding chainOk
 loop-again c =
-    let a = c .before .before .before .before .before .before .before .before .before .before .before .args in
-    let l = c .before .before .before .before .before .before .before .before .loop in
+    let a = c .before .before .before .before .before .before .before .before .before .before .before .before .args in
+    let l = c .before .before .before .before .before .before .before .before .before .loop in
     let m = now (a .image) in
     let t = Gnu (a .at) (a .buckets) (a .first) (a .blooms) (a .shift) in
     let p = stepOk (isTable (a .b .span) (take (a .b .count) (a .b .segments))) m (a .symbols) (a .strings) t in
-    let st = gnu-step (isTable (a .b .span) (take (a .b .count) (a .b .segments))) m (a .symbols) (a .strings) (a .at) (a .buckets) (a .first) (a .blooms) (a .shift) (l .s) (c .before .before .before .before .before .table-off .result) (c .before .before .before .symbol-fits .result) (c .before .before .before .before .before .table-off .ensures) (c .before .before .before .symbol-fits .ensures) (c .before .before .before .before .if3 .left) (c .before .before .if4 .left) in
-    let f = every p (walk m t (fuel m t) (a .word)) in (
-      omega arith,
-      omega arith,
-      omega arith,
-      left-on m t p f (l .s) (l .left) (c .before .u32-off .result) (l .inv .3) (c .before .before .before .before .before .before .before .loop-test .taken) (c .before .u32-off .ensures) st (ne-eqb _ _ (c .if5 .left)),
-      λ k lo hi. more p (a .word) (l .s) (l .inv .4) st k lo (omega arith),
-    )
+    let st = gnu-step (isTable (a .b .span) (take (a .b .count) (a .b .segments))) m (a .symbols) (a .strings) (a .at) (a .buckets) (a .first) (a .blooms) (a .shift) (l .s) (c .before .before .before .before .before .table-off .result) (c .before .before .before .symbol-in .result) (c .before .before .before .before .before .table-off .ensures) (c .before .before .before .symbol-in .ensures) (c .before .before .before .before .if2 .left) (c .before .before .if3 .left) in
+    (omega arith, omega arith, (omega arith, omega arith), gnu-turn m t p (every p (walk m t (fuel m t) (a .word))) (a .word) (l .s) (l .left) (l .inv .3) (c .before .u32-off .result) (c .before .before .before .before .before .before .before .before .loop-test .taken) (c .before .u32-off .ensures) st (ne-eqb _ _ (c .if4 .left)))
 
 returns-5 : tie.Need-returns-5 Inv-loop μ-loop
 returns-5 c =
+    let a = c .before .before .before .before .args in
     let l = c .before .loop in
-    (rw (l .inv .3) (sym (every-out _ _ _ (l .s) (l .left) (c .loop-test .left))), λ h. absurd (omega arith))
+    let m = now (a .image) in
+    let t = Gnu (a .at) (a .buckets) (a .first) (a .blooms) (a .shift) in
+    let p = stepOk (isTable (a .b .span) (take (a .b .count) (a .b .segments))) m (a .symbols) (a .strings) t in
+    (gnu-out m t p (every p (walk m t (fuel m t) (a .word))) (a .word) (l .s) (l .left) (l .inv .3) (c .loop-test .left), λ _ h. absurd (omega arith))
 
 pub gnu-walk-spec : {M : Type 1} → statement M
 gnu-walk-spec =
@@ -171,15 +172,21 @@ gnu-walk-spec =
     add-chain-2
     smaller-requires
     loop-holds
+    sub-d
+    is-marked-requires
+    sub-t28
     returns
-    sub-k
-    mul-k
-    add-k
+    mul-table-off
+    add-table-off
     table-off-requires
     returns-2
-    symbol-fits-requires
+    symbol-in-requires
     returns-3
+    mul-u32-off
+    add-u32-off
     u32-off-requires
+    sub-t33
+    add-t34
     returns-4
     add-s
     sub-left

@@ -1,4 +1,4 @@
--- `words::bytes::u64_at` meets its contract: its bytes are those of `leAt`, as that computes.
+-- `words::bytes::u64_at` meets its contract: past the end its bytes are those of `leAt`, as that computes.
 -- Assumes nothing.
 use borrow.Author.Needs.{needs}
 use Rattle.words.specs.Memory.{mem}
@@ -11,8 +11,6 @@ unfolding leAt mem
 u64-at-spec =
     tie.close
     (tie.spec
-    (λ c. search needs) (λ c. search needs) (λ c. search needs) (λ c. search needs) (λ c. search needs) (λ c. search needs) (λ c. search needs) (λ c. search needs)
-    (λ c. search needs) (λ c. search needs) (λ c. search needs) (λ c. search needs) (λ c. search needs) (λ c. search needs) (λ c. search needs) (λ c. search needs)
     (λ c κs. search needs)
     (λ c. search needs)
     (λ c κs. search needs) (λ c κs. search needs) (λ c κs. search needs) (λ c κs. search needs)

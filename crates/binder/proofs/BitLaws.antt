@@ -1,0 +1,39 @@
+-- The words of a bitmap, one bit after the other. Assumes nothing.
+use mathlib.Core.Path.{_≡_, refl}
+use mathlib.Core.Bool.{true, false}
+use mathlib.Core.List.{List}
+use Prim.Native.Nat.{ℕ, zero, suc, _+_, _-_, _/_, _%_, _≤_, _<_}
+use native.Mathlib.Omega.{arith}
+use borrow.Author.Tests.{eq-eqb, ne-eqb}
+use Rattle.object.specs.TableBytes.{inWritable}
+use Rattle.object.specs.declared.program_header.Segment.{Segment}
+use Rattle.binder.specs.declared.turn.Turn.{Turn}
+use Rattle.binder.specs.Relocating.{summed, wordAdded, addBits}
+
+-- one turn: the bit is 0; it is 1, and its word may be written, or not
+module _ (t : Turn) (ss : List Segment) where
+  pub bit-0 : (n p bits : ℕ) (a : List ℕ) → 0 < n → ¬ (bits % 2 ≡ 1) → addBits t ss n p bits a ≡ addBits t ss (n - 1) (p + 8) (bits / 2) a
+  unfolding addBits
+  bit-0 zero p bits a h e = absurd (omega arith)
+  bit-0 (suc n) p bits a h e =
+      let z : suc n - 1 ≡ n = omega arith in
+      rw (z, ne-eqb _ _ e) refl
+
+  pub bit-1 :
+      (n p bits : ℕ) (a : List ℕ) → 0 < n → bits % 2 ≡ 1 → inWritable ss p 8 ≡ true
+      → addBits t ss n p bits a ≡ addBits t ss (n - 1) (p + 8) (bits / 2) (wordAdded t p a)
+  unfolding addBits
+  bit-1 zero p bits a h e w = absurd (omega arith)
+  bit-1 (suc n) p bits a h e w =
+      let z : suc n - 1 ≡ n = omega arith in
+      rw (z, eq-eqb _ _ e, w) refl
+
+  pub refused : (n p bits : ℕ) (a : List ℕ) → 0 < n → bits % 2 ≡ 1 → inWritable ss p 8 ≡ false → addBits t ss n p bits a ≡ summed 17 a
+  unfolding addBits
+  refused zero p bits a h e w = absurd (omega arith)
+  refused (suc n) p bits a h e w = rw (eq-eqb _ _ e, w) refl
+
+  pub none : (n p bits : ℕ) (a : List ℕ) → n ≤ 0 → addBits t ss n p bits a ≡ summed 0 a
+  unfolding addBits
+  none zero p bits a h = refl
+  none (suc n) p bits a h = absurd (omega arith)
