@@ -8,10 +8,6 @@ pub mod FileLaws
 pub mod InsideLaws
 pub mod SoundLaws
 pub mod OrderIs
-pub mod LongerSetLaw
-pub mod LongerQueryLaw
-pub mod CasesHold
-pub mod OrderReported
 pub mod ScopeIs
 pub mod QueryLaws
 pub mod NeedsLaws

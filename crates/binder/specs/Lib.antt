@@ -5,9 +5,6 @@ pub mod Verdict
 pub mod Report
 pub mod SetOrder
 pub mod Bind
-pub mod LongerSet
-pub mod Cases
-pub mod OrderReport
 pub mod Prepared
 pub mod ScopeModel
 pub mod Asked

@@ -8,12 +8,12 @@ use lib.Dec.{eqb}
 use lib.ListN.{length, getD}
 use Rattle.words.specs.Choice.{pick}
 use Rattle.model.specs.Order.{has, Before, Reach, OnceEach}
 use Rattle.binder.specs.declared.Policy.{Policy}
 use Rattle.sheet.specs.Sheet.{Input, setOf}
 use Rattle.binder.specs.Verdict.{noFile}
 use Rattle.binder.specs.SetOrder.{needsOf, setOrder}
 use Rattle.binder.specs.Bind.{filesOf, namesOf}
-use Rattle.binder.specs.LongerSet.{BoundBy}
+use Rattle.demands.specs.LongerSet.{BoundBy}
 
 -- the numbers in a report's words of that kind, in the order of the words
 unfoldable pub numbersOf : ℕ → List ℕ → List ℕ

@@ -16,16 +16,16 @@ use Rattle.model.proofs.Laid.{objs-longer}
 use Rattle.model.proofs.Scope.{resolve-kept}
 use Rattle.sheet.specs.Sheet.{Input, sheetOk, setOf}
 use Rattle.sheet.proofs.SheetLonger.{Longer, sheet-longer}
 use Rattle.binder.specs.declared.Policy.{Policy}
 use Rattle.binder.specs.declared.Reply.{Reply}
 use Rattle.binder.specs.declared.Reply.the-variants.{Found}
 use Rattle.binder.specs.Instance.{File, objectAt}
 use Rattle.binder.specs.Verdict.{Verdict, passed, refused, first}
 use Rattle.binder.specs.Bind.{filesOf, objectsOf, unless, prepareVerdict, replied, replyOf, repliedOf, queryOf}
-use Rattle.binder.specs.LongerSet.{LoadedBy, BoundBy, setObjects, LongerQuery}
+use Rattle.demands.specs.LongerSet.{LoadedBy, BoundBy, setObjects, LongerQuery}
 use Rattle.binder.proofs.OutcomeLaws.{first-passed, unless-passed, bound-passed}
 use Rattle.binder.proofs.FileLaws.{hostFile, fileOf, files-are, files-longer}
 use Rattle.binder.proofs.SoundLaws.{count-is}
 
 -- a query that found a symbol was not refused
 found-passed :

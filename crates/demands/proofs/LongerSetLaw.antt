@@ -9,16 +9,16 @@ use Rattle.model.specs.Relocation.{bound}
 use Rattle.model.specs.Longer.{OnlyProgramCopies, Kept}
 use Rattle.model.proofs.Files.{longer-files}
 use Rattle.sheet.specs.Sheet.{Input, setOf}
 use Rattle.binder.specs.Instance.{File, objectAt}
 use Rattle.binder.specs.Verdict.{passed, loadVerdict, orderVerdict}
 use Rattle.binder.specs.SetOrder.{setOrder}
 use Rattle.binder.specs.Bind.{filesOf, namesOf, objectsOf}
-use Rattle.binder.specs.LongerSet.{LongerSet}
+use Rattle.demands.specs.LongerSet.{LongerSet}
 use Rattle.binder.proofs.OutcomeLaws.{objectsIn, bound-passed}
 use Rattle.sheet.proofs.SheetLonger.{Longer, sheet-longer}
 use Rattle.binder.proofs.FileLaws.{hostFile, fileOf, files-are, files-longer}
 use Rattle.binder.proofs.SoundLaws.{set-sound, set-fits}
 use Rattle.binder.proofs.OrderIs.{names-length, order-is}
 
 -- the two stages that a set passed, of its files and its libraries' names
 abbrev Loads : ℕ → List File → Type 0

@@ -4,8 +4,8 @@ use Rattle.words.specs.Hash.{hashBy, elfHash, gnuHash}
 use Rattle.model.specs.Order.{visit, orderOf}
 use Rattle.object.specs.Entries.{relrOf, bitWords, relrWords, actionOf}
 use Rattle.object.specs.SymbolCount.{countOf}
 use Rattle.binder.specs.Instance.{entryBy}
-use Rattle.binder.specs.Cases.{Cases}
+use Rattle.demands.specs.Cases.{Cases}
 
 pub cases : Cases
 unfolding hashBy elfHash gnuHash relrOf bitWords relrWords actionOf visit orderOf countOf entryBy

@@ -1,0 +1,5 @@
+-- The theorems, one for each statement of specs/.
+pub mod LongerSetLaw
+pub mod LongerQueryLaw
+pub mod CasesHold
+pub mod OrderReported

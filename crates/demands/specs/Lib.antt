@@ -1,0 +1,4 @@
+-- Whole demands, over what the calls of binder answer.
+pub mod LongerSet
+pub mod OrderReport
+pub mod Cases
