@@ -7,7 +7,7 @@ use mathlib.Core.List.{List, [], _∷_, _++_}
 use native.Mathlib.Omega.{arith}
 use lib.ListN.{length, getD}
 use Rattle.model.specs.Order.{has, upFrom, orderOf}
-use Rattle.model.specs.EventStack.{Event, Runs, discoverAll}
+use Rattle.model.specs.EventStack.{Event, Runs, RustOrder}
 use Rattle.model.specs.EventStack.Runs.{done, emits, skips, opens}
 use Rattle.model.proofs.OrderLaws.{has-head, has-cons, clash, nothing-else, order-length}
 use Rattle.model.proofs.OrderStack.{rust-order}
@@ -39,11 +39,8 @@ one-outcome (skips h a) (opens h′ b) = absurd (clash h h′)
 one-outcome (opens h a) (skips h′ b) = absurd (clash h′ h)
 one-outcome (opens h a) (opens h′ b) = one-outcome a b
 
--- so whatever order it ends with, with the program after it that is `orderOf`
-pub rust-order-is :
-    (needs : ℕ → List ℕ) (count : ℕ) (r : List ℕ)
-    → Runs needs count r (discoverAll (upFrom 2 count)) [] []
-    → orderOf needs count ≡ r ++ (1 ∷ [])
+-- so whatever order it ends with is `orderOf`
+pub rust-order-is : RustOrder
 rust-order-is needs count r h =
     let o = rust-order needs count in
     o .2 ∙ ap (λ (l : List ℕ). l ++ (1 ∷ [])) (one-outcome (o .1) h)

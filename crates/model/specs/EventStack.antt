@@ -6,7 +6,7 @@ use mathlib.Core.Path.{_≡_}
 use mathlib.Core.Bool.{true, false, not}
 use mathlib.Core.List.{List, [], _∷_, _++_}
 use Rattle.words.specs.Choice.{pick, both}
-use Rattle.model.specs.Order.{has, listed}
+use Rattle.model.specs.Order.{has, listed, upFrom, orderOf}
 
 pub data Event : Type 0 where
   discover : ℕ → Event
@@ -44,3 +44,9 @@ pub data Runs (needs : ℕ → List ℕ) (count : ℕ) (r : List ℕ) : List Eve
 abbrev pub discoverAll : List ℕ → List Event
 discoverAll [] = []
 discoverAll (k ∷ ks) = discover k ∷ discoverAll ks
+
+-- whatever order the Rust's loop ends with, with the program after it that is `orderOf`
+abbrev pub RustOrder : Type 0
+RustOrder =
+    (needs : ℕ → List ℕ) (count : ℕ) (r : List ℕ) → Runs needs count r (discoverAll (upFrom 2 count)) [] []
+    → orderOf needs count ≡ r ++ (1 ∷ [])

@@ -1,5 +1,5 @@
 -- The walks of a table that is not refused end by themselves: more fuel gives the same list. So `walk` cuts off no walk of such a table.
--- No contract cites this file. Assumes nothing.
+-- `walks-end` is the theorem. Assumes nothing.
 use mathlib.Core.Path.{_≡_, refl, ap}
 use mathlib.Core.Bool.{Bool, true, false}
 use mathlib.Core.List.{List, [], _∷_}
@@ -18,6 +18,7 @@ use Rattle.object.specs.declared.hash_tables.HashTable.the-variants.{Wit
 use Rattle.object.specs.HashCheck.{bucketOk, lengthOk, chainOk, symbolOk, stepOk, tableOk}
 use Rattle.object.specs.HashTable.{bucketCount, bucketAt, chainAt, isLast, next, fuel, walk, walkFrom, reached}
 use Rattle.object.specs.TableBytes.{tableBytes}
+use Rattle.object.specs.WalksEnd.{WalksEnd}
 use Rattle.object.proofs.Ranges.{below-at}
 use Rattle.object.proofs.CheckLaws.{clauses, walk-clauses}
 
@@ -90,14 +91,7 @@ sysv-ends m at n c s k e =
     let l = leb-true (length (walk m (SysV at n c) (c + 1) s)) c e in
     walk-ended m (SysV at n c) k (c + 1) s (omega arith)
 
--- No walk of a table that is not refused is cut off: with more fuel each gives the same list. Table bytes lie in an image of at most 2^28
--- bytes.
-pub walks-end :
-    (isT : ℕ → Bool) (m : List ℕ) → ((i : ℕ) → isT i ≡ true → i < length m) → length m ≤ 2 ^ 28
-    → (symbols strings : ℕ) (t : HashTable) → tableOk isT m symbols strings t ≡ true
-    → (i : ℕ) → i < bucketCount t
-    → (k : ℕ)
-    → pick (eqb (leAt 4 (mem m) (bucketAt t i)) 0) [] (walk m t (fuel m t + k) (leAt 4 (mem m) (bucketAt t i))) ≡ reached m t i
+pub walks-end : WalksEnd
 unfolding walkFrom bucketOk lengthOk tableBytes
 walks-end isT m inside small symbols strings Without ok i l k = absurd (not-suc-le-zero l)
 walks-end isT m inside small symbols strings (SysV at n c) ok i l k = go (eqb w 0) refl

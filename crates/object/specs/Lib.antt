@@ -13,6 +13,7 @@ pub mod FieldSteps
 pub mod Symbol
 pub mod HashTable
 pub mod HashCheck
+pub mod WalksEnd
 pub mod SymbolCount
 pub mod Marks
 pub mod Record
