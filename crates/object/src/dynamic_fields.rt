@@ -7,7 +7,7 @@ ghost use lib.ListN.{take};
 ghost use Rattle.object.specs.DynamicFields.{needsOf, Needed};
 ghost use Rattle.object.specs.LoadTable.{segmentsIn};
 ghost use Rattle.object.specs.FineRange.{FineOf};
-ghost use Rattle.object.specs.Record.{heldBy, viewOf, entryCount, tableIn, recordIn, fieldsRefusal, fieldIs, needsOk, relocationsOk, tablesOk, BoundsOf, RelocationCounts, ReadBy, indexOk, checkedSymbol};
+ghost use Rattle.object.specs.Record.{heldBy, noRecord, viewOf, entryCount, tableIn, recordIn, fieldsRefusal, fieldIs, needsOk, relocationsOk, tablesOk, BoundsOf, RelocationCounts, ReadBy, indexOk, checkedSymbol};
 use crate::dynamic_array::DynamicFields;
 use crate::dynamic_array::Field;
 use crate::dynamic_array::Needs;
@@ -40,7 +40,7 @@ pub struct ObjectData {
     pub relrs: usize,
 }
 
-// The answer of reading: a refusal of 9 to 12, or 0 with the record.
+// The answer of reading: a refusal of 9 to 12 with a record of zeros, or 0 with the record.
 pub struct Read {
     pub refusal: u32,
     pub object: ObjectData,
@@ -232,7 +232,7 @@ fn tables_ok(image: &[u8], o: ObjectData, host: bool) -> bool
 
 // A refusal, with a record of zeros.
 pub(crate) fn refused(number: u32) -> Read
-    ensures { λ r. ⌜ r .refusal ≡ number ⌝ }
+    ensures { λ r. ⌜ (r .refusal ≡ number) × (heldBy (r .object) ≡ noRecord) ⌝ }
 {
     let none = Segment {
         offset: 0,
