@@ -310,7 +310,7 @@ fn larger(a: u32, b: u32) -> u32
 }
 
 // The largest word of the buckets.
-pub fn highest_bucket(
+pub(crate) fn highest_bucket(
     image: &[u8],
     at: usize,
     buckets: u32,

@@ -117,7 +117,7 @@ fn last_zero(image: &[u8], end: usize) -> usize
 }
 
 // One past the last zero byte before each segment, and before the span's end.
-pub fn last_zeros(image: &[u8], b: Bounds, zeros: &mut [usize; 17])
+pub(crate) fn last_zeros(image: &[u8], b: Bounds, zeros: &mut [usize; 17])
     requires { ⌜ length (now zeros) ≡ 17 ⌝ }
     ensures { λ _. ⌜ LastZeros (mem (now (image .entry))) (b .span) (b .segments) (now (zeros .exit)) ⌝ }
 {
@@ -184,7 +184,14 @@ pub(crate) fn run_from(image: &[u8], b: Bounds, p: usize) -> Run
 }
 
 // Whether the `k` bytes from `p`, and the name at `q` with its zero byte, are in table bytes: no byte of the name is read.
-pub fn both_in(image: &[u8], b: Bounds, zeros: &[usize; 17], p: usize, k: usize, q: usize) -> bool
+pub(crate) fn both_in(
+    image: &[u8],
+    b: Bounds,
+    zeros: &[usize; 17],
+    p: usize,
+    k: usize,
+    q: usize,
+) -> bool
     requires { ⌜ (p < b .span) × (q < b .span) × LastZeros (mem (now image)) (b .span) (b .segments) (now zeros) ⌝ }
     ensures { λ r. ⌜ r ≡ both (tableBytes (isTable (b .span) (take (b .count) (b .segments))) p k) (tableName (isTable (b .span) (take (b .count) (b .segments))) (now (image .entry)) q) ⌝ }
 {
