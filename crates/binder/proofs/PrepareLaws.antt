@@ -22,6 +22,7 @@ use Rattle.object.specs.Placed.{segmentsOf, objectSpan, objectBytes, objectImag
 use Rattle.object.specs.Record as recordIs
 use Rattle.object.specs.Record.{Record, heldBy, viewOf}
 use Rattle.object.specs.Loaded.{objectRecord, objectRefusal, LoadedBy}
+use Rattle.object.proofs.LoadedLaws.{loaded-part}
 use Rattle.sheet.specs.Sheet.{Input, noInput}
 use Rattle.binder.specs.Instance.{File, recordOf}
 use Rattle.binder.specs.Verdict.{passed, refused, first, verdict, loadVerdict, noFile}
@@ -77,7 +78,7 @@ loaded-at host file off a ys r v l h e =
       refusal = h .refusal ∙ ap (λ (n : ℕ). objectRefusal host n file) (part-length a off);
       seat = λ z. seat (h .object z);
       arena = λ z.
-          ap mem (put-tail a off 0 (objectSpan host file) (objectBytes host file) l (h .part z))
+          ap mem (put-tail a off 0 (objectSpan host file) (objectBytes host file) l (loaded-part host file _ ys r h z))
           ∙ (mem-patch a (off + 0) (objectSpan host file) (objectBytes host file) (omega (arith, room z))
           ∙ ap (λ (n : ℕ). write (mem a) n (objectSpan host file) (objectBytes host file)) (add-zero off));
       fits = λ z. omega (arith, room z);

@@ -9,7 +9,7 @@ use native.Mathlib.Decide.{decLt, ℕ-discrete}
 use borrow.Author.Tests.{eq-eqb, ne-eqb, lt-ltb, le-ltb}
 use lib.Dec.{eqb, ltb}
 use lib.ListN.{length, take, set, length-set}
-use lib.Seq.{take-suc-set}
+use lib.Seq.{take-all, take-at, take-suc-set}
 use Rattle.words.specs.Choice.{pick}
 use Rattle.words.specs.Memory.{mem}
 use Rattle.words.specs.Words.{leAt}
@@ -52,12 +52,13 @@ ended-step o tag v = refl
 
 -- ---- the needs
 
--- what the table holds and what is left make the whole; past 64 only the count is told
+-- what the table holds and what is left make the whole; past 64 the table holds the first 64
 pub record Left (whole : List ℕ) (n : Needs) (left : List ℕ) : Type 0 where
   pub room : length (n .list) ≡ 64
   pub most : n .count ≤ 65
   pub count : min (n .count + length left) 65 ≡ min (length whole) 65
-  pub list : n .count + length left ≤ 64 → take (n .count) (n .list) ++ left ≡ whole
+  pub list : n .count ≤ 64 → take (n .count) (n .list) ++ left ≡ whole
+  pub full : 64 < n .count → n .list ≡ take 64 whole
 
 pub left-all : (whole : List ℕ) (n : Needs) → Left whole n [] → Needed whole n
 left-all whole n h =
@@ -65,11 +66,12 @@ left-all whole n h =
       count = omega (arith, h .count, h .most);
       room = h .room;
       list = λ l. sym (append-nil (take (n .count) (n .list))) ∙ h .list (omega (arith, h .count, h .most));
+      more = λ l. h .full (omega (arith, h .count, h .most));
     }
 
 pub left-none : (whole : List ℕ) (n : Needs) → length (n .list) ≡ 64 → n .count ≡ 0 → Left whole n whole
 left-none whole n l z =
-    record { room = l; most = omega arith; count = omega arith; list = λ h. rw z }
+    record { room = l; most = omega arith; count = omega arith; list = λ h. rw z; full = λ h. absurd (omega arith) }
 
 -- a need takes the next place, or past 64 is only counted
 left-one :
@@ -95,10 +97,18 @@ left-one whole n v left h = go (decLt (n .count) 64)
               ∙ ap (λ (l : List ℕ). l ++ left) (take-suc-set (n .list) (n .count) v inside)
               ∙ append-assoc (take (n .count) (n .list)) (v ∷ []) left
               ∙ h .list (omega arith);
+          full = λ g. absurd (omega arith);
         })
     go (no l) =
         rw (le-ltb (n .count) 64 (omega arith))
-        (record { room = h .room; most = omega arith; count = omega (arith, h .count); list = λ g. absurd (omega arith) })
+        (record { room = h .room; most = omega arith; count = omega (arith, h .count); list = λ g. absurd (omega arith); full = λ g. held (decLt 64 (n .count)) })
+      where
+        held : Dec (64 < n .count) → n .list ≡ take 64 whole
+        held (yes m) = h .full m
+        held (no m) =
+            let all : take (n .count) (n .list) ≡ n .list = take-all (n .count) (n .list) (omega (arith, h .room)) in
+            let e : n .list ++ (v ∷ left) ≡ whole = rw all at (h .list (omega arith)) in
+            sym (ap (take 64) (sym e) ∙ take-at (n .list) (v ∷ left) 64 (h .room))
 
 needs-other : (n : Needs) (tag v : ℕ) → (tag ≡ 1 → ⊥) → needStep n tag v ≡ n
 unfolding needStep

@@ -1,5 +1,5 @@
 -- The PT_LOAD headers and the last PT_DYNAMIC of a file, header by header. Assumes nothing.
-use mathlib.Core.Path.{_≡_, ap, _∙_}
+use mathlib.Core.Path.{_≡_, sym, ap, _∙_}
 use mathlib.Core.List.{List, [], _∷_, _++_, append-nil}
 use Prim.Native.Nat.{ℕ, zero, suc, _+_, _≤_, _<_}
 use native.Mathlib.Omega.{arith}
@@ -7,7 +7,7 @@ use native.Mathlib.Decide.{decLe}
 use native.Mathlib.Numerals.{add-one}
 use borrow.Author.Tests.{eq-eqb, ne-eqb}
 use lib.ListN.{length, take, set, length-append}
-use lib.Seq.{take-suc-set}
+use lib.Seq.{take-length, take-append-le, take-suc-set}
 use Rattle.object.specs.Header.{headerCount}
 use Rattle.object.specs.ProgramHeader.{typeAt, segmentAt, loadsIn, loadsOf, dynamicIn}
 use Rattle.object.specs.LoadTable.{segmentsIn, Loaded}
@@ -39,6 +39,17 @@ loads-grow file i (suc n) h = go (decLe i n) (λ l. loads-grow file i n l)
     go (yes l) ih = omega (arith, ih l, loads-more file n)
     go (no l) ih = let e : i ≡ suc n = omega arith in rw e (omega arith)
 
+-- and start with the same
+loads-front : (file : List ℕ) (i n : ℕ) → i ≤ n → take (length (loadsIn file i)) (loadsIn file n) ≡ loadsIn file i
+unfolding loadsIn
+loads-front file i zero h = let e : i ≡ 0 = omega arith in rw e (take-length (loadsIn file 0))
+loads-front file i (suc n) h = go (decLe i n) (λ l. loads-front file i n l)
+  where
+    go : Dec (i ≤ n) → (i ≤ n → take (length (loadsIn file i)) (loadsIn file n) ≡ loadsIn file i)
+        → take (length (loadsIn file i)) (loadsIn file (suc n)) ≡ loadsIn file i
+    go (yes l) ih = take-append-le (length (loadsIn file i)) (loadsIn file n) _ (loads-grow file i n l) ∙ ih l
+    go (no l) ih = let e : i ≡ suc n = omega arith in rw e (take-length (loadsIn file (suc n)))
+
 -- a table with the segment of header `i` as its next
 module _ (file : List ℕ) (i : ℕ) (l : Loads) (few : l .count < 16) (room : length (l .list) ≡ 16) (same : segmentsIn l ≡ loadsIn file i) where
   pub table-more :
@@ -62,15 +73,17 @@ pub loaded-all :
     → Loaded (loadsOf file) l
 loaded-all file i l e c few room same =
     let g : loadsIn file i ≡ loadsOf file = ap (loadsIn file) e in
-    record { count = omega (arith, ap length g); room = room; list = λ h. same ∙ g }
+    record { count = omega (arith, ap length g); room = room; list = λ h. same ∙ g; more = λ h. absurd (omega (arith, ap length g)) }
 
 pub loaded-over :
     (file : List ℕ) (i : ℕ) (l : Loads) → i < headerCount file → length (loadsIn file i) ≡ 16 → typeAt file i ≡ 1 → l .count ≡ 17
     → length (l .list) ≡ 16
+    → l .list ≡ loadsIn file i
     → Loaded (loadsOf file) l
-loaded-over file i l h full t c room =
+loaded-over file i l h full t c room same =
     let g = table-over file i (headerCount file) full t h in
-    record { count = omega (arith, g); room = room; list = λ k. absurd (omega (arith, g)) }
+    let f = loads-front file i (headerCount file) (omega arith) in
+    record { count = omega (arith, g); room = room; list = λ k. absurd (omega (arith, g)); more = λ k. same ∙ sym (rw full at f) }
 
 -- ---- PT_DYNAMIC
 

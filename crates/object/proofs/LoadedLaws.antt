@@ -16,12 +16,13 @@ use Rattle.object.specs.ProgramHeader.{loadsOf, dynamicOf}
 use Rattle.object.specs.LoadTable.{segmentsIn}
 use Rattle.object.specs.Segments.{segmentsOk}
 use Rattle.object.specs.Placed.{segmentsOf, objectSpan, objectBytes, objectImage, placeRefusal, PlacedBy}
-use Rattle.object.specs.Record.{readRefusal, ReadBy}
+use Rattle.object.specs.Record.{heldBy, noRecord, readRefusal, ReadBy}
 use Rattle.object.specs.Loaded.{objectRecord, objectRefusal, LoadedBy}
 use Rattle.object.specs.declared.program_header.Dynamic.{Dynamic}
 use Rattle.object.specs.declared.object_data.Placed.{Placed}
 use Rattle.object.specs.declared.dynamic_fields.Read.{Read}
 use Rattle.object.proofs.RefusalLaws.{required, after-met, after-none, after-zero}
+use Rattle.object.proofs.PlaceLaws.{part-placed}
 
 module _ (host : Bool) (file : List ℕ) where
   -- refusal 8 passed: there is room for the span
@@ -40,17 +41,26 @@ module _ (host : Bool) (file : List ℕ) where
       → take (objectSpan host file) exit ≡ objectImage host file
   image-placed entry exit fits e = rw e (take-patch entry (objectSpan host file) (objectBytes host file) fits)
 
+-- an object that is loaded was placed
+pub loaded-part :
+    (host : Bool) (file entry exit : List ℕ) (r : Read) → LoadedBy host file entry exit r → r .refusal ≡ 0
+    → exit ≡ patch entry 0 (objectSpan host file) (objectBytes host file)
+unfolding objectRefusal
+loaded-part host file entry exit r h z =
+    h .part ∙ part-placed host file entry (after-zero (placeRefusal host (length entry) file) _ (sym (h .refusal) ∙ z) .0)
+
 -- ---- loading: placing, then reading
 
 module _ (host : Bool) (file entry exit : List ℕ) (p : Placed) (h : PlacedBy host file entry exit p) where
-  pub load-refused : (p .refusal ≡ 0 → ⊥) → (r : Read) → r .refusal ≡ p .refusal → LoadedBy host file entry exit r
+  pub load-refused : (p .refusal ≡ 0 → ⊥) → (r : Read) → r .refusal ≡ p .refusal → heldBy (r .object) ≡ noRecord → LoadedBy host file entry exit r
   unfolding objectRefusal
-  load-refused ne r e =
+  load-refused ne r e o =
       let n : placeRefusal host (length entry) file ≡ 0 → ⊥ = λ z. ne (h .refusal ∙ z) in
       record {
         refusal = e ∙ (h .refusal ∙ sym (after-met (placeRefusal host (length entry) file) _ n));
         object = λ z. absurd (ne (sym e ∙ z));
-        part = λ z. absurd (ne (sym e ∙ z));
+        none = λ _. o;
+        part = h .part;
         fits = λ z. absurd (ne (sym e ∙ z));
       }
 
@@ -58,8 +68,11 @@ module _ (host : Bool) (file entry exit : List ℕ) (p : Placed) (h : PlacedBy h
     room : objectSpan host file ≤ length entry
     room = place-fits host file (length entry) (sym (h .refusal) ∙ z)
 
+    placed : exit ≡ patch entry 0 (objectSpan host file) (objectBytes host file)
+    placed = h .part ∙ part-placed host file entry (sym (h .refusal) ∙ z)
+
     pub load-fits : p .span ≤ length exit
-    load-fits = omega (arith, room, h .span z, ap length (h .part z), length-patch entry 0 (objectSpan host file) (objectBytes host file))
+    load-fits = omega (arith, room, h .span z, ap length placed, length-patch entry 0 (objectSpan host file) (objectBytes host file))
 
     pub load-read :
         (r : Read) (d : Dynamic) → d ≡ dynamicOf file → ReadBy host (take (p .span) exit) (segmentsIn (p .loads)) d r
@@ -67,7 +80,7 @@ module _ (host : Bool) (file entry exit : List ℕ) (p : Placed) (h : PlacedBy h
     unfolding objectRefusal objectRecord
     load-read r d ed read =
         let image : take (p .span) exit ≡ objectImage host file =
-        rw (h .span z) (image-placed host file entry exit room (h .part z)) in
+        rw (h .span z) (image-placed host file entry exit room placed) in
         let told = rw (image, h .segments z, ed) at read in
         record {
           refusal =
@@ -75,6 +88,7 @@ module _ (host : Bool) (file entry exit : List ℕ) (p : Placed) (h : PlacedBy h
               ∙ sym (after-none (placeRefusal host (length entry) file)
               (readRefusal host (objectImage host file) (segmentsOf host file) (dynamicOf file)) (sym (h .refusal) ∙ z));
           object = told .object;
-          part = λ _. h .part z;
+          none = told .none;
+          part = h .part;
           fits = λ _. room;
         }

@@ -18,7 +18,7 @@ use Rattle.object.proofs.RefusalLaws.{after-met}
 use Rattle.object.specs.ProgramHeader.{loadsOf}
 use Rattle.object.specs.LoadTable.{segmentsIn, Loaded}
 use Rattle.object.specs.Segments.{holdsHeaders, segmentOk, allApart, segmentsOk, spanOf, placeSegments, placedOf}
-use Rattle.object.specs.Placed.{segmentsOf, objectSpan, objectBytes, placeRefusal, PlacedBy}
+use Rattle.object.specs.Placed.{segmentsOf, objectSpan, objectBytes, placeRefusal, placedPart, PlacedBy}
 use Rattle.object.specs.declared.program_header.Segment.{Segment}
 use Rattle.object.specs.declared.program_header.Loads.{Loads}
 use Rattle.object.specs.declared.object_data.Placed.{Placed}
@@ -94,18 +94,29 @@ module _ (host : Bool) (file : List ℕ) (room : ℕ) where
 
 -- ---- what placing leaves
 
+module _ (host : Bool) (file entry : List ℕ) where
+  pub part-placed : placeRefusal host (length entry) file ≡ 0
+      → placedPart host file entry ≡ patch entry 0 (objectSpan host file) (objectBytes host file)
+  unfolding placedPart
+  part-placed z = rw (eq-eqb _ _ z)
+
+  pub part-kept : (placeRefusal host (length entry) file ≡ 0 → ⊥) → placedPart host file entry ≡ entry
+  unfolding placedPart
+  part-kept ne = rw (ne-eqb _ _ ne)
+
 pub refused-by :
     (host : Bool) (file part : List ℕ) (r : Placed) (n : ℕ) → (n ≡ 0 → ⊥) → placeRefusal host (length part) file ≡ n → r .refusal ≡ n
+    → r .span ≡ 0
     → r .loads .count ≡ 0
     → PlacedBy host file part part r
-refused-by host file part r n ne p e z =
+refused-by host file part r n ne p e s z =
     record {
       refusal = e ∙ sym p;
-      part = λ h. absurd (ne (sym e ∙ h));
+      part = sym (part-kept host file part (λ h. ne (sym p ∙ h)));
       span = λ h. absurd (ne (sym e ∙ h));
       segments = λ h. absurd (ne (sym e ∙ h));
       few = omega arith;
-      kept = λ h. refl;
+      none = λ h. (s, ap (λ (k : ℕ). take k (r .loads .list)) z);
     }
 
 pub placed-by :
@@ -118,11 +129,11 @@ pub placed-by :
 placed-by host file entry exit r p e x s l f =
     record {
       refusal = e ∙ sym p;
-      part = λ h. x;
+      part = x ∙ sym (part-placed host file entry p);
       span = λ h. s;
       segments = λ h. l;
       few = f;
-      kept = λ h. absurd (h e);
+      none = λ h. absurd (h e);
     }
 
 -- ---- the host

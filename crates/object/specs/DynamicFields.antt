@@ -4,7 +4,7 @@
 use mathlib.Core.Bool.{Bool, false}
 use mathlib.Core.List.{List}
 use mathlib.Core.Path.{_≡_}
-use Prim.Native.Nat.{ℕ, _≤_, min}
+use Prim.Native.Nat.{ℕ, _≤_, _<_, min}
 use lib.ListN.{length, take}
 use Rattle.object.specs.declared.dynamic_array.DynamicFields.{DynamicFields}
 use Rattle.object.specs.declared.dynamic_array.Needs.{Needs}
@@ -71,8 +71,9 @@ fieldsOf image at = fieldsFrom noFields (endsInside image at) (itemsOf image at)
 abbrev pub needsOf : List ℕ → ℕ → List ℕ
 needsOf image at = allOf 1 (itemsOf image at)
 
--- the table of needs that the code keeps: "up to 64 needed offsets"; a count of 65 says that there are more
+-- the table of needs that the code keeps: "up to 64 needed offsets"; a count of 65 says that there are more, and the first 64 are held
 pub record Needed (needs : List ℕ) (n : Needs) : Type 0 where
   pub count : n .count ≡ min (length needs) 65
   pub room : length (n .list) ≡ 64
   pub list : length needs ≤ 64 → take (n .count) (n .list) ≡ needs
+  pub more : 64 < length needs → n .list ≡ take 64 needs

@@ -17,6 +17,7 @@ pub mod WalksEnd
 pub mod SymbolCount
 pub mod Marks
 pub mod Record
+pub mod FineRange
 pub mod Loaded
 pub mod Entries
 pub mod Invariant

@@ -2,7 +2,7 @@
 -- Assumes nothing.
 use mathlib.Core.Path.{_≡_}
 use mathlib.Core.List.{List}
-use Prim.Native.Nat.{ℕ, _≤_, min}
+use Prim.Native.Nat.{ℕ, _≤_, _<_, min}
 use lib.ListN.{length, take}
 use Rattle.object.specs.declared.program_header.Segment.{Segment}
 use Rattle.object.specs.declared.program_header.Loads.{Loads}
@@ -15,8 +15,9 @@ noSegment = record { offset = 0; vaddr = 0; filesz = 0; memsz = 0; flags = 0 }
 abbrev pub segmentsIn : Loads → List Segment
 segmentsIn l = take (l .count) (l .list)
 
--- the table holds those segments, or a count of 17 where there are more than 16
+-- the table holds those segments, or the first 16 and a count of 17 where there are more
 pub record Loaded (segments : List Segment) (l : Loads) : Type 0 where
   pub count : l .count ≡ min (length segments) 17
   pub room : length (l .list) ≡ 16
   pub list : length segments ≤ 16 → segmentsIn l ≡ segments
+  pub more : 16 < length segments → l .list ≡ take 16 segments

@@ -6,11 +6,10 @@ use mathlib.Core.List.{List}
 use mathlib.Core.Path.{_≡_}
 use Prim.Native.Nat.{ℕ, _≤_}
 use lib.ListN.{length}
-use Rattle.words.specs.Memory.{patch}
 use Rattle.object.specs.Refusal.{after}
 use Rattle.object.specs.ProgramHeader.{dynamicOf}
-use Rattle.object.specs.Placed.{segmentsOf, objectSpan, objectBytes, objectImage, placeRefusal}
-use Rattle.object.specs.Record.{Record, heldBy, readRefusal, recordOf}
+use Rattle.object.specs.Placed.{segmentsOf, objectSpan, objectImage, placeRefusal, placedPart}
+use Rattle.object.specs.Record.{Record, heldBy, noRecord, readRefusal, recordOf}
 use Rattle.object.specs.declared.dynamic_fields.Read.{Read}
 
 -- the record of a file
@@ -25,7 +24,9 @@ objectRefusal host room file =
 -- what loading answers, and what it leaves in the part of the arena that it is lent
 pub record LoadedBy (host : Bool) (file entry exit : List ℕ) (r : Read) : Type 0 where
   pub refusal : r .refusal ≡ objectRefusal host (length entry) file
-  -- not refused: the record, and the span's bytes are the placed ones, all others as they were
   pub object : r .refusal ≡ 0 → heldBy (r .object) ≡ objectRecord host file
-  pub part : r .refusal ≡ 0 → exit ≡ patch entry 0 (objectSpan host file) (objectBytes host file)
+  -- refused: no record
+  pub none : (r .refusal ≡ 0 → ⊥) → heldBy (r .object) ≡ noRecord
+  -- what placing leaves, where reading refuses too: as it was after 4 to 8, the placed bytes after 9 to 12
+  pub part : exit ≡ placedPart host file entry
   pub fits : r .refusal ≡ 0 → objectSpan host file ≤ length entry

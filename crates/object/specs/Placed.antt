@@ -39,13 +39,18 @@ placeRefusal host room file =
     (require (pick host (eqb (length file % pageSize) 0) (segmentsOk file (loadsOf file))) 7
     (require (leb (objectSpan host file) room) 8 0))
 
--- what placing answers, and what it leaves in the part of the arena that it is lent
+-- what placing leaves of the part of the arena that it is lent: the span's bytes are the placed ones, all others as they were; where it
+-- refuses, every byte is as it was
+unfoldable pub placedPart : Bool → List ℕ → List ℕ → List ℕ
+placedPart host file entry =
+    pick (eqb (placeRefusal host (length entry) file) 0) (patch entry 0 (objectSpan host file) (objectBytes host file)) entry
+
+-- what placing answers, and what it leaves in that part
 pub record PlacedBy (host : Bool) (file entry exit : List ℕ) (r : Placed) : Type 0 where
   pub refusal : r .refusal ≡ placeRefusal host (length entry) file
-  -- not refused: the span's bytes are the placed ones, all others as they were
-  pub part : r .refusal ≡ 0 → exit ≡ patch entry 0 (objectSpan host file) (objectBytes host file)
+  pub part : exit ≡ placedPart host file entry
   pub span : r .refusal ≡ 0 → r .span ≡ objectSpan host file
   pub segments : r .refusal ≡ 0 → segmentsIn (r .loads) ≡ segmentsOf host file
   pub few : r .loads .count ≤ 16
-  -- refused: every byte is as it was
-  pub kept : (r .refusal ≡ 0 → ⊥) → exit ≡ entry
+  -- refused: no span, no segments
+  pub none : (r .refusal ≡ 0 → ⊥) → (r .span ≡ 0) × (segmentsIn (r .loads) ≡ [])

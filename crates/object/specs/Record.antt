@@ -1,7 +1,7 @@
 -- The object record, and refusals 9 to 12. Document 01, "The object record"; System V gABI, "Dynamic Section". "Pointers are offsets
 -- from base." Sums of offsets are natural numbers: a table that starts outside the span is outside. Assumes nothing.
 use mathlib.Core.Bool.{Bool, true}
-use mathlib.Core.List.{List}
+use mathlib.Core.List.{List, []}
 use mathlib.Core.Path.{_≡_}
 use Prim.Native.Nat.{ℕ, _+_, _*_, _/_, _^_, _<_}
 use lib.Dec.{eqb, leb, ltb}
@@ -70,6 +70,25 @@ heldBy o =
       plts = o .plts;
       relr = o .relr;
       relrs = o .relrs;
+    }
+
+-- the record of no object: what is answered beside a refusal
+abbrev pub noRecord : Record
+noRecord =
+    record {
+      segments = [];
+      needed = [];
+      span = 0;
+      strings = 0;
+      symbols = 0;
+      table = Without;
+      known = Unknown;
+      rela = 0;
+      relas = 0;
+      plt = 0;
+      plts = 0;
+      relr = 0;
+      relrs = 0;
     }
 
 -- "Counts are byte sizes divided by 24 (RELA, PLT) or 8 (RELR), 0 where the size or the pointer is missing"; a missing size is 0
@@ -168,6 +187,8 @@ recordOf image segments (At at) = recordIn image segments (fieldsOf image at) (n
 pub record ReadBy (host : Bool) (image : List ℕ) (segments : List Segment) (d : Dynamic) (r : Read) : Type 0 where
   pub refusal : r .refusal ≡ readRefusal host image segments d
   pub object : r .refusal ≡ 0 → heldBy (r .object) ≡ recordOf image segments d
+  -- refused: no record
+  pub none : (r .refusal ≡ 0 → ⊥) → heldBy (r .object) ≡ noRecord
 
 -- ---- what an entry and a need name
 

@@ -90,7 +90,7 @@ fn named(image: &[u8], symbols: usize, strings: usize, s: usize, name: &[u8]) ->
     ensures { λ r. ⌜ r ≡ sameBytes (symbolName (now (image .entry)) symbols strings s) (now (name .entry)) ⌝ }
 {
     let at = words::bytes::u32_off(image, symbols, 24 * s);
-    words::names::same(words::names::name_off(image, strings, at as usize), name)
+    words::names::same_at(image, strings, at as usize, name)
 }
 
 // The place of a hash among `n`.
@@ -310,7 +310,7 @@ fn larger(a: u32, b: u32) -> u32
 }
 
 // The largest word of the buckets.
-pub fn highest_bucket(
+pub(crate) fn highest_bucket(
     image: &[u8],
     at: usize,
     buckets: u32,

@@ -7,7 +7,8 @@ ghost use Rattle.object.specs.Loaded.{LoadedBy};
 use crate::dynamic_fields::Read;
 use crate::program_header::Loads;
 
-// The answer of placing: a refusal of 4 to 8, or 0 with the span and the load segments, of which the host has none.
+// The answer of placing: a refusal of 4 to 8 with no span and no segments, or 0 with the span and the load segments, of which the host has
+// none.
 pub struct Placed {
     pub refusal: u32,
     pub span: usize,
@@ -15,7 +16,7 @@ pub struct Placed {
 }
 
 fn refused(number: u32) -> Placed
-    ensures { λ r. ⌜ (r .refusal ≡ number) × (r .loads .count ≡ 0) ⌝ }
+    ensures { λ r. ⌜ (r .refusal ≡ number) × (r .span ≡ 0) × (r .loads .count ≡ 0) ⌝ }
 {
     Placed {
         refusal: number,

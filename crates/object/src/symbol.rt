@@ -1,6 +1,7 @@
 // Symbols: port of symbol.rs and section.rs. Bytes past the image's end read as 0.
 ghost use mathlib.Core.Path.{_≡_};
-ghost use Prim.Native.Nat.{_+_, _*_};
+ghost use Prim.Native.Nat.{_+_, _*_, _≤_};
+ghost use lib.ListN.{length};
 ghost use Rattle.object.specs.Symbol.{symbolFrom, symbolAt, symbolName, bindingOf, isDefined, isPublic, isVisible, isExported};
 
 pub struct Symbol {
@@ -12,11 +13,25 @@ pub struct Symbol {
     pub size: u64,
 }
 
-// The symbol whose bytes stand `k` places after `at`.
-pub fn symbol_off(image: &[u8], at: usize, k: usize) -> Symbol
-    ensures { λ r. ⌜ r ≡ symbolFrom (now (image .entry)) (at + k) ⌝ }
+// The symbol whose bytes stand at `p`, all of them in the image.
+fn symbol_in(image: &[u8], p: usize) -> Symbol
+    requires { ⌜ p + 24 ≤ length (now image) ⌝ }
+    ensures { λ r. ⌜ r ≡ symbolFrom (now (image .entry)) p ⌝ }
 {
-    let p = words::bytes::place(image.len(), at, k);
+    Symbol {
+        name: words::bytes::u32_in(image, p + 0),
+        info: image[p + 4],
+        other: image[p + 5],
+        section: words::bytes::u16_in(image, p + 6),
+        value: words::bytes::u64_in(image, p + 8),
+        size: words::bytes::u64_in(image, p + 16),
+    }
+}
+
+// The symbol whose bytes stand at `p`, some of them past the image's end.
+fn symbol_over(image: &[u8], p: usize) -> Symbol
+    ensures { λ r. ⌜ r ≡ symbolFrom (now (image .entry)) p ⌝ }
+{
     Symbol {
         name: words::bytes::u32_off(image, p, 0),
         info: words::bytes::byte_at(image, p, 4),
@@ -25,6 +40,18 @@ pub fn symbol_off(image: &[u8], at: usize, k: usize) -> Symbol
         value: words::bytes::u64_off(image, p, 8),
         size: words::bytes::u64_off(image, p, 16),
     }
+}
+
+// The symbol whose bytes stand `k` places after `at`.
+pub fn symbol_off(image: &[u8], at: usize, k: usize) -> Symbol
+    ensures { λ r. ⌜ r ≡ symbolFrom (now (image .entry)) (at + k) ⌝ }
+{
+    let n = image.len();
+    let p = words::bytes::place(n, at, k);
+    if n - p < 24 {
+        return symbol_over(image, p);
+    }
+    symbol_in(image, p)
 }
 
 // Symbol `s` of the table at `symbols`.

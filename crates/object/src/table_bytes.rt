@@ -7,7 +7,7 @@ ghost use Rattle.words.specs.Choice.{both, below};
 ghost use Rattle.words.specs.Memory.{mem};
 ghost use Rattle.object.specs.TableBytes.{isWritable, holdsRange, isTable, tableBytes, tableName, inWritable};
 ghost use Rattle.object.specs.WritableRange.{WritableRange};
-ghost use Rattle.object.specs.LastZero.{LastZero, LastZeros, Nearer};
+ghost use Rattle.object.specs.LastZero.{LastZero, LastZeros, Nearer, RunOf};
 
 // An object's span, and its load segments: the first `count` of them. The host has none.
 pub struct Bounds {
@@ -117,7 +117,7 @@ fn last_zero(image: &[u8], end: usize) -> usize
 }
 
 // One past the last zero byte before each segment, and before the span's end.
-pub fn last_zeros(image: &[u8], b: Bounds, zeros: &mut [usize; 17])
+pub(crate) fn last_zeros(image: &[u8], b: Bounds, zeros: &mut [usize; 17])
     requires { ⌜ length (now zeros) ≡ 17 ⌝ }
     ensures { λ _. ⌜ LastZeros (mem (now (image .entry))) (b .span) (b .segments) (now (zeros .exit)) ⌝ }
 {
@@ -132,9 +132,9 @@ pub fn last_zeros(image: &[u8], b: Bounds, zeros: &mut [usize; 17])
 }
 
 // Where a run of table bytes ends, and one past the last zero byte before that.
-struct Run {
-    end: usize,
-    low: usize,
+pub struct Run {
+    pub end: usize,
+    pub low: usize,
 }
 
 // What a segment leaves of the run from `p` to `end`; `zero` is one past the last zero byte before the segment.
@@ -162,8 +162,36 @@ fn nearer(s: crate::program_header::Segment, p: usize, end: usize, low: usize, z
     }
 }
 
+// The run of table bytes from `p`.
+pub(crate) fn run_from(image: &[u8], b: Bounds, p: usize) -> Run
+    requires { ⌜ p < b .span ⌝ }
+    ensures { λ r. ⌜ RunOf (isTable (b .span) (take (b .count) (b .segments))) (mem (now (image .entry))) (b .span) p (r .end) (r .low) ⌝ }
+{
+    let span = b.span;
+    let n = words::bytes::smaller(b.count, 16);
+    let mut end = span;
+    let mut i = 0;
+    while i < n {
+        let s = b.segments[i];
+        let one = nearer(s, p, end, 0, 0);
+        end = one.end;
+        i += 1;
+    }
+    Run {
+        end: end,
+        low: last_zero(image, end),
+    }
+}
+
 // Whether the `k` bytes from `p`, and the name at `q` with its zero byte, are in table bytes: no byte of the name is read.
-pub fn both_in(image: &[u8], b: Bounds, zeros: &[usize; 17], p: usize, k: usize, q: usize) -> bool
+pub(crate) fn both_in(
+    image: &[u8],
+    b: Bounds,
+    zeros: &[usize; 17],
+    p: usize,
+    k: usize,
+    q: usize,
+) -> bool
     requires { ⌜ (p < b .span) × (q < b .span) × LastZeros (mem (now image)) (b .span) (b .segments) (now zeros) ⌝ }
     ensures { λ r. ⌜ r ≡ both (tableBytes (isTable (b .span) (take (b .count) (b .segments))) p k) (tableName (isTable (b .span) (take (b .count) (b .segments))) (now (image .entry)) q) ⌝ }
 {

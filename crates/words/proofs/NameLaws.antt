@@ -6,7 +6,7 @@ use Prim.Native.Nat.{ℕ, zero, suc, _+_, _-_, _≤_, _<_, min}
 use native.Mathlib.Numerals.{add-one}
 use native.Mathlib.Omega.{arith}
 use native.Mathlib.Decide.{decLt}
-use borrow.Author.Tests.{eq-eqb, ne-eqb, eqb-true}
+use borrow.Author.Tests.{eq-eqb, ne-eqb, eqb-true, eqb-false}
 use lib.Dec.{eqb}
 use lib.ListN.{length, getD, take, drop, drop-of-length-le, length-drop}
 use lib.Seq.{drop-cons}
@@ -106,3 +106,36 @@ same-lengths xs ys ne = go (sameBytes xs ys) refl
     go : (t : Bool) → sameBytes xs ys ≡ t → sameBytes xs ys ≡ false
     go true e = absurd (ne (ap length (same-sound xs ys e)))
     go false e = e
+
+-- ---- a name in an image against one that is given, from place `i` of the image and place `j` of the name on
+
+module _ (xs ys : List ℕ) (i j : ℕ) where
+  -- the same byte, and not 0: what follows decides
+  pub from-more : i < length xs → j < length ys → getD xs i 0 ≡ getD ys j 0 → (getD xs i 0 ≡ 0 → ⊥)
+      → sameBytes (nameAt xs i) (drop j ys) ≡ sameBytes (nameAt xs (i + 1)) (drop (j + 1) ys)
+  unfolding sameBytes
+  from-more l l′ e ne = rw (name-more xs i l ne, add-one j, drop-cons ys j 0 l′, eq-eqb _ _ e)
+
+  -- the name in the image ended
+  pub from-zero : i < length xs → j < length ys → getD xs i 0 ≡ 0 → sameBytes (nameAt xs i) (drop j ys) ≡ false
+  unfolding sameBytes
+  from-zero l l′ z = rw (name-stop xs i l z, drop-cons ys j 0 l′)
+
+  -- another byte
+  pub from-other : i < length xs → j < length ys → (getD xs i 0 ≡ getD ys j 0 → ⊥) → sameBytes (nameAt xs i) (drop j ys) ≡ false
+  unfolding sameBytes
+  from-other l l′ ne = go (eqb (getD xs i 0) 0) refl
+    where
+      go : (t : Bool) → eqb (getD xs i 0) 0 ≡ t → sameBytes (nameAt xs i) (drop j ys) ≡ false
+      go true z = from-zero l l′ (eqb-true _ _ z)
+      go false z = rw (name-more xs i l (eqb-false _ _ z), drop-cons ys j 0 l′, ne-eqb _ _ ne)
+
+  -- the given name ended: so must the other
+  module _ (past : length ys ≤ j) where
+    pub from-end : nameAt xs i ≡ [] → sameBytes (nameAt xs i) (drop j ys) ≡ true
+    unfolding sameBytes
+    from-end e = rw (e, drop-of-length-le ys past)
+
+    pub from-longer : i < length xs → (getD xs i 0 ≡ 0 → ⊥) → sameBytes (nameAt xs i) (drop j ys) ≡ false
+    unfolding sameBytes
+    from-longer l ne = rw (name-more xs i l ne, drop-of-length-le ys past)

@@ -45,6 +45,14 @@ fn word64(a: u8, b: u8, c: u8, d: u8, e: u8, f: u8, g: u8, h: u8) -> u64
         + 72057594037927936 * (h as u64)
 }
 
+// The number of two bytes at `at`, all of them in the slice.
+pub fn u16_in(s: &[u8], at: usize) -> u16
+    requires { ⌜ at + 2 ≤ length (now s) ⌝ }
+    ensures { λ r. ⌜ r ≡ leAt 2 (mem (now (s .entry))) at ⌝ }
+{
+    word16(s[at + 0], s[at + 1])
+}
+
 // The number of two bytes at `at`.
 pub fn u16_at(s: &[u8], at: usize) -> u16
     ensures { λ r. ⌜ r ≡ leAt 2 (mem (now (s .entry))) at ⌝ }
@@ -52,7 +60,7 @@ pub fn u16_at(s: &[u8], at: usize) -> u16
     let n = s.len();
     if 2 <= n {
         if at <= n - 2 {
-            return word16(s[at + 0], s[at + 1]);
+            return u16_in(s, at);
         }
     }
     word16(byte_at(s, at, 0), byte_at(s, at, 1))
@@ -270,8 +278,8 @@ pub fn zero(s: &mut [u8], at: usize, n: usize)
     zero_part(s, at, room);
 }
 
-// `n` bytes of `src` from `start` to the places of `dst` from `at`, all of them in the slices.
-fn copy_part(dst: &mut [u8], at: usize, src: &[u8], start: usize, n: usize)
+// `n` bytes of `src` from `start` to the places of `dst` from `at`, all of them in the slices, one by one.
+fn copy_few(dst: &mut [u8], at: usize, src: &[u8], start: usize, n: usize)
     requires { ⌜ (at + n ≤ length (now dst)) × (start + n ≤ length (now src)) ⌝ }
     ensures { λ _. ⌜ now (dst .exit) ≡ patch (now (dst .entry)) at n (from start (mem (now (src .entry)))) ⌝ }
 {
@@ -280,6 +288,59 @@ fn copy_part(dst: &mut [u8], at: usize, src: &[u8], start: usize, n: usize)
         dst[at + i] = src[start + i];
         i += 1;
     }
+}
+
+// A block's worth of bytes of `src` from `start`.
+fn fetch_block(block: &mut [u8; 16384], src: &[u8], start: usize)
+    requires { ⌜ (length (now block) ≡ 16384) × (start + 16384 ≤ length (now src)) ⌝ }
+    ensures { λ _. ⌜ now (block .exit) ≡ patch (now (block .entry)) 0 16384 (from start (mem (now (src .entry)))) ⌝ }
+{
+    let mut j = 0;
+    while j < 16384 {
+        block[j] = src[start + j];
+        j += 1;
+    }
+}
+
+// The bytes of a block to the places of `dst` from `at`.
+fn put_block(dst: &mut [u8], at: usize, block: &[u8; 16384])
+    requires { ⌜ (length (now block) ≡ 16384) × (at + 16384 ≤ length (now dst)) ⌝ }
+    ensures { λ _. ⌜ now (dst .exit) ≡ patch (now (dst .entry)) at 16384 (mem (now (block .entry))) ⌝ }
+{
+    let mut j = 0;
+    while j < 16384 {
+        dst[at + j] = block[j];
+        j += 1;
+    }
+}
+
+// `n` blocks of `src` from `start` to the places of `dst` from `at`, all of them in the slices. A block is a local array, which no slice
+// overlaps: so its loops become copies of memory.
+fn copy_blocks(dst: &mut [u8], at: usize, src: &[u8], start: usize, n: usize)
+    requires { ⌜ (at + 16384 * n ≤ length (now dst)) × (start + 16384 * n ≤ length (now src)) ⌝ }
+    ensures { λ _. ⌜ now (dst .exit) ≡ patch (now (dst .entry)) at (16384 * n) (from start (mem (now (src .entry)))) ⌝ }
+{
+    if n == 0 {
+        return;
+    }
+    let mut block = [0u8; 16384];
+    let mut i = 0;
+    while i < n {
+        fetch_block(&mut block, src, start + 16384 * i);
+        put_block(dst, at + 16384 * i, &block);
+        i += 1;
+    }
+}
+
+// `n` bytes of `src` from `start` to the places of `dst` from `at`, all of them in the slices: by blocks, and what is left one by one.
+fn copy_part(dst: &mut [u8], at: usize, src: &[u8], start: usize, n: usize)
+    requires { ⌜ (at + n ≤ length (now dst)) × (start + n ≤ length (now src)) ⌝ }
+    ensures { λ _. ⌜ now (dst .exit) ≡ patch (now (dst .entry)) at n (from start (mem (now (src .entry)))) ⌝ }
+{
+    let blocks = n / 16384;
+    let k = 16384 * blocks;
+    copy_blocks(dst, at, src, start, blocks);
+    copy_few(dst, at + k, src, start + k, n - k);
 }
 
 // `n` bytes of `src` from `start`, zeros past its end, to the places of `dst` from `at`.

@@ -1,6 +1,6 @@
 // Names in an image: from string_table.rs.
 ghost use mathlib.Core.Path.{_≡_};
-ghost use Prim.Native.Nat.{_+_};
+ghost use Prim.Native.Nat.{_+_, _≤_};
 ghost use lib.ListN.{length};
 ghost use Rattle.words.specs.Names.{nameAt, sameBytes};
 
@@ -51,4 +51,41 @@ pub fn same(a: &[u8], b: &[u8]) -> bool
         i += 1;
     }
     true
+}
+
+// Whether the name at `at` is this one.
+fn same_from(image: &[u8], at: usize, name: &[u8]) -> bool
+    requires { ⌜ at ≤ length (now image) ⌝ }
+    ensures { λ r. ⌜ r ≡ sameBytes (nameAt (now (image .entry)) at) (now (name .entry)) ⌝ }
+{
+    let n = name.len();
+    let left = image.len() - at;
+    if left < n {
+        return false;
+    }
+    let mut i = 0;
+    while i < n {
+        let b = image[at + i];
+        if b != name[i] {
+            return false;
+        }
+        if b == 0 {
+            return false;
+        }
+        i += 1;
+    }
+    if left == n {
+        return true;
+    }
+    if image[at + n] == 0 {
+        return true;
+    }
+    false
+}
+
+// Whether the name `k` places after `at` is this one: its end is not sought first.
+pub fn same_at(image: &[u8], at: usize, k: usize, name: &[u8]) -> bool
+    ensures { λ r. ⌜ r ≡ sameBytes (nameAt (now (image .entry)) (at + k)) (now (name .entry)) ⌝ }
+{
+    same_from(image, crate::bytes::place(image.len(), at, k), name)
 }

@@ -33,8 +33,9 @@ returns : tie.Need-returns
 returns c =
     let a = c .before .before .before .before .args in
     record {
-      refusal = rw (c .before .enum-told .given .1) (c .refused .ensures ∙ sym (read-none (a .host) (now (a .image)) (segmentsIn (a .l))));
-      object = λ z. absurd (omega (arith, c .refused .ensures));
+      refusal = rw (c .before .enum-told .given .1) (c .refused .ensures .0 ∙ sym (read-none (a .host) (now (a .image)) (segmentsIn (a .l))));
+      object = λ z. absurd (omega (arith, c .refused .ensures .0));
+      none = λ _. c .refused .ensures .1;
     }
 
 read-fields-requires : tie.Need-read-fields-requires
@@ -50,8 +51,9 @@ returns-2 : tie.Need-returns-2
 returns-2 c =
     let a = c .before .before .before .before .before .before .before .before .args in
     record {
-      refusal = rw (c .before .before .before .before .before .d .given .1) (c .refused2 .ensures ∙ sym (read-fields (a .host) (now (a .image)) (segmentsIn (a .l)) _ _ (rw (← c .before .before .before .read-fields .ensures) (c .before .before .fields-refusal .ensures)) (c .before .if1 .taken)));
-      object = λ z. absurd (c .before .if1 .taken (sym (c .refused2 .ensures) ∙ z));
+      refusal = rw (c .before .before .before .before .before .d .given .1) (c .refused2 .ensures .0 ∙ sym (read-fields (a .host) (now (a .image)) (segmentsIn (a .l)) _ _ (rw (← c .before .before .before .read-fields .ensures) (c .before .before .fields-refusal .ensures)) (c .before .if1 .taken)));
+      object = λ z. absurd (c .before .if1 .taken (sym (c .refused2 .ensures .0) ∙ z));
+      none = λ _. c .refused2 .ensures .1;
     }
 
 read-needs-requires : tie.Need-read-needs-requires
@@ -64,8 +66,9 @@ returns-3 : tie.Need-returns-3
 returns-3 c =
     let a = c .before .before .before .before .before .before .before .before .before .before .before .args in
     record {
-      refusal = rw (c .before .before .before .before .before .before .before .before .d .given .1) (c .refused3 .ensures ∙ sym (read-many (a .host) (now (a .image)) (segmentsIn (a .l)) _ _ (rw (← c .before .before .before .before .before .before .read-fields .ensures) (c .before .before .before .before .before .fields-refusal .ensures)) (c .before .before .before .before .if1 .left) (needs-many _ _ (c .before .before .before .read-needs .ensures) (c .before .if2 .taken))));
-      object = λ z. absurd (omega (arith, c .refused3 .ensures));
+      refusal = rw (c .before .before .before .before .before .before .before .before .d .given .1) (c .refused3 .ensures .0 ∙ sym (read-many (a .host) (now (a .image)) (segmentsIn (a .l)) _ _ (rw (← c .before .before .before .before .before .before .read-fields .ensures) (c .before .before .before .before .before .fields-refusal .ensures)) (c .before .before .before .before .if1 .left) (needs-many _ _ (c .before .before .before .read-needs .ensures) (c .before .if2 .taken))));
+      object = λ z. absurd (omega (arith, c .refused3 .ensures .0));
+      none = λ _. c .refused3 .ensures .1;
     }
 
 object-in-requires : tie.Need-object-in-requires
@@ -86,10 +89,11 @@ returns-4 c =
     record {
       refusal =
           rw (c .before .before .before .before .before .before .before .before .before .before .before .d .given .1)
-          (c .refused4 .ensures
+          (c .refused4 .ensures .0
           ∙ sym (read-tables (a .host) (now (a .image)) (segmentsIn (a .l)) _ _ (rw (← c .before .before .before .before .before .before .before .before .before .read-fields .ensures) (c .before .before .before .before .before .before .before .before .fields-refusal .ensures)) (c .before .before .before .before .before .before .before .if1 .left)
           false (few .0) (sym (not-true _ (c .before .if3 .taken)) ∙ rw same at (c .before .before .tables-ok .ensures))));
-      object = λ z. absurd (omega (arith, c .refused4 .ensures));
+      object = λ z. absurd (omega (arith, c .refused4 .ensures .0));
+      none = λ _. c .refused4 .ensures .1;
     }
 
 returns-5 : tie.Need-returns-5
@@ -104,6 +108,7 @@ returns-5 c =
           (sym (read-tables (a .host) (now (a .image)) (segmentsIn (a .l)) _ _ (rw (← c .before .before .before .before .before .before .before .before .read-fields .ensures) (c .before .before .before .before .before .before .before .fields-refusal .ensures)) (c .before .before .before .before .before .before .if1 .left)
           true (few .0) (sym (not-false _ (c .if3 .left)) ∙ rw same at (c .before .tables-ok .ensures))));
       object = λ z. rw (c .before .before .before .before .before .before .before .before .before .before .d .given .1) (same ∙ sym (record-at (a .host) (now (a .image)) (segmentsIn (a .l)) _));
+      none = λ ne. absurd (ne refl);
     }
 
 pub read-object-spec : {M : Type 1} → statement M

@@ -24,7 +24,7 @@ same-length c = search needs
 
 returns : tie.Need-returns
 returns c =
-    load-refused (c .before .before .before .before .before .before .before .before .before .args .host) (now (c .before .before .before .before .before .before .before .before .before .args .file)) (now (c .before .before .before .before .before .before .before .before .before .args .part)) (c .before .before .before .before .before .place .last .0) (c .before .before .before .before .before .place .result) (c .before .before .before .before .before .place .ensures) (c .before .if1 .taken) _ (c .refused .ensures)
+    load-refused (c .before .before .before .before .before .before .before .before .before .args .host) (now (c .before .before .before .before .before .before .before .before .before .args .file)) (now (c .before .before .before .before .before .before .before .before .before .args .part)) (c .before .before .before .before .before .place .last .0) (c .before .before .before .before .before .place .result) (c .before .before .before .before .before .place .ensures) (c .before .if1 .taken) _ (c .refused .ensures .0) (c .refused .ensures .1)
 
 dynamic-at-requires : tie.Need-dynamic-at-requires
 dynamic-at-requires c κs = search needs

@@ -20,7 +20,7 @@ returns c =
     let a = c .before .before .before .before .before .args in
     let ne : headerRefusal (now (a .file)) ≡ 0 → ⊥ = λ h. c .before .if1 .taken (c .before .before .header-refusal .ensures ∙ h) in
     refused-by (a .host) (now (a .file)) (now (a .part)) _ (headerRefusal (now (a .file))) ne
-    (refusal-header (a .host) (now (a .file)) (length (now (a .part))) ne) (c .refused .ensures .0 ∙ c .before .before .header-refusal .ensures) (c .refused .ensures .1)
+    (refusal-header (a .host) (now (a .file)) (length (now (a .part))) ne) (c .refused .ensures .0 ∙ c .before .before .header-refusal .ensures) (c .refused .ensures .1) (c .refused .ensures .2)
 
 place-host-requires : tie.Need-place-host-requires
 place-host-requires c κs =

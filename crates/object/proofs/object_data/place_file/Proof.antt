@@ -22,7 +22,7 @@ returns : tie.Need-returns
 returns c =
     let a = c .before .before .before .before .before .before .args in
     refused-by _ (now (a .file)) (now (a .part)) _ 7 (λ h. omega arith)
-    (file-seven (now (a .file)) (now (a .part)) (c .before .before .before .before .before .before .pre) (sym (c .before .before .segments-ok .ensures) ∙ not-true _ (c .before .if1 .taken))) (c .refused .ensures .0) (c .refused .ensures .1)
+    (file-seven (now (a .file)) (now (a .part)) (c .before .before .before .before .before .before .pre) (sym (c .before .before .segments-ok .ensures) ∙ not-true _ (c .before .if1 .taken))) (c .refused .ensures .0) (c .refused .ensures .1) (c .refused .ensures .2)
 
 span-of-requires : tie.Need-span-of-requires
 span-of-requires c κs =
@@ -38,7 +38,7 @@ returns-2 c =
     let a = c .before .before .before .before .before .before .before .before .args in
     refused-by _ (now (a .file)) (now (a .part)) _ 8 (λ h. omega arith)
     (file-eight (now (a .file)) (now (a .part)) (c .before .before .before .before .before .before .before .before .pre) _ (c .before .before .before .before .before .read-loads .ensures) (sym (c .before .before .before .before .segments-ok .ensures) ∙ not-false _ (c .before .before .before .if1 .left)) (c .before .before .span-of .ensures .0) (c .before .if2 .taken))
-    (c .refused2 .ensures .0) (c .refused2 .ensures .1)
+    (c .refused2 .ensures .0) (c .refused2 .ensures .1) (c .refused2 .ensures .2)
 
 place-segments-requires : tie.Need-place-segments-requires
 place-segments-requires c κs =

@@ -14,7 +14,7 @@ returns : tie.Need-returns
 returns c =
     let a = c .before .before .before .before .args in
     refused-by _ (now (a .file)) (now (a .part)) _ 7 (λ h. omega arith)
-    (host-seven (now (a .file)) (now (a .part)) (c .before .before .before .before .pre) (c .before .if1 .taken)) (c .refused .ensures .0) (c .refused .ensures .1)
+    (host-seven (now (a .file)) (now (a .part)) (c .before .before .before .before .pre) (c .before .if1 .taken)) (c .refused .ensures .0) (c .refused .ensures .1) (c .refused .ensures .2)
 
 refused-requires-2 : tie.Need-refused-requires-2
 refused-requires-2 c κs = search needs
@@ -23,7 +23,7 @@ returns-2 : tie.Need-returns-2
 returns-2 c =
     let a = c .before .before .before .before .before .args in
     refused-by _ (now (a .file)) (now (a .part)) _ 8 (λ h. omega arith)
-    (host-eight (now (a .file)) (now (a .part)) (c .before .before .before .before .before .pre) (c .before .before .if1 .left) (c .before .if2 .taken)) (c .refused2 .ensures .0) (c .refused2 .ensures .1)
+    (host-eight (now (a .file)) (now (a .part)) (c .before .before .before .before .before .pre) (c .before .before .if1 .left) (c .before .if2 .taken)) (c .refused2 .ensures .0) (c .refused2 .ensures .1) (c .refused2 .ensures .2)
 
 copy-requires : tie.Need-copy-requires
 copy-requires c κs = search needs

@@ -6,6 +6,7 @@ use Prim.Native.Nat.{_-_, _≤_}
 use native.Mathlib.Omega.{arith}
 use borrow.Author.Needs.{needs}
 use lib.ListN.{length, take, length-set, length-append}
+use lib.Seq.{take-all}
 use denote.Ref.{now}
 use Rattle.object.specs.LoadTable.{segmentsIn}
 use Rattle.object.specs.ProgramHeader.{segmentAt, loadsIn}
@@ -44,6 +45,7 @@ returns c =
     let file = now (c .before .before .before .before .before .before .before .before .before .args .file) in
     let v = c .before .before .before .before .loop .inv in
     loaded-over file (c .before .before .before .before .loop .i) _ (omega (arith, c .before .before .before .loop-test .taken, c .before .before .before .before .before .before .header-count .ensures .0)) (omega (arith, v .1, v .2, c .if2 .taken)) (sym (c .before .before .type-at .ensures) ∙ c .before .if1 .taken) refl (v .3)
+    (sym (take-all (c .before .before .before .before .loop .found .count) (c .before .before .before .before .loop .found .list) (omega (arith, v .3, c .if2 .taken))) ∙ v .4)
 
 segment-at-requires : tie.Need-segment-at-requires Inv-loop μ-loop
 segment-at-requires c κs = search needs

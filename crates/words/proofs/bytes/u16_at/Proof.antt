@@ -11,7 +11,6 @@ unfolding leAt mem
 u16-at-spec =
     tie.close
     (tie.spec
-    (λ c. search needs) (λ c. search needs) (λ c. search needs) (λ c. search needs)
     (λ c κs. search needs)
     (λ c. search needs)
     (λ c κs. search needs) (λ c κs. search needs)
