@@ -82,6 +82,12 @@ module _
     (is : w ≡ leAt 8 (mem arena) (a % 2 ^ 32 + 8 * (g / 64 % 2 ^ b)))
     (ne : w / 2 ^ (g % 64) % 2 + w / 2 ^ (g / 2 ^ (c % 32) % 64) % 2 ≡ 2 → ⊥)
   where
+    -- a filter of which the words say nothing has no such logarithm
+    clash : {A : Type 0} → a ∷ b ∷ c ∷ [] ≡ untested → A
+    clash e =
+        let q : b ≡ 64 = ap (λ (l : List ℕ). getD l 1 0) e in
+        absurd (omega (arith, low))
+
     module _ (off span at blooms shift : ℕ) where
       abbrev NoBits : Type 0
       NoBits = hasBits (leAt 8 (mem (take span (drop off arena))) (bloomAt at blooms g)) shift g ≡ false
@@ -103,22 +109,19 @@ module _
       unfolding filterWords
       no-bits e = go (leb shift 31) (leb (at + (16 + 8 * blooms)) span) (leb (off + span) (2 ^ 32)) refl refl refl e
         where
-          untests : a ∷ b ∷ c ∷ [] ≡ untested → NoBits
-          untests z = let q : b ≡ 64 = ap (λ (l : List ℕ). getD l 1 0) z in absurd (omega (arith, low))
-
           go :
               (p q r : Bool) → leb shift 31 ≡ p → leb (at + (16 + 8 * blooms)) span ≡ q → leb (off + span) (2 ^ 32) ≡ r
               → a ∷ b ∷ c ∷ [] ≡ pick (both p (both q r)) ((off + at + 16) ∷ logOf blooms ∷ shift ∷ []) untested → NoBits
           go true true true x y z l =
               tested (leb-true _ _ x) (leb-true _ _ y) (leb-true _ _ z) (ap (λ (l : List ℕ). getD l 0 0) l) (ap (λ (l : List ℕ). getD l 1 0) l) (ap (λ (l : List ℕ). getD l 2 0) l)
-          go true true false x y z l = untests l
-          go true false r x y z l = untests l
-          go false q r x y z l = untests l
+          go true true false x y z l = clash l
+          go true false r x y z l = clash l
+          go false q r x y z l = clash l
 
     may-not : (off span : ℕ) (h : HashTable) → a ∷ b ∷ c ∷ [] ≡ filterOf off span h → mayHold (take span (drop off arena)) h g ≡ false
     unfolding filterOf table.mayHold
     may-not off span Without e = refl
-    may-not off span (SysV at n chains) e = let q : b ≡ 64 = ap (λ (l : List ℕ). getD l 1 0) e in absurd (omega (arith, low))
+    may-not off span (SysV at n chains) e = clash e
     may-not off span (Gnu at n first blooms shift) e =
         both-false (not (eqb n 0)) _ (both-false (not (eqb blooms 0)) _ (no-bits off span at blooms shift e))
 
