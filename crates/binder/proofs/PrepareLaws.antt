@@ -27,7 +27,7 @@ use Rattle.sheet.specs.Sheet.{Input, noInput}
 use Rattle.binder.specs.Instance.{File, recordOf}
 use Rattle.binder.specs.Verdict.{passed, refused, first, verdict, loadVerdict, noFile}
 use Rattle.binder.specs.Bind.{filesOf}
-use Rattle.scope.specs.Seats.{seatAt}
+use Rattle.scope.specs.Seats.{seatAt, Filtered}
 use Rattle.binder.specs.Prepared.{metBy, seatOf, placeFiles, Seated, LoadedAt, Prepared}
 use Rattle.scope.specs.declared.seats.Seat.{Seat}
 use Rattle.binder.specs.declared.prepare.Met.{Met}
@@ -105,10 +105,11 @@ pub record Loading (os : List Input) (a₀ a table : List ℕ) (off k : ℕ) : T
   pub placed : placeFiles (filesOf os) 0 (mem a₀) ≡ placeFiles (drop k (filesOf os)) off (mem a)
   pub seated :
       (t : List ℕ) → ((j : ℕ) → j < k → seatAt t j ≡ seatAt table j) → Seated t k off (drop k (filesOf os)) → Seated t 0 0 (filesOf os)
+  pub filtered : Filtered table k
 
 pub load-begin : (os : List Input) (a table : List ℕ) → Loading os a a table 0 0
 load-begin os a table =
-    record { same = refl; offset = omega arith; number = omega arith; met = refl; placed = refl; seated = λ t h s. s }
+    record { same = refl; offset = omega arith; number = omega arith; met = refl; placed = refl; seated = λ t h s. s; filtered = λ k l. absurd (omega arith) }
 
 module _ (os : List Input) (a₀ a table : List ℕ) (off k : ℕ) (h : Loading os a₀ a table off k) where
   module _ (l : k < length os) where
@@ -134,13 +135,14 @@ module _ (os : List Input) (a₀ a table : List ℕ) (off k : ℕ) (h : Loading 
                 (sym (h .met ∙ rw (left, ← h .same, ← r .refusal, ne-eqb (p .refusal) 0 ne)));
             arena = λ z. absurd (ne z);
             table = λ z. absurd (ne z);
+            filtered = λ z. absurd (ne z);
           }
 
       pub load-turn :
           p .refusal ≡ 0 → length a′ ≡ length a → (t : List ℕ) → seatAt t k ≡ p .seat → ((j : ℕ) → (j ≡ k → ⊥) → seatAt t j ≡ seatAt table j)
-          → Loading os a₀ a′ t (off + p .seat .span) (k + 1)
+          → (Filtered table k → Filtered t (k + 1)) → Loading os a₀ a′ t (off + p .seat .span) (k + 1)
       unfolding loadVerdict verdict placeFiles Seated
-      load-turn z len t here others =
+      load-turn z len t here others filters =
           let span : p .seat .span ≡ objectSpan (eqb k 0) (getD os k noInput .file) = ap (λ (s : Seat). s .span) (r .seat z) in
           let rest : drop (k + 1) (filesOf os) ≡ drop (suc k) (filesOf os) = ap (λ (n : ℕ). drop n (filesOf os)) (add-one k) in
           record {
@@ -152,6 +154,7 @@ module _ (os : List Input) (a₀ a table : List ℕ) (off k : ℕ) (h : Loading 
             seated = λ u same s.
                 h .seated u (λ j g. same j (omega arith) ∙ others j (λ e. omega arith))
                 (rw left (same k (omega arith) ∙ (here ∙ r .seat z), rw (rest, span) at s));
+            filtered = filters (h .filtered);
           }
 
   pub load-finish : k ≡ length os → Prepared (filesOf os) a₀ a table (record { number = 0; object = 0 })
@@ -162,4 +165,11 @@ module _ (os : List Input) (a₀ a table : List ℕ) (off k : ℕ) (h : Loading 
         met = sym (h .met ∙ rw n);
         arena = λ z. sym (h .placed ∙ rw n);
         table = λ z. h .seated table (λ j g. refl) (rw n tt);
+        filtered = λ z j l. h .filtered j (omega (arith, files-length os));
       }
+
+-- the words of every filter of a set that was loaded
+pub all-filtered :
+    (os : List Input) (count : ℕ) (before after table : List ℕ) (r : Met) → Prepared (filesOf os) before after table r → r .number ≡ 0
+    → length os ≡ count → Filtered table count
+all-filtered os count before after table r made z many = λ k l. made .filtered z k (omega (arith, files-length os))

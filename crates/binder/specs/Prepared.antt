@@ -13,7 +13,7 @@ use Rattle.object.specs.Record.{viewOf}
 use Rattle.object.specs.Loaded.{objectRefusal}
 use Rattle.binder.specs.Instance.{File, recordOf}
 use Rattle.binder.specs.Verdict.{Verdict, loadVerdict, verdict}
-use Rattle.scope.specs.Seats.{seatAt}
+use Rattle.scope.specs.Seats.{seatAt, Filtered}
 use Rattle.scope.specs.declared.seats.Seat.{Seat}
 use Rattle.binder.specs.declared.prepare.Met.{Met}
 use Rattle.binder.specs.declared.prepare.Placed.{Placed}
@@ -49,3 +49,4 @@ pub record Prepared (files : List File) (before after seats : List ℕ) (r : Met
   pub met : metBy r ≡ loadVerdict (length before) 0 0 files
   pub arena : r .number ≡ 0 → mem after ≡ placeFiles files 0 (mem before)
   pub table : r .number ≡ 0 → Seated seats 0 0 files
+  pub filtered : r .number ≡ 0 → Filtered seats (length files)

@@ -7,6 +7,7 @@ ghost use Rattle.object.specs.Entries.{relaAt};
 ghost use Rattle.object.specs.Record.{heldBy, checkedSymbol};
 ghost use Rattle.object.specs.WritableRange.{WritableRange};
 ghost use Rattle.sheet.specs.Parts.{inputsIn};
+ghost use Rattle.scope.specs.Seats.{Filtered};
 ghost use Rattle.binder.specs.Relocating.{left, wrote, started, imageIn, relativeOf, symbolRefusal, foundOf, soughtFor, soughtForCopy, symbolicOf, copyingOf, runAction, runTable, runTables, runObject, runAt, runOrder};
 ghost use Rattle.binder.specs.RunSteps.{EntriesPassed};
 use crate::order::Order;
@@ -57,6 +58,7 @@ fn search(
     strings: usize,
     name: u32,
 ) -> Scoped
+    requires { ⌜ Filtered (now table) count ⌝ }
     ensures { λ r. ⌜ r ≡ soughtFor address (now (table .entry)) count t (now (arena .entry)) (nameAt (imageIn (now (arena .entry)) t) (strings + name)) ⌝ }
 {
     let wanted = words::names::name_off(crate::turn::image_of(arena, t), strings, name as usize);
@@ -74,6 +76,7 @@ fn search_copy(
     strings: usize,
     name: u32,
 ) -> Scoped
+    requires { ⌜ Filtered (now table) count ⌝ }
     ensures { λ r. ⌜ r ≡ soughtForCopy address (now (table .entry)) count (now (arena .entry)) (nameAt (imageIn (now (arena .entry)) t) (strings + name)) ⌝ }
 {
     let wanted = words::names::name_off(crate::turn::image_of(arena, t), strings, name as usize);
@@ -129,6 +132,7 @@ fn symbolic(
     i: u32,
     e: Rela,
 ) -> Progress
+    requires { ⌜ Filtered (now table) count ⌝ }
     ensures { λ r. ⌜ left r (now (arena .exit)) (now (report .exit)) ≡ symbolicOf address (now (table .entry)) count t (heldBy o) e i (checkedSymbol (imageIn (now (arena .entry)) t) (heldBy o) (e .symbol)) p (now (arena .entry)) (now (report .entry)) ⌝ }
 {
     let c = symbol_of(arena, t, o, e.symbol);
@@ -155,6 +159,7 @@ fn copying(
     i: u32,
     e: Rela,
 ) -> Progress
+    requires { ⌜ Filtered (now table) count ⌝ }
     ensures { λ r. ⌜ left r (now (arena .exit)) (now (report .exit)) ≡ copyingOf address (now (table .entry)) count t (heldBy o) e i (checkedSymbol (imageIn (now (arena .entry)) t) (heldBy o) (e .symbol)) p (now (arena .entry)) (now (report .entry)) ⌝ }
 {
     let c = symbol_of(arena, t, o, e.symbol);
@@ -180,6 +185,7 @@ fn run_action(
     e: Rela,
     a: Action,
 ) -> Progress
+    requires { ⌜ Filtered (now table) count ⌝ }
     ensures { λ r. ⌜ left r (now (arena .exit)) (now (report .exit)) ≡ runAction address (now (table .entry)) count t (heldBy o) i e a p (now (arena .entry)) (now (report .entry)) ⌝ }
 {
     match a {
@@ -285,6 +291,7 @@ fn run_table(
     first: u32,
     n: u32,
 ) -> Progress
+    requires { ⌜ Filtered (now table) count ⌝ }
     ensures { λ r. ⌜ left r (now (arena .exit)) (now (report .exit)) ≡ runTable address (now (table .entry)) count t (heldBy o) at first n 0 (left p (now (arena .entry)) (now (report .entry))) ⌝ }
 {
     let b = object::dynamic_fields::bounds_of(o);
@@ -322,6 +329,7 @@ fn run_tables(
     t: Turn,
     o: ObjectData,
 ) -> Progress
+    requires { ⌜ Filtered (now table) count ⌝ }
     ensures { λ r. ⌜ left r (now (arena .exit)) (now (report .exit)) ≡ runTables address (now (table .entry)) count t (heldBy o) (left p (now (arena .entry)) (now (report .entry))) ⌝ }
 {
     let relas = crate::relr::cut_to_32(o.relas);
@@ -368,6 +376,7 @@ fn run_object(
     t: Turn,
     o: ObjectData,
 ) -> Progress
+    requires { ⌜ Filtered (now table) count ⌝ }
     ensures { λ r. ⌜ left r (now (arena .exit)) (now (report .exit)) ≡ runObject address (now (table .entry)) count t (heldBy o) p (now (arena .entry)) (now (report .entry)) ⌝ }
 {
     let q = crate::report::note(report, p, std::num::wrapping_add_u32(0x5000_0000, t.number));
@@ -389,6 +398,7 @@ fn run_at(
     k: u32,
     file: &[u8],
 ) -> Progress
+    requires { ⌜ Filtered (now table) count ⌝ }
     ensures { λ r. ⌜ left r (now (arena .exit)) (now (report .exit)) ≡ runAt address (now (table .entry)) count k (now (file .entry)) p (now (arena .entry)) (now (report .entry)) ⌝ }
 {
     let t = crate::turn::turn_of(table, address, k);
@@ -417,7 +427,7 @@ pub(crate) fn run_order(
     address: u64,
     order: Order,
 ) -> Progress
-    requires { ⌜ order .count ≤ 64 ⌝ }
+    requires { ⌜ (order .count ≤ 64) × Filtered (now table) (parts .count) ⌝ }
     ensures { λ r. ⌜ left r (now (arena .exit)) (now (report .exit)) ≡ runOrder address (now (table .entry)) (parts .count) (inputsIn (now (bytes .entry)) parts) (take (order .count) (order .list)) (left started (now (arena .entry)) (now (report .entry))) ⌝ }
 {
     let count = parts.count;

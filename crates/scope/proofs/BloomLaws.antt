@@ -1,26 +1,29 @@
 -- An object whose bloom filter rules a name out has no answer for it. No contract cites this file. Assumes nothing.
-use mathlib.Core.Path.{_≡_, refl, ap, _∙_}
+use mathlib.Core.Path.{_≡_, refl, sym, ap, subst, _∙_}
 use mathlib.Core.Bool.{Bool, true, false, not}
-use mathlib.Core.List.{List}
-use Prim.Native.Nat.{ℕ, _+_, _*_, _/_, _%_, _^_, _-_, _≤_, _<_}
-use native.Mathlib.Nat.{mod-eq-of-lt}
+use mathlib.Core.List.{List, [], _∷_}
+use Prim.Native.Nat.{ℕ, zero, suc, _+_, _*_, _/_, _%_, _^_, _-_, _≤_, _<_}
+use native.Mathlib.Nat.{mod-lt, mod-eq-of-lt}
 use native.Mathlib.Decide.{decLt}
 use native.Mathlib.Omega.{arith}
-use borrow.Author.Tests.{eqb-true}
-use lib.Dec.{eqb}
-use lib.ListN.{take, drop}
-use Rattle.words.specs.Choice.{both}
+use borrow.Author.Tests.{eqb-true, leb-true}
+use lib.Dec.{eqb, leb}
+use lib.ListN.{take, drop, getD}
+use lib.Pow.{pow-pos}
+use Rattle.words.specs.Choice.{pick, both}
 use Rattle.words.specs.Memory.{mem}
 use Rattle.words.specs.Words.{leAt}
 use Rattle.words.proofs.Choice.{both-false}
 use Rattle.words.proofs.Words.{leAt-part}
+use Rattle.object.specs.declared.hash_tables.HashTable.{HashTable}
+use Rattle.object.specs.declared.hash_tables.HashTable.the-variants.{Without, SysV, Gnu}
 use Rattle.object.specs.declared.hash_tables.View.{View}
 use Rattle.object.specs.declared.hash_tables.Answer.the-variants.{Absent}
 use Rattle.object.specs.HashTable as table
 use Rattle.object.specs.HashTable.{bloomAt, hasBits, mayHold, answerBy}
 use Rattle.object.proofs.FindLaws.{find-not}
 use Rattle.scope.specs.declared.seats.Seat.{Seat}
-use Rattle.scope.specs.Seats.{wordAt, seatAt}
+use Rattle.scope.specs.Seats.{logFrom, logOf, untested, filterWords, filterOf, filterAt, seatAt}
 use Rattle.scope.specs.ScopeCode.{imageAt, answerAt, Lacks}
 
 -- what a test that fails does not tell
@@ -53,32 +56,77 @@ lacks-of : (arena : List ℕ) (s : Seat) (g : ℕ) → mayHold (imageAt arena s)
 unfolding answerAt
 lacks-of arena s g h name e = miss (imageAt arena s) (s .view) name g e h
 
--- the seat's words say a GNU table, and its bloom word, which ends at `end`, lacks a bit of the hash
-module _
-    (arena t : List ℕ)
-    (k g w end : ℕ)
-    (kind : wordAt t k 4 ≡ 2)
-    (shift : wordAt t k 9 ≤ 31)
-    (ex : end ≡ 24 + 8 * (g / 64 % (wordAt t k 8 % 2 ^ 32)))
-    (inside : wordAt t k 5 ≤ wordAt t k 1)
-    (fits : end ≤ wordAt t k 1 - wordAt t k 5)
-    (is : w ≡ leAt 8 (mem arena) (wordAt t k 0 + wordAt t k 5 + end - 8))
-    (ne : w / 2 ^ (g % 64) % 2 + w / 2 ^ (g / 2 ^ wordAt t k 9 % 64) % 2 ≡ 2 → ⊥)
-  where
-    may-not : mayHold (imageAt arena (seatAt t k)) (seatAt t k .view .table) g ≡ false
-    unfolding seatAt table.mayHold
-    may-not =
-        let narrow : wordAt t k 9 < 2 ^ 32 = omega arith in
-        let f : bloomAt (wordAt t k 5) (wordAt t k 8 % 2 ^ 32) g + 8 ≤ wordAt t k 1 = omega arith in
-        let e : wordAt t k 0 + wordAt t k 5 + end - 8 ≡ wordAt t k 0 + bloomAt (wordAt t k 5) (wordAt t k 8 % 2 ^ 32) g = omega arith in
-        let bits =
-        bits-out arena (wordAt t k 0) (wordAt t k 1) (wordAt t k 5) (wordAt t k 8 % 2 ^ 32) (wordAt t k 9) g w f
-        (is ∙ ap (leAt 8 (mem arena)) e) ne in
-        rw (kind, mod-eq-of-lt narrow)
-        (both-false (not (eqb (wordAt t k 6 % 2 ^ 32) 0)) _ (both-false (not (eqb (wordAt t k 8 % 2 ^ 32) 0)) _ bits))
+-- ---- the words of a filter
 
-    pub lacks-name : Lacks arena (seatAt t k) g
-    lacks-name = lacks-of arena (seatAt t k) g may-not
+log-from : (tries k n : ℕ) → logFrom tries k n < 32 → n ≡ 2 ^ logFrom tries k n
+unfolding logFrom
+log-from zero k n h = absurd (omega arith)
+log-from (suc tries) k n h = go (eqb n (2 ^ k)) refl h (log-from tries (k + 1) n)
+  where
+    go :
+        (b : Bool) → eqb n (2 ^ k) ≡ b → pick b k (logFrom tries (k + 1) n) < 32 → (logFrom tries (k + 1) n < 32 → n ≡ 2 ^ logFrom tries (k + 1) n)
+        → n ≡ 2 ^ pick b k (logFrom tries (k + 1) n)
+    go true e l next = eqb-true n (2 ^ k) e
+    go false e l next = next l
+
+-- a logarithm below 32 is one
+log-is : (n : ℕ) → logOf n < 32 → n ≡ 2 ^ logOf n
+unfolding logOf
+log-is n h = log-from 32 0 n h
+
+-- the words `a`, `b` and `c` of a filter: `w` is its bloom word for the hash, and lacks a bit of it
+module _
+    (arena : List ℕ)
+    (g w a b c : ℕ)
+    (low : b < 32)
+    (is : w ≡ leAt 8 (mem arena) (a % 2 ^ 32 + 8 * (g / 64 % 2 ^ b)))
+    (ne : w / 2 ^ (g % 64) % 2 + w / 2 ^ (g / 2 ^ (c % 32) % 64) % 2 ≡ 2 → ⊥)
+  where
+    -- a filter of which the words say nothing has no such logarithm
+    clash : {A : Type 0} → a ∷ b ∷ c ∷ [] ≡ untested → A
+    clash e =
+        let q : b ≡ 64 = ap (λ (l : List ℕ). getD l 1 0) e in
+        absurd (omega (arith, low))
+
+    module _ (off span at blooms shift : ℕ) where
+      abbrev NoBits : Type 0
+      NoBits = hasBits (leAt 8 (mem (take span (drop off arena))) (bloomAt at blooms g)) shift g ≡ false
+
+      tested :
+          shift ≤ 31 → at + (16 + 8 * blooms) ≤ span → off + span ≤ 2 ^ 32 → a ≡ off + at + 16 → b ≡ logOf blooms → c ≡ shift → NoBits
+      tested small inside short ea eb ec =
+          let power : blooms ≡ 2 ^ b = rw eb (log-is blooms (omega (arith, low, eb))) in
+          let some : 0 < blooms = rw power (pow-pos b) in
+          let below : g / 64 % blooms < blooms = mod-lt (g / 64) some in
+          let e1 : a % 2 ^ 32 ≡ a = mod-eq-of-lt (omega arith) in
+          let e2 : g / 64 % 2 ^ b ≡ g / 64 % blooms = ap (λ (m : ℕ). g / 64 % m) (sym power) in
+          let e3 : a % 2 ^ 32 + 8 * (g / 64 % 2 ^ b) ≡ off + bloomAt at blooms g = omega (arith, e1, e2, ea) in
+          let e4 : c % 32 ≡ shift = omega arith in
+          bits-out arena off span at blooms shift g w (omega (arith, below)) (is ∙ ap (leAt 8 (mem arena)) e3)
+          (subst (λ (s : ℕ). w / 2 ^ (g % 64) % 2 + w / 2 ^ (g / 2 ^ s % 64) % 2 ≡ 2 → ⊥) e4 ne)
+
+      no-bits : a ∷ b ∷ c ∷ [] ≡ filterWords off span at blooms shift → NoBits
+      unfolding filterWords
+      no-bits e = go (leb shift 31) (leb (at + (16 + 8 * blooms)) span) (leb (off + span) (2 ^ 32)) refl refl refl e
+        where
+          go :
+              (p q r : Bool) → leb shift 31 ≡ p → leb (at + (16 + 8 * blooms)) span ≡ q → leb (off + span) (2 ^ 32) ≡ r
+              → a ∷ b ∷ c ∷ [] ≡ pick (both p (both q r)) ((off + at + 16) ∷ logOf blooms ∷ shift ∷ []) untested → NoBits
+          go true true true x y z l =
+              tested (leb-true _ _ x) (leb-true _ _ y) (leb-true _ _ z) (ap (λ (l : List ℕ). getD l 0 0) l) (ap (λ (l : List ℕ). getD l 1 0) l) (ap (λ (l : List ℕ). getD l 2 0) l)
+          go true true false x y z l = clash l
+          go true false r x y z l = clash l
+          go false q r x y z l = clash l
+
+    may-not : (off span : ℕ) (h : HashTable) → a ∷ b ∷ c ∷ [] ≡ filterOf off span h → mayHold (take span (drop off arena)) h g ≡ false
+    unfolding filterOf table.mayHold
+    may-not off span Without e = refl
+    may-not off span (SysV at n chains) e = clash e
+    may-not off span (Gnu at n first blooms shift) e =
+        both-false (not (eqb n 0)) _ (both-false (not (eqb blooms 0)) _ (no-bits off span at blooms shift e))
+
+    pub lacks-name : (s : Seat) → a ∷ b ∷ c ∷ [] ≡ filterAt s → Lacks arena s g
+    lacks-name s e = lacks-of arena s g (may-not (s .offset) (s .span) (s .view .table) e)
 
 -- ---- objects before which all lack the name
 

@@ -9,13 +9,14 @@ use native.Mathlib.Nat.{mod-eq-of-lt}
 use lib.ListN.{length, take, drop, getD, List·getD-append}
 use lib.Seq.{paste, length-paste-head, getD-append-add, getD-take, getD-drop, length-take-le}
 use lib.Dec.{leb}
-use borrow.Author.Tests.{le-leb, lt-leb}
+use lib.Pow.{pow-lt}
+use borrow.Author.Tests.{eq-eqb, ne-eqb, le-leb, lt-leb}
 use Rattle.words.specs.Choice.{pick}
 use Rattle.object.proofs.Ranges.{split}
 use Rattle.object.specs.declared.hash_tables.HashTable.{HashTable}
 use Rattle.object.specs.declared.hash_tables.HashTable.the-variants.{Without, SysV, Gnu}
 use Rattle.scope.specs.declared.seats.Seat.{Seat}
-use Rattle.scope.specs.Seats.{hashWords, hashOf, narrow, nth, wordsOf, seatAt, spliced, withSeat}
+use Rattle.scope.specs.Seats.{hashWords, hashOf, narrow, nth, logFrom, logOf, untested, testable, filterWords, filterOf, filterAt, wordsOf, seatAt, FilteredAt, Filtered, spliced, withSeat}
 
 module _ (d : List ℕ) (at : ℕ) (s : List ℕ) (n : ℕ) (hd : at + n ≤ length d) (hs : n ≤ length s) where
   -- an element that was pasted
@@ -45,6 +46,27 @@ module _ (d : List ℕ) (at : ℕ) (s : List ℕ) (n : ℕ) (hd : at + n ≤ len
       ∙ getD-append-add (take at d ++ take n s) (drop (at + n) d) j 0
       ∙ getD-drop (at + n) d j 0
 
+-- a bit shifted inside a word
+pub bit : (k width : ℕ) → k < width → 1 * 2 ^ k % 2 ^ width ≡ 2 ^ k
+bit k width h =
+    let e : 1 * 2 ^ k ≡ 2 ^ k = omega arith in
+    rw e (mod-eq-of-lt (pow-lt h))
+
+-- ---- the words of a seat
+
+-- the turns of the search for a logarithm
+pub log-here : (k n : ℕ) → k < 32 → n ≡ 2 ^ k → k ≡ logFrom (32 - k) k n
+unfolding logFrom
+log-here k n h is =
+    let s : 32 - k ≡ suc (31 - k) = omega arith in
+    rw (s, eq-eqb _ _ is)
+
+pub log-next : (k n : ℕ) → k < 32 → (n ≡ 2 ^ k → ⊥) → logFrom (32 - k) k n ≡ logFrom (32 - (k + 1)) (k + 1) n
+unfolding logFrom
+log-next k n h ne =
+    let s : 32 - k ≡ suc (32 - (k + 1)) = omega arith in
+    rw (s, ne-eqb _ _ ne)
+
 -- what the six words of a hash table say
 hash-back :
     (h : HashTable) → narrow h
@@ -59,6 +81,20 @@ pub hash-six :
 hash-six Without = refl
 hash-six (SysV a b c) = refl
 hash-six (Gnu a b c d e) = refl
+
+-- the words of a filter are three
+three : (b : Bool) (x y z : ℕ) (l : List ℕ) → l ≡ pick b (x ∷ y ∷ z ∷ []) untested → nth l 0 ∷ nth l 1 ∷ nth l 2 ∷ [] ≡ l
+three true x y z l e = rw e
+three false x y z l e = rw e
+
+pub filter-three :
+    (offset span : ℕ) (h : HashTable)
+    → nth (filterOf offset span h) 0 ∷ nth (filterOf offset span h) 1 ∷ nth (filterOf offset span h) 2 ∷ [] ≡ filterOf offset span h
+unfolding filterOf filterWords
+filter-three offset span Without = refl
+filter-three offset span (SysV a b c) = refl
+filter-three offset span (Gnu at b first blooms shift) =
+    three (testable offset span at blooms shift) (offset + at + 16) (logOf blooms) shift (filterWords offset span at blooms shift) refl
 
 pub words-length : (s : Seat) → length (wordsOf s) ≡ 16
 unfolding wordsOf
@@ -117,6 +153,16 @@ module _ (t : List ℕ) (k : ℕ) (s : Seat) (h : 16 * k + 16 ≤ length t) wher
         beside i ne 9 (omega arith),
       )
 
+  -- words 10 to 12
+  splice-filter : narrow (s .view .table) → FilteredAt (spliced t (16 * k) (wordsOf s)) k
+  unfolding wordsOf
+  splice-filter f =
+      rw (splice-get f, one 10 (omega arith), one 11 (omega arith), one 12 (omega arith)) (filter-three (s .offset) (s .span) (s .view .table))
+
+  splice-beside : (i : ℕ) → (i ≡ k → ⊥) → FilteredAt t i → FilteredAt (spliced t (16 * k) (wordsOf s)) i
+  splice-beside i ne before =
+      rw (splice-other i ne, beside i ne 10 (omega arith), beside i ne 11 (omega arith), beside i ne 12 (omega arith)) before
+
 -- ---- a table with a seat put
 
 module _ (t : List ℕ) (k : ℕ) (s : Seat) where
@@ -138,11 +184,20 @@ module _ (t : List ℕ) (k : ℕ) (s : Seat) where
       go (inl h) = ap (λ (x : List ℕ). seatAt x i) (with-none h)
       go (inr h) = ap (λ (x : List ℕ). seatAt x i) (with-room h) ∙ splice-other t k s h i ne
 
+  -- the words of the filters, those of object `k` among them
+  pub put-filtered : narrow (s .view .table) → 16 * k + 16 ≤ length t → Filtered t k → Filtered (withSeat t k s) (k + 1)
+  put-filtered f h before = rw (with-room h) (λ i l. go i l (split i k))
+    where
+      go : (i : ℕ) → i < k + 1 → (i < k) ⊎ (k ≤ i) → FilteredAt (spliced t (16 * k) (wordsOf s)) i
+      go i l (inl q) = splice-beside t k s h i (omega arith) (before i q)
+      go i l (inr q) =
+          let e : i ≡ k = omega arith in
+          rw e (splice-filter t k s h f)
+
   -- what `put_seat` promises
   pub put-all :
       {x : List ℕ} → narrow (s .view .table) → x ≡ withSeat t k s
-      → (x ≡ withSeat t k s) × ((16 * k + 16 ≤ length t → seatAt x k ≡ s) × ((j : ℕ) → (j ≡ k → ⊥) → seatAt x j ≡ seatAt t j))
-  put-all {x} f e = (
-    e,
-    ((λ h. ap (λ (y : List ℕ). seatAt y k) e ∙ put-get f h), (λ j ne. ap (λ (y : List ℕ). seatAt y j) e ∙ put-other j ne)),
-  )
+      → (x ≡ withSeat t k s)
+      × ((16 * k + 16 ≤ length t → seatAt x k ≡ s)
+      × (((j : ℕ) → (j ≡ k → ⊥) → seatAt x j ≡ seatAt t j) × (16 * k + 16 ≤ length t → Filtered t k → Filtered x (k + 1))))
+  put-all {x} f e = rw e (refl, (put-get f, (put-other, put-filtered f)))

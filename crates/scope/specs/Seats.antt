@@ -1,13 +1,16 @@
 -- The table of seats: where each object lies, and what a lookup reads of its record. Document 01, "What must change shape": "Pointers become
 -- offsets. `IndexMap` and `Vec` become fixed arrays of records"; "The object record": "The record holds which hash table was chosen, SysV or
 -- GNU, with its numbers". Object k has the 16 words from 16 * k on: offset, span, symbols, strings, kind of hash table (1 SysV, 2 GNU, else
--- none), at, buckets, chains or first, blooms, shift, and six zeros. Assumes nothing.
+-- none), at, buckets, chains or first, blooms, shift; three words that only repeat what a search tests of a bloom filter (where its words stand
+-- in the arena, the logarithm of their number, the shift); and three zeros. Assumes nothing.
 use Prim.Native.Nat.{ℕ, zero, suc, _+_, _*_, _%_, _^_, _<_}
 use mathlib.Core.List.{List, [], _∷_}
+use mathlib.Core.Bool.{Bool}
+use mathlib.Core.Path.{_≡_}
 use lib.Dec.{eqb, leb}
 use lib.ListN.{length, getD}
 use lib.Seq.{paste}
-use Rattle.words.specs.Choice.{pick}
+use Rattle.words.specs.Choice.{pick, both}
 use Rattle.object.specs.declared.hash_tables.HashTable.{HashTable}
 use Rattle.object.specs.declared.hash_tables.HashTable.the-variants.{Without, SysV, Gnu}
 use Rattle.object.specs.declared.hash_tables.View.{View}
@@ -60,11 +63,50 @@ narrow (Gnu a b c d e) = (b < 2 ^ 32) × (c < 2 ^ 32) × (d < 2 ^ 32) × (e < 2 
 abbrev pub nth : List ℕ → ℕ → ℕ
 nth w j = getD w j 0
 
+-- the first of the `tries` numbers from `k` on to which `n` is 2's power; 64 where there is none
+unfoldable pub logFrom : ℕ → ℕ → ℕ → ℕ
+logFrom zero k n = 64
+logFrom (suc tries) k n = pick (eqb n (2 ^ k)) k (logFrom tries (k + 1) n)
+
+-- the logarithm of a power of 2 below 2 ^ 32; 64 for any other number
+unfoldable pub logOf : ℕ → ℕ
+logOf n = logFrom 32 0 n
+
+-- a filter that is not tested by the three words: its logarithm is 64
+abbrev pub untested : List ℕ
+untested = 0 ∷ 64 ∷ 0 ∷ []
+
+-- the bloom words are inside the span, which ends at 2 ^ 32 or below in the arena, and the shift is below 32
+abbrev pub testable : ℕ → ℕ → ℕ → ℕ → ℕ → Bool
+testable offset span at blooms shift = both (leb shift 31) (both (leb (at + (16 + 8 * blooms)) span) (leb (offset + span) (2 ^ 32)))
+
+-- the three words of a GNU table's bloom filter
+unfoldable pub filterWords : ℕ → ℕ → ℕ → ℕ → ℕ → List ℕ
+filterWords offset span at blooms shift =
+    pick (testable offset span at blooms shift) ((offset + at + 16) ∷ logOf blooms ∷ shift ∷ []) untested
+
+-- only a GNU table has one
+unfoldable pub filterOf : ℕ → ℕ → HashTable → List ℕ
+filterOf offset span Without = untested
+filterOf offset span (SysV a b c) = untested
+filterOf offset span (Gnu at b first blooms shift) = filterWords offset span at blooms shift
+
+abbrev pub filterAt : Seat → List ℕ
+filterAt s = filterOf (s .offset) (s .span) (s .view .table)
+
 unfoldable pub wordsOf : Seat → List ℕ
 wordsOf s =
     s .offset ∷ s .span ∷ s .view .symbols ∷ s .view .strings ∷ nth (hashWords (s .view .table)) 0 ∷ nth (hashWords (s .view .table)) 1
     ∷ nth (hashWords (s .view .table)) 2 ∷ nth (hashWords (s .view .table)) 3 ∷ nth (hashWords (s .view .table)) 4
-    ∷ nth (hashWords (s .view .table)) 5 ∷ 0 ∷ 0 ∷ 0 ∷ 0 ∷ 0 ∷ 0 ∷ []
+    ∷ nth (hashWords (s .view .table)) 5 ∷ nth (filterAt s) 0 ∷ nth (filterAt s) 1 ∷ nth (filterAt s) 2 ∷ 0 ∷ 0 ∷ 0 ∷ []
+
+-- words 10 to 12 of object `k` are those of its seat
+abbrev pub FilteredAt : List ℕ → ℕ → Type 0
+FilteredAt table k = wordAt table k 10 ∷ wordAt table k 11 ∷ wordAt table k 12 ∷ [] ≡ filterAt (seatAt table k)
+
+-- the same of each object below `count`
+abbrev pub Filtered : List ℕ → ℕ → Type 0
+Filtered table count = (k : ℕ) → k < count → FilteredAt table k
 
 -- the table with 16 words from `p` on
 unfoldable pub spliced : List ℕ → ℕ → List ℕ → List ℕ

@@ -5,7 +5,7 @@ ghost use Prim.Native.Nat.{ℕ, _+_, _-_, _*_, _/_, _%_, _^_, _≤_, _<_};
 ghost use lib.ListN.{length};
 ghost use Rattle.words.specs.Words.{sum64};
 ghost use Rattle.words.specs.Hash.{elfHash};
-ghost use Rattle.scope.specs.Seats.{wordAt, seatAt, seatsFrom};
+ghost use Rattle.scope.specs.Seats.{wordAt, seatAt, seatsFrom, FilteredAt, Filtered};
 ghost use Rattle.scope.specs.ScopeCode.{answerAt, Lacks, seatAnswer, ownAnswer, scanSeats, resolveSeats, resolveCopySeats};
 use crate::seats::Seat;
 use object::hash_tables::Answer;
@@ -45,51 +45,31 @@ fn elf_for(table: &[u64], k: usize, name: &[u8]) -> u32
     0
 }
 
-// Where the bloom word of a GNU hash ends in a table that has `n` of them.
-fn bloom_end(gnu: u32, n: u32) -> u64
-    requires { ⌜ 0 < n ⌝ }
-    ensures { λ r. ⌜ (r ≡ 24 + 8 * (gnu / 64 % n)) × (r < 2 ^ 40) ⌝ }
+// Where the bloom word of a GNU hash stands among 2^bits of them.
+fn bloom_place(gnu: u32, bits: u64) -> u64
+    requires { ⌜ bits < 32 ⌝ }
+    ensures { λ r. ⌜ (r ≡ 8 * (gnu / 64 % 2 ^ bits)) × (r < 2 ^ 32) ⌝ }
 {
-    24 + 8 * (((gnu / 64) % n) as u64)
+    8 * (((gnu / 64) as u64) % (1 << bits))
 }
 
-// Whether the bloom filter of object `k` rules out every name with this GNU hash.
-fn rules_out(arena: &[u8], table: &[u64], k: usize, gnu: u32) -> bool
-    requires { ⌜ 16 * k + 16 ≤ length (now table) ⌝ }
+// Whether the bloom filter of object `k` rules out every name with this GNU hash; the arena's last whole word is at `last`.
+fn rules_out(arena: &[u8], last: u64, table: &[u64], k: usize, gnu: u32) -> bool
+    requires { ⌜ (last + 8 ≤ length (now arena)) × (16 * k + 16 ≤ length (now table)) × FilteredAt (now table) k ⌝ }
     ensures { λ r. ⌜ (r ≡ true → Lacks (now (arena .entry)) (seatAt (now (table .entry)) k) gnu) ⌝ }
 {
-    let size = arena.len() as u64;
     let p = 16 * k;
-    if table[p + 4] != 2 {
+    let bits = table[p + 11];
+    if 32 <= bits {
         return false;
     }
-    let off = table[p + 0];
-    let span = table[p + 1];
-    let at = table[p + 5];
-    let n = (table[p + 8] % 0x1_0000_0000) as u32;
-    let shift = table[p + 9];
-    if n == 0 {
+    let at = table[p + 10] % 0x1_0000_0000 + bloom_place(gnu, bits);
+    if last < at {
         return false;
     }
-    if 31 < shift {
-        return false;
-    }
-    if span < at {
-        return false;
-    }
-    let end = bloom_end(gnu, n);
-    if span - at < end {
-        return false;
-    }
-    if size < off {
-        return false;
-    }
-    if size - off < span {
-        return false;
-    }
-    let w = words::bytes::u64_in(arena, (off + at + end - 8) as usize);
+    let w = words::bytes::u64_in(arena, at as usize);
     let one = (w >> (gnu % 64)) % 2;
-    let two = (w >> ((gnu >> (shift as u32)) % 64)) % 2;
+    let two = (w >> ((gnu >> (table[p + 12] % 32)) % 64)) % 2;
     if one + two == 2 {
         return false;
     }
@@ -98,14 +78,19 @@ fn rules_out(arena: &[u8], table: &[u64], k: usize, gnu: u32) -> bool
 
 // An object from `start` on, or `count`: the bloom filter of each one before it rules out every name with this GNU hash.
 fn candidate(arena: &[u8], table: &[u64], start: usize, count: usize, gnu: u32) -> usize
+    requires { ⌜ Filtered (now table) count ⌝ }
     ensures { λ r. ⌜ (start ≤ r) × ((k : ℕ) → start ≤ k → k < r → Lacks (now (arena .entry)) (seatAt (now (table .entry)) k) gnu) ⌝ }
 {
+    if arena.len() < 8 {
+        return start;
+    }
     if table.len() / 16 < count {
         return start;
     }
+    let last = (arena.len() - 8) as u64;
     let mut k = start;
     while k < count {
-        if !rules_out(arena, table, k, gnu) {
+        if !rules_out(arena, last, table, k, gnu) {
             return k;
         }
         k += 1;
@@ -113,14 +98,18 @@ fn candidate(arena: &[u8], table: &[u64], start: usize, count: usize, gnu: u32) 
     k
 }
 
-// Whether object `k` has no name with this GNU hash, as its bloom filter says; a seat past the table's end is not looked at.
-fn ruled_out(arena: &[u8], table: &[u64], k: usize, gnu: u32) -> bool
+// Whether object `k` of `count` has no name with this GNU hash, as its bloom filter says; an object that is none of them is not looked at.
+fn ruled_out(arena: &[u8], table: &[u64], count: usize, k: usize, gnu: u32) -> bool
+    requires { ⌜ Filtered (now table) count ⌝ }
     ensures { λ r. ⌜ (r ≡ true → Lacks (now (arena .entry)) (seatAt (now (table .entry)) k) gnu) ⌝ }
 {
-    if k < table.len() / 16 {
-        return rules_out(arena, table, k, gnu);
+    if count <= k {
+        return false;
     }
-    false
+    if candidate(arena, table, k, k + 1, gnu) == k {
+        return false;
+    }
+    true
 }
 
 // The answer of object `k`.
@@ -152,15 +141,17 @@ fn seat_answer(
 fn own_answer(
     arena: &[u8],
     table: &[u64],
+    count: usize,
     k: usize,
     address: u64,
     name: &[u8],
     gnu: u32,
     elf: u32,
 ) -> Scoped
+    requires { ⌜ Filtered (now table) count ⌝ }
     ensures { λ r. ⌜ r ≡ ownAnswer address (now (arena .entry)) k (seatAt (now (table .entry)) k) (now (name .entry)) gnu elf ⌝ }
 {
-    if ruled_out(arena, table, k, gnu) {
+    if ruled_out(arena, table, count, k, gnu) {
         return Scoped::Absent;
     }
     let s = crate::seats::seat_at(table, k);
@@ -190,6 +181,7 @@ fn scan_hashed(
     gnu: u32,
     elf: u32,
 ) -> Scoped
+    requires { ⌜ Filtered (now table) count ⌝ }
     ensures { λ r. ⌜ r ≡ scanSeats address (now (arena .entry)) start (seatsFrom (now (table .entry)) start (count - start)) (now (name .entry)) gnu elf ⌝ }
 {
     let mut k = start;
@@ -213,6 +205,7 @@ fn scan(
     name: &[u8],
     gnu: u32,
 ) -> Scoped
+    requires { ⌜ Filtered (now table) count ⌝ }
     ensures { λ r. ⌜ r ≡ scanSeats address (now (arena .entry)) start (seatsFrom (now (table .entry)) start (count - start)) (now (name .entry)) gnu (elfHash (now (name .entry))) ⌝ }
 {
     let mut k = candidate(arena, table, start, count, gnu);
@@ -240,10 +233,11 @@ pub fn resolve(
     name: &[u8],
     gnu: u32,
 ) -> Scoped
+    requires { ⌜ Filtered (now table) count ⌝ }
     ensures { λ r. ⌜ r ≡ resolveSeats address (now (arena .entry)) (now (table .entry)) count requester (now (name .entry)) gnu (elfHash (now (name .entry))) ⌝ }
 {
     let elf = elf_for(table, requester, name);
-    let own = own_answer(arena, table, requester, address, name, gnu, elf);
+    let own = own_answer(arena, table, count, requester, address, name, gnu, elf);
     let Scoped::Absent = own else {
         return own;
     };
@@ -264,6 +258,7 @@ pub fn resolve_copy(
     name: &[u8],
     gnu: u32,
 ) -> Scoped
+    requires { ⌜ Filtered (now table) count ⌝ }
     ensures { λ r. ⌜ r ≡ resolveCopySeats address (now (arena .entry)) (now (table .entry)) count (now (name .entry)) gnu (elfHash (now (name .entry))) ⌝ }
 {
     let a = scan(arena, table, 2, count, address, name, gnu);

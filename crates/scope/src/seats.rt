@@ -2,7 +2,7 @@
 ghost use mathlib.Core.Path.{_≡_};
 ghost use Prim.Native.Nat.{ℕ, _+_, _*_, _≤_, _%_, _<_, _^_};
 ghost use lib.ListN.{length, getD};
-ghost use Rattle.scope.specs.Seats.{hashWords, hashOf, narrow, wordsOf, seatAt, spliced, withSeat};
+ghost use Rattle.scope.specs.Seats.{hashWords, hashOf, narrow, logOf, filterWords, filterOf, wordsOf, seatAt, Filtered, spliced, withSeat};
 use object::hash_tables::HashTable;
 use object::hash_tables::View;
 
@@ -81,6 +81,64 @@ fn hash_words(h: HashTable) -> [u64; 6]
     }
 }
 
+// The logarithm of a power of 2 below 2^32; 64 for any other number.
+fn log_of(n: u32) -> u64
+    ensures { λ r. ⌜ r ≡ logOf n ⌝ }
+{
+    let mut k = 0u64;
+    while k < 32 {
+        if n == 1 << k {
+            return k;
+        }
+        k += 1;
+    }
+    64
+}
+
+// The three words of a GNU table's bloom filter.
+fn filter_words(offset: usize, span: usize, at: usize, blooms: u32, shift: u32) -> [u64; 3]
+    ensures { λ r. ⌜ r ≡ filterWords offset span at blooms shift ⌝ }
+{
+    if 31 < shift {
+        return [0, 64, 0];
+    }
+    let n = 16 + 8 * (blooms as usize);
+    if span < n {
+        return [0, 64, 0];
+    }
+    if span - n < at {
+        return [0, 64, 0];
+    }
+    if 0x1_0000_0000 < span {
+        return [0, 64, 0];
+    }
+    if 0x1_0000_0000 - span < offset {
+        return [0, 64, 0];
+    }
+    [(offset + at + 16) as u64, log_of(blooms), shift as u64]
+}
+
+// The three words of a seat's bloom filter.
+fn filter_of(offset: usize, span: usize, h: HashTable) -> [u64; 3]
+    ensures { λ r. ⌜ r ≡ filterOf offset span h ⌝ }
+{
+    match h {
+        HashTable::Without => [0, 64, 0],
+        HashTable::SysV {
+            at: _,
+            buckets: _,
+            chains: _,
+        } => [0, 64, 0],
+        HashTable::Gnu {
+            at,
+            buckets: _,
+            first: _,
+            blooms,
+            shift,
+        } => filter_words(offset, span, at, blooms, shift),
+    }
+}
+
 // The 16 words of a seat.
 fn words_of(s: Seat) -> [u64; 16]
     ensures { λ r. ⌜ (r ≡ wordsOf s) × narrow (s .view .table) ⌝ }
@@ -88,6 +146,7 @@ fn words_of(s: Seat) -> [u64; 16]
     let v = s.view;
     let h = v.table;
     let w = hash_words(h);
+    let f = filter_of(s.offset, s.span, h);
     [
         s.offset as u64,
         s.span as u64,
@@ -99,9 +158,9 @@ fn words_of(s: Seat) -> [u64; 16]
         w[3],
         w[4],
         w[5],
-        0,
-        0,
-        0,
+        f[0],
+        f[1],
+        f[2],
         0,
         0,
         0,
@@ -185,6 +244,7 @@ pub fn put_seat(table: &mut [u64], k: usize, s: Seat)
     ensures same { λ _. ⌜ now (table .exit) ≡ withSeat (now (table .entry)) k s ⌝ }
     ensures back { λ _. ⌜ (16 * k + 16 ≤ length (now (table .entry)) → seatAt (now (table .exit)) k ≡ s) ⌝ }
     ensures others { λ _. ⌜ ((j : ℕ) → (j ≡ k → ⊥) → seatAt (now (table .exit)) j ≡ seatAt (now (table .entry)) j) ⌝ }
+    ensures filtered { λ _. ⌜ (16 * k + 16 ≤ length (now (table .entry)) → Filtered (now (table .entry)) k → Filtered (now (table .exit)) (k + 1)) ⌝ }
 {
     let w = words_of(s);
     if k < table.len() / 16 {

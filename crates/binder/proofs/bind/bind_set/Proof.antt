@@ -1,5 +1,6 @@
 -- `binder::bind::bind_set` meets its contract. Assumes nothing.
 use Rattle.binder.proofs.BindIs.{load-refused, bind-is}
+use Rattle.binder.proofs.PrepareLaws.{all-filtered}
 use Rattle.sheet.specs.Parts.{inputsIn}
 use lib.ListN.{length}
 use denote.Ref.{now}
@@ -41,7 +42,9 @@ slice-aggregate-run-order : tie.Need-slice-aggregate-run-order
 slice-aggregate-run-order c = search needs
 
 run-order-requires : tie.Need-run-order-requires
-run-order-requires c κs = search needs
+run-order-requires c κs =
+    let l = c .before .before .before .before .before .before .before .before .before .before .before .load-all in
+    (search needs, all-filtered (inputsIn (now (c .before .before .before .before .before .before .before .before .before .before .before .before .before .before .before .before .before .args .bytes)) (c .before .before .before .before .before .before .before .before .before .before .before .before .before .before .before .before .before .args .parts)) _ _ _ _ (l .result) (l .ensures) (c .before .before .before .before .before .before .if1 .left) (c .before .before .before .before .before .before .before .before .before .before .before .before .before .before .before .before .before .pre .0 .many))
 
 end-requires : tie.Need-end-requires
 end-requires c κs = search needs

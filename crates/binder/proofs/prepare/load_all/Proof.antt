@@ -74,7 +74,7 @@ loop-again c = (
   c .before .before .before .put-seat .kept .0 ∙ c .before .before .before .before .before .before .before .before .before .before .before .before .before .loop .inv .0,
   c .before .before .before .before .before .before .before .before .before .before .before .before .before .loop .inv .1,
   load-turn (inputsIn (now (c .before .before .before .before .before .before .before .before .before .before .before .before .before .before .before .before .before .args .bytes)) (c .before .before .before .before .before .before .before .before .before .before .before .before .before .before .before .before .before .args .parts)) (now (c .before .before .before .before .before .before .before .before .before .before .before .before .before .before .before .before .before .args .arena)) (c .before .before .before .before .before .before .before .before .before .before .before .before .before .loop .arena) (c .before .before .before .before .before .before .before .before .before .before .before .before .before .loop .table) (c .before .before .before .before .before .before .before .before .before .before .before .before .before .loop .off) (c .before .before .before .before .before .before .before .before .before .before .before .before .before .loop .k) (c .before .before .before .before .before .before .before .before .before .before .before .before .before .loop .inv .2) (omega (arith, c .before .before .before .before .before .before .before .before .before .before .before .before .before .loop .inv .1)) (c .before .before .before .before .before .before .before .before .before .load-at .last .0) (c .before .before .before .before .before .before .before .before .before .load-at .result)
-      (rw (c .before .before .before .before .before .before .before .before .before .before .before .file-of .ensures) at (c .before .before .before .before .before .before .before .before .before .load-at .ensures)) (c .before .before .before .before .before .before .if1 .left) (c .before .before .before .before .before .before .before .before .before .load-at .kept .0) _ (c .before .before .before .put-seat .ensures .1 .0 (omega (arith, c .before .before .before .before .before .before .before .before .before .before .before .before .before .before .before .before .before .pre .0, c .before .before .before .before .before .before .before .before .before .before .before .before .before .before .before .before .before .pre .2, c .before .before .before .before .before .before .before .before .before .before .before .before .before .loop .inv .0))) (c .before .before .before .put-seat .ensures .1 .1),
+      (rw (c .before .before .before .before .before .before .before .before .before .before .before .file-of .ensures) at (c .before .before .before .before .before .before .before .before .before .load-at .ensures)) (c .before .before .before .before .before .before .if1 .left) (c .before .before .before .before .before .before .before .before .before .load-at .kept .0) _ (c .before .before .before .put-seat .ensures .1 .0 (omega (arith, c .before .before .before .before .before .before .before .before .before .before .before .before .before .before .before .before .before .pre .0, c .before .before .before .before .before .before .before .before .before .before .before .before .before .before .before .before .before .pre .2, c .before .before .before .before .before .before .before .before .before .before .before .before .before .loop .inv .0))) (c .before .before .before .put-seat .ensures .1 .1 .0) (c .before .before .before .put-seat .ensures .1 .1 .1 (omega (arith, c .before .before .before .before .before .before .before .before .before .before .before .before .before .before .before .before .before .pre .0, c .before .before .before .before .before .before .before .before .before .before .before .before .before .before .before .before .before .pre .2, c .before .before .before .before .before .before .before .before .before .before .before .before .before .loop .inv .0))),
 )
 
 same-length-3 : tie.Need-same-length-3 Inv-loop μ-loop

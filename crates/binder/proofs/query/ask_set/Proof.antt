@@ -4,6 +4,7 @@ use Rattle.scope.specs.declared.scope.Scoped.{Scoped}
 use Rattle.binder.specs.declared.Reply.the-variants.{Refused}
 use Rattle.binder.specs.Bind.{replied, replyOf}
 use Rattle.binder.specs.ScopeModel.{scopedOf}
+use Rattle.binder.proofs.PrepareLaws.{all-filtered}
 use Rattle.sheet.specs.Parts.{inputsIn}
 use lib.ListN.{length, replicate}
 use denote.Ref.{now}
@@ -63,7 +64,9 @@ slice-aggregate-resolve : tie.Need-slice-aggregate-resolve
 slice-aggregate-resolve c = search needs
 
 resolve-requires : tie.Need-resolve-requires
-resolve-requires c κs = search needs
+resolve-requires c κs =
+    let l = c .before .before .before .before .before .before .before .before .load-all in
+    all-filtered (inputsIn (now (c .before .before .before .before .before .before .before .before .before .before .before .before .before .before .args .bytes)) (c .before .before .before .before .before .before .before .before .before .before .before .before .before .before .args .parts)) _ _ _ _ (l .result) (l .ensures) (c .before .before .before .before .if1 .left) (c .before .before .before .before .before .before .before .before .before .before .before .before .before .before .pre .many)
 
 reply-of-requires : tie.Need-reply-of-requires
 reply-of-requires c κs = search needs

@@ -50,7 +50,7 @@ run-at-spec =
     (λ c κs. search needs)
     (λ c. refl)
     returns-2
-    (λ c κs. search needs)
+    (λ c κs. c .before .before .before .before .before .before .before .before .before .before .before .before .before .before .before .before .before .pre)
     (λ c. c .before .before .before .before .run-object .kept .0)
     (λ c. c .before .before .before .before .run-object .kept .1 .0)
     returns-3)

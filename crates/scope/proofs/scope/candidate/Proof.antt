@@ -8,11 +8,11 @@ use Rattle.scope.proofs.scope.candidate.Statement.{statement}
 use Rattle.scope.proofs.scope.candidate.Tie as tie
 
 abbrev Inv-loop : tie.InvT-loop
-Inv-loop arena table start count gnu k₀ k =
+Inv-loop arena table start count gnu last k₀ k =
     Past arena table gnu start k
 
 abbrev μ-loop : tie.MeasureT-loop
-μ-loop arena table start count gnu k₀ k =
+μ-loop arena table start count gnu last k₀ k =
     count - k
 
 returns : tie.Need-returns Inv-loop μ-loop
@@ -20,22 +20,31 @@ returns c =
     let a = c .before .before .before .args in
     past-none (now (a .arena)) (now (a .table)) (a .gnu) (a .start)
 
-loop-holds : tie.Need-loop-holds Inv-loop μ-loop
-loop-holds c =
-    let a = c .before .before .before .args in
-    past-none (now (a .arena)) (now (a .table)) (a .gnu) (a .start)
-
 returns-2 : tie.Need-returns-2 Inv-loop μ-loop
 returns-2 c =
+    let a = c .before .before .before .before .args in
+    past-none (now (a .arena)) (now (a .table)) (a .gnu) (a .start)
+
+loop-holds : tie.Need-loop-holds Inv-loop μ-loop
+loop-holds c =
+    let a = c .before .before .before .before .args in
+    past-none (now (a .arena)) (now (a .table)) (a .gnu) (a .start)
+
+rules-out-requires : tie.Need-rules-out-requires Inv-loop μ-loop
+rules-out-requires c κs =
+    (search needs, search needs, c .before .before .before .before .before .before .pre (c .before .loop .k) (c .loop-test .taken))
+
+returns-3 : tie.Need-returns-3 Inv-loop μ-loop
+returns-3 c =
     c .before .before .before .loop .inv
 
 loop-again : tie.Need-loop-again Inv-loop μ-loop
 loop-again c =
-    let a = c .before .before .before .before .before .before .before .args in
-    past-next (now (a .arena)) (now (a .table)) (a .gnu) (a .start) (c .before .before .before .loop .k) (c .before .before .before .loop .inv) (c .before .rules-out .ensures (not-false _ (c .if2 .left)))
+    let a = c .before .before .before .before .before .before .before .before .args in
+    past-next (now (a .arena)) (now (a .table)) (a .gnu) (a .start) (c .before .before .before .loop .k) (c .before .before .before .loop .inv) (c .before .rules-out .ensures (not-false _ (c .if3 .left)))
 
-returns-3 : tie.Need-returns-3 Inv-loop μ-loop
-returns-3 c =
+returns-4 : tie.Need-returns-4 Inv-loop μ-loop
+returns-4 c =
     c .before .loop .inv
 
 pub candidate-spec : {M : Type 1} → statement M
@@ -45,10 +54,12 @@ candidate-spec =
     Inv-loop
     μ-loop
     returns
-    loop-holds
-    (λ c κs. search needs)
     returns-2
+    (λ c. search needs)
+    loop-holds
+    rules-out-requires
+    returns-3
     (λ c. search needs)
     (λ c. search needs)
     loop-again
-    returns-3)
+    returns-4)

@@ -1,14 +1,23 @@
 -- `scope::scope::rules_out` meets its contract: only the last return says anything. Assumes nothing.
+use mathlib.Core.Path.{ap, _∙_}
+use Prim.Native.Nat.{ℕ, _+_, _%_, _^_}
 use borrow.Author.Needs.{needs}
 use denote.Ref.{now}
+use Rattle.words.specs.Memory.{mem}
+use Rattle.words.specs.Words.{leAt}
+use Rattle.scope.specs.Seats.{wordAt, seatAt}
 use Rattle.scope.proofs.BloomLaws.{untold, lacks-name}
 use Rattle.scope.proofs.scope.rules_out.Statement.{statement}
 use Rattle.scope.proofs.scope.rules_out.Tie as tie
 
-returns-9 : tie.Need-returns-9
-returns-9 c =
-    let a = c .before .before .before .before .before .before .before .before .before .before .before .before .before .before .before .before .before .before .args in
-    λ t. lacks-name (now (a .arena)) (now (a .table)) (a .k) (a .gnu) (c .before .u64-in .result) (c .before .before .before .before .before .bloom-end .result) (c .before .before .before .before .before .before .before .before .before .before .before .before .before .before .if1 .left) (c .before .before .before .before .before .before .before .if3 .left) (c .before .before .before .before .before .bloom-end .ensures .0) (c .before .before .before .before .before .before .if4 .left) (c .before .before .before .before .if5 .left) (c .before .u64-in .ensures) (c .if8 .left)
+returns-4 : tie.Need-returns-4
+returns-4 c =
+    let a = c .before .before .before .before .before .before .before .before .before .before .args in
+    let t = now (a .table) in
+    let k = a .k in
+    λ h. lacks-name (now (a .arena)) (a .gnu) (c .before .before .u64-in .result) (wordAt t k 10) (wordAt t k 11) (wordAt t k 12) (c .before .before .before .before .before .before .if1 .left)
+    (c .before .before .u64-in .ensures ∙ ap (λ (n : ℕ). leAt 8 (mem (now (a .arena))) (wordAt t k 10 % 2 ^ 32 + n)) (c .before .before .before .before .bloom-place .ensures .0))
+    (c .if3 .left) (seatAt t k) (c .before .before .before .before .before .before .before .before .before .before .pre .2)
 
 pub rules-out-spec : {M : Type 1} → statement M
 rules-out-spec =
@@ -22,29 +31,9 @@ rules-out-spec =
     (λ c. search needs)
     (λ c. search needs)
     (λ c. search needs)
-    (λ c. search needs)
-    (λ c. search needs)
-    (λ c. search needs)
-    (λ c. search needs)
-    (λ c. search needs)
-    (λ c. search needs)
-    (λ c. search needs)
-    (λ c. search needs)
-    (λ c. search needs)
-    (λ c. search needs)
-    (λ c. search needs)
-    (λ c. search needs)
-    (λ c. search needs)
-    (λ c. untold)
-    (λ c. untold)
-    (λ c. untold)
     (λ c κs. search needs)
-    (λ c. untold)
-    (λ c. untold)
-    (λ c. untold)
     (λ c. search needs)
-    (λ c. search needs)
-    (λ c. search needs)
+    (λ c. untold)
     (λ c κs. search needs)
     (λ c. search needs)
     (λ c. search needs)
@@ -53,5 +42,8 @@ rules-out-spec =
     (λ c. search needs)
     (λ c. search needs)
     (λ c. search needs)
+    (λ c. search needs)
+    (λ c. search needs)
+    (λ c. search needs)
     (λ c. untold)
-    returns-9)
+    returns-4)

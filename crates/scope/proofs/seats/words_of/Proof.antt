@@ -7,13 +7,17 @@ use Rattle.scope.proofs.seats.words_of.Tie as tie
 returns : tie.Need-returns
 unfolding wordsOf
 returns c =
-    (simp (c .hash-words .ensures .0), c .hash-words .ensures .1)
+    (simp (c .before .hash-words .ensures .0, c .filter-of .ensures), c .before .hash-words .ensures .1)
 
 pub words-of-spec : {M : Type 1} → statement M
 words-of-spec =
     tie.close
     (tie.spec
     (λ c κs. search needs)
+    (λ c κs. search needs)
+    (λ c. search needs)
+    (λ c. search needs)
+    (λ c. search needs)
     (λ c. search needs)
     (λ c. search needs)
     (λ c. search needs)
