@@ -3,3 +3,5 @@ pub mod LongerSetLaw
 pub mod LongerQueryLaw
 pub mod CasesHold
 pub mod OrderReported
+pub mod RefusalNumbers
+pub mod RefusalsHold

@@ -2,3 +2,4 @@
 pub mod LongerSet
 pub mod OrderReport
 pub mod Cases
+pub mod Refusals
