@@ -5,3 +5,4 @@ pub mod CasesHold
 pub mod OrderReported
 pub mod RefusalNumbers
 pub mod RefusalsHold
+pub mod HostStays

@@ -1,18 +1,16 @@
 -- Demand 1's statements on refusals hold. Assumes nothing.
-use mathlib.Core.Path.{_≡_, refl, sym, ap, subst, _∙_}
-use mathlib.Core.Bool.{Bool, true, false, true≢false}
+use mathlib.Core.Path.{_≡_, refl, ap, _∙_}
+use mathlib.Core.Bool.{true, false, true≢false}
 use mathlib.Core.Logic.{_≢_}
-use mathlib.Core.List.{List, [], _∷_, _++_}
+use mathlib.Core.List.{List, _++_}
 use Prim.Native.Nat.{ℕ, _+_, _-_, _≤_, _<_}
 use native.Mathlib.Omega.{arith}
 use borrow.Author.Tests.{ne-eqb, eqb-false, leb-true}
 use lib.Dec.{eqb, leb, ltb}
 use lib.ListN.{length, replicate, length-append, length-replicate}
-use Rattle.words.specs.Memory.{tab}
 use Rattle.words.proofs.Slices.{length-tab}
 use Rattle.model.specs.Order.{has}
 use Rattle.model.specs.Objects.{Objs}
-use Rattle.model.specs.Relocation.{bound, placed}
 use Rattle.model.specs.Scope.{resolve}
 use Rattle.model.specs.Symbols as symbols
 use Rattle.model.specs.Symbols.{absent, answer}
@@ -26,12 +24,11 @@ use Rattle.binder.specs.declared.Answer.{Answer}
 use Rattle.binder.specs.declared.Reply as replies
 use Rattle.binder.specs.declared.Reply.{Reply}
 use Rattle.binder.specs.Instance.{File}
-use Rattle.binder.specs.Verdict.{Verdict, passed, refused, first, loadVerdict, orderVerdict}
+use Rattle.binder.specs.Verdict.{Verdict, passed, refused, first, orderVerdict}
 use Rattle.binder.specs.Report.{orderWords, firstUndefined}
 use Rattle.binder.specs.Bind.{
   filesOf,
   namesOf,
-  objectsOf,
   unless,
   prepareVerdict,
   allows,
@@ -48,7 +45,7 @@ use Rattle.binder.specs.Bind.{
 use Rattle.binder.proofs.OutcomeLaws.{first-passed, unless-passed, objectsIn, orderIn}
 use Rattle.binder.proofs.OrderIs.{names-length}
 use Rattle.binder.proofs.PrepareLaws.{files-length}
-use Rattle.demands.specs.Refusals.{withoutObject, ObjectOf, BindRefused, BindRefusals, QueryRefused, QueryRefusals, Lengths}
+use Rattle.demands.specs.Refusals.{withoutObject, ObjectOf, BindNumber, BindRefusals, QueryNumber, QueryRefusals, Lengths}
 use Rattle.demands.proofs.RefusalNumbers.{
   Meets,
   first-meets,
@@ -86,9 +83,9 @@ of-object :
 of-object count n k a b c d small later entry =
     record {
       zero = λ e. absurd (clash e (not-without n a b c d));
-      object = λ _. small;
-      later = later;
-      entry = entry;
+      object = λ _. omega arith;
+      later = λ e. omega (arith, later e);
+      entry = λ l h. omega (arith, entry l h);
     }
 
 module _ (sheet bytes : List ℕ) (size address : ℕ) where
@@ -167,10 +164,6 @@ module _ (sheet bytes : List ℕ) (size address : ℕ) where
   unfolding prepareVerdict
   good-sheet v = unless-passed (sheetOk sheet (length bytes)) 1 0 (first-passed (unless (sheetOk sheet (length bytes)) 1 0) _ v .0)
 
-  -- the numbers of `bind`
-  abbrev BindNumber : ℕ → Type 0
-  BindNumber n = (1 ≤ n) × (n ≤ 20) × (n ≢ 13)
-
   bind-right :
       (policy : Policy) (words : ℕ)
       → Meets (Right BindNumber (length os))
@@ -179,10 +172,6 @@ module _ (sheet bytes : List ℕ) (size address : ℕ) where
       first-then (Right BindNumber (length os)) (prepareVerdict sheet bytes size address) _
       (prepare-right BindNumber (λ n l h. omega arith))
       (λ v. relocate-right BindNumber (λ n l h. omega arith) (good-sheet v) policy words)
-
-  -- and those of `query`
-  abbrev QueryNumber : ℕ → Type 0
-  QueryNumber n = (1 ≤ n) × (n ≤ 13)
 
   query-right :
       (requester : ℕ)
@@ -210,7 +199,7 @@ refused-outcome P size words (refused i j) a r n k arena report m e =
 pub bind-refusals : BindRefusals
 unfolding bindOf bindIn
 bind-refusals sheet bytes size address policy words n k arena report e =
-    let o = refused-outcome (Right (BindNumber sheet bytes size address) (length (setOf sheet bytes))) size words _ _ _ n k arena report
+    let o = refused-outcome (Right BindNumber (length (setOf sheet bytes))) size words _ _ _ n k arena report
     (bind-right sheet bytes size address policy words) e in
     record { number = o .0 .0; object = o .0 .1; arena-zeros = o .1; report-zeros = o .2 }
 
@@ -234,7 +223,7 @@ no-refusal (answer j s a) n k e = let z : _≡_ {A = ℕ} 0 1 = cc in absurd (om
 pub query-refusals : QueryRefusals
 unfolding queryOf
 query-refusals sheet bytes size address requester name n k arena e =
-    let o = refused-reply (Right (QueryNumber sheet bytes size address) (length (setOf sheet bytes))) size _ _ _ n k arena
+    let o = refused-reply (Right QueryNumber (length (setOf sheet bytes))) size _ _ _ n k arena
     (query-right sheet bytes size address requester)
     (no-refusal (resolve (objectsIn address (setOf sheet bytes)) requester name)) e in
     record { number = o .0 .0; object = o .0 .1; arena-zeros = o .1 }

@@ -34,10 +34,13 @@ pub record ObjectOf (count n k : ℕ) : Type 0 where
   -- 14 to 19 are of entries, and the host's are not read
   pub entry : 14 ≤ n → n ≤ 19 → 1 ≤ k
 
+-- the numbers of `bind`: 1 to 12, and 14 to 20
+abbrev pub BindNumber : ℕ → Type 0
+BindNumber n = (1 ≤ n) × (n ≤ 20) × (n ≢ 13)
+
 -- what a refused call to `bind` answers, and leaves
 pub record BindRefused (sheet bytes : List ℕ) (size words n k : ℕ) (arena report : List ℕ) : Type 0 where
-  -- 1 to 12, and 14 to 20
-  pub number : (1 ≤ n) × (n ≤ 20) × (n ≢ 13)
+  pub number : BindNumber n
   pub object : ObjectOf (length (setOf sheet bytes)) n k
   pub arena-zeros : arena ≡ replicate size 0
   pub report-zeros : report ≡ replicate words 0
@@ -48,9 +51,13 @@ BindRefusals =
     → bindOf sheet bytes size address policy words ≡ outcome (answers.the-variants.Refused n k) arena report
     → BindRefused sheet bytes size words n k arena report
 
--- what a refused query answers, and leaves: it "meets only refusals 1 to 13"
+-- a query "meets only refusals 1 to 13"
+abbrev pub QueryNumber : ℕ → Type 0
+QueryNumber n = (1 ≤ n) × (n ≤ 13)
+
+-- what a refused query answers, and leaves
 pub record QueryRefused (sheet bytes : List ℕ) (size n k : ℕ) (arena : List ℕ) : Type 0 where
-  pub number : (1 ≤ n) × (n ≤ 13)
+  pub number : QueryNumber n
   pub object : ObjectOf (length (setOf sheet bytes)) n k
   pub arena-zeros : arena ≡ replicate size 0
 
