@@ -6,3 +6,4 @@ pub mod OrderReported
 pub mod RefusalNumbers
 pub mod RefusalsHold
 pub mod HostStays
+pub mod PairFiles

@@ -3,3 +3,4 @@ pub mod LongerSet
 pub mod OrderReport
 pub mod Cases
 pub mod Refusals
+pub mod PairOfSheets
