@@ -7,3 +7,4 @@ pub mod RefusalNumbers
 pub mod RefusalsHold
 pub mod HostStays
 pub mod PairFiles
+pub mod PairHolds
