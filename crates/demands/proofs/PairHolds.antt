@@ -1,11 +1,12 @@
 -- The pair of sheets is as it is said to be. Assumes nothing.
 use mathlib.Core.Path.{_≡_, refl, sym, ap, subst, _∙_}
 use mathlib.Core.Bool.{Bool, true, false}
-use mathlib.Core.List.{List, [], _∷_, _++_, List·Memᴰ, List·Memᴰ·head, List·Memᴰ·tail}
-use Prim.Native.Nat.{ℕ, zero, suc, _+_, _-_, _≤_, _<_}
+use mathlib.Core.List.{List, [], _∷_, _++_, List·Memᴰ, List·Memᴰ·head, List·Memᴰ·tail, List·Memᴰ·not-nil}
+use Prim.Native.Nat.{ℕ, zero, suc, _+_, _*_, _-_, _^_, _≤_, _<_}
 use native.Mathlib.Omega.{arith}
+use lib.Dec.{leb, ltb}
 use lib.ListN.{length, replicate, getD}
-use Rattle.words.specs.Choice.{every, some, below}
+use Rattle.words.specs.Choice.{pick, every, some, below}
 use Rattle.words.specs.Memory.{Mem, tab, mem, write}
 use Rattle.words.specs.Words.{byteOf, leAt}
 use Rattle.words.specs.Names.{untilZero, sameBytes}
@@ -20,7 +21,7 @@ use Rattle.model.specs.Scope.{answerOf, protectedOf, scan, resolve}
 use Rattle.model.specs.Order.{visit, orderOf}
 use Rattle.model.specs.Relocation.{addWords, addressOr0, effect, effects, relocate, run, bound, placed}
 use Rattle.model.specs.Layout as layouts
-use Rattle.model.specs.Longer.{nowhere, Excepted, named}
+use Rattle.model.specs.Longer.{OnlyProgramCopies, HostOrNowhere, nowhere, Excepted, named}
 use Rattle.object.specs.Refusal.{require}
 use Rattle.object.specs.TableBytes.{isTable, tableBytes, tableName, inWritable}
 use Rattle.object.specs.Symbol.{symbolFrom, isExported}
@@ -34,11 +35,13 @@ use Rattle.object.specs.Loaded.{objectRefusal}
 use Rattle.sheet.specs.Sheet.{Input, pairOk, libWords, total, sheetOk, cut, libsOf, setOf, arenaOk, twinFrom, twinOf}
 use Rattle.sheet.specs.Sheet as sheets
 use Rattle.binder.specs.declared.Policy.the-variants.{Lenient}
+use Rattle.binder.specs.declared.Answer.the-variants.{Bound}
 use Rattle.binder.specs.Instance.{File, foundOf, placesOf, wordsOf, relasOf, entryBy, objectAt}
 use Rattle.binder.specs.Verdict.{Verdict, passed, first, verdict, loadVerdict, refusalBy, wordsVerdict, entriesVerdict, objectVerdict, orderVerdict}
-use Rattle.binder.specs.Report.{undefinedBy, entryWords, objectWords, orderWords}
+use Rattle.binder.specs.Report.{reportWord, isAbsent, undefinedBy, entryWords, objectWords, orderWords}
 use Rattle.binder.specs.SetOrder.{needsOf, setOrder}
-use Rattle.binder.specs.Bind.{filesOf, namesOf, objectsOf, unless, prepareVerdict, relocateVerdict, outcome, outcomeOf, bindIn, bindOf, queryOf, repliedOf}
+use Rattle.binder.specs.Bind.{filesOf, namesOf, objectsOf, unless, prepareVerdict, relocateVerdict, outcome, outcomeOf, bindIn, bindOf, queryOf, replied, replyOf, repliedOf}
+use Rattle.demands.specs.LongerSet.{BoundBy, setObjects}
 use Rattle.demands.specs.PairOfSheets.{bytesOf, hostFile, programFile, libraryFile, sheet, bytes, longerSheet, longerBytes, PairOfSheets}
 use Rattle.demands.proofs.PairFiles.{
   Reads,
@@ -241,3 +244,126 @@ b-in-T : resolve T 1 (98 ∷ []) ≡ answer 3 found 0x10004018
 unfolding resolve scan answerOf protectedOf symbols.address bytesOf tab mem byteOf leAt untilZero sameBytes hashBy elfHash gnuHash walk walkFrom
     mayHold isHit firstIn findBy definition hashes.answerOf symbolFrom isExported
 b-in-T = refl
+
+-- ---- reports
+
+program-words :
+    (A : Objs) (t : Bool) → isAbsent (resolve A 1 (97 ∷ [])) ≡ false → isAbsent (resolve A 1 (98 ∷ [])) ≡ t
+    → objectWords A 1 (file false programFile) ≡ 0x50000001 ∷ pick t (0x60000001 ∷ []) []
+unfolding objectWords entryWords undefinedBy bytesOf tab mem byteOf leAt untilZero relasOf relasFrom relaAt actionOf symbolFrom
+program-words A true a b = rw (program-reads .image-is, program-reads .record-is, a, b)
+program-words A false a b = rw (program-reads .image-is, program-reads .record-is, a, b)
+
+library-words :
+    (A : Objs) (k c : ℕ) → Reads false (libraryFile c) 0x1000 (libraryImage c) libraryRecord
+    → objectWords A k (file false (libraryFile c)) ≡ reportWord 5 k ∷ []
+unfolding objectWords entryWords relasOf relasFrom
+library-words A k c reads = rw (reads .image-is, reads .record-is)
+
+S-words : orderWords S files (2 ∷ 1 ∷ []) ≡ 0x50000002 ∷ (0x50000001 ∷ (0x60000001 ∷ []))
+unfolding orderWords
+S-words = rw (library-words S 2 97 a-reads, program-words S true (rw a-in-S) (rw b-in-S))
+
+T-words : orderWords T longerFiles (2 ∷ 3 ∷ 1 ∷ []) ≡ 0x50000002 ∷ (0x50000003 ∷ (0x50000001 ∷ []))
+unfolding orderWords
+T-words = rw (library-words T 2 97 a-reads, library-words T 3 98 b-reads, program-words T false (rw a-in-T) (rw b-in-T))
+
+-- ---- bound
+
+-- a set whose stages are known
+bind-passed :
+    (sheet bytes : List ℕ) (size : ℕ) (os : List Input) (order ws : List ℕ) (A : Objs) → setOf sheet bytes ≡ os
+    → prepareVerdict sheet bytes size 0x10000000 ≡ passed → objectsOf 0x10000000 (filesOf os) ≡ A → setOrder (filesOf os) (namesOf os) ≡ order
+    → orderVerdict A (filesOf os) order ≡ passed → orderWords A (filesOf os) order ≡ ws → leb (length ws) 16 ≡ true
+    → bindOf sheet bytes size 0x10000000 Lenient 16 ≡ outcome Bound (tab size (bound A order)) (ws ++ replicate (16 - length ws) 0)
+unfolding bindOf bindIn relocateVerdict unless outcomeOf
+bind-passed sheet bytes size os order ws A s v o r e w l = rw (v, s, o, r, e, w, l)
+
+S-bound : BoundBy sheet bytes 0x4000 0x10000000 Lenient 16 (tab 0x4000 (bound S (2 ∷ 1 ∷ []))) (0x50000002 ∷ 0x50000001 ∷ 0x60000001 ∷ replicate 13 0)
+unfolding filesOf namesOf
+S-bound = bind-passed sheet bytes 0x4000 inputs (2 ∷ 1 ∷ []) _ S set-is S-prepared S-is S-order S-entries S-words refl
+
+T-bound :
+    BoundBy longerSheet longerBytes 0x5000 0x10000000 Lenient 16 (tab 0x5000 (bound T (2 ∷ 3 ∷ 1 ∷ [])))
+    (0x50000002 ∷ 0x50000003 ∷ 0x50000001 ∷ replicate 13 0)
+unfolding filesOf namesOf
+T-bound = bind-passed longerSheet longerBytes 0x5000 longerInputs (2 ∷ 3 ∷ 1 ∷ []) _ T longer-is T-prepared T-is T-order T-entries T-words refl
+
+-- ---- asked by the program
+
+query-passed :
+    (sheet bytes : List ℕ) (size : ℕ) (os : List Input) (A : Objs) (name : List ℕ) (x : symbols.Answer) → setOf sheet bytes ≡ os
+    → prepareVerdict sheet bytes size 0x10000000 ≡ passed → objectsOf 0x10000000 (filesOf os) ≡ A → ltb 1 (length os) ≡ true → resolve A 1 name ≡ x
+    → queryOf sheet bytes size 0x10000000 1 name ≡ replied (replyOf x) (tab size (placed A))
+unfolding queryOf repliedOf unless
+query-passed sheet bytes size os A name x s v o l e = rw (v, s, o, l, e)
+
+-- ---- the program's words
+
+word-of : (size : ℕ) (m : Mem) (at : ℕ) → at + 8 ≤ size → leAt 8 (mem (tab size m)) at ≡ leAt 8 m at
+word-of size m at l = leAt-same 8 (mem (tab size m)) m at at (λ k h. mem-tab size m (at + k) (omega arith))
+
+a-word-S : leAt 8 (bound S (2 ∷ 1 ∷ [])) 0x2000 ≡ 0x10003018
+unfolding leAt bound run relocate addWords effects effect write byteOf addressOr0
+a-word-S = rw a-in-S
+
+b-word-S : leAt 8 (bound S (2 ∷ 1 ∷ [])) 0x2008 ≡ 0
+unfolding leAt bound run relocate addWords effects effect write byteOf addressOr0
+b-word-S = rw b-in-S
+
+a-word-T : leAt 8 (bound T (2 ∷ 3 ∷ 1 ∷ [])) 0x2000 ≡ 0x10003018
+unfolding leAt bound run relocate addWords effects effect write byteOf addressOr0
+a-word-T = rw a-in-T
+
+b-word-T : leAt 8 (bound T (2 ∷ 3 ∷ 1 ∷ [])) 0x2008 ≡ 0x10004018
+unfolding leAt bound run relocate addWords effects effect write byteOf addressOr0
+b-word-T = rw b-in-T
+
+-- the byte at 0x2008 is named by entry 1 of the program, which found b nowhere
+excepted : Excepted S 0x2008
+excepted =
+    named (
+      1,
+      objects.symbol 0x1008 8 (98 ∷ []) (λ a. a),
+      omega arith,
+      omega arith,
+      List·Memᴰ·tail (List·Memᴰ·head refl),
+      (subst (λ (x : symbols.Answer). HostOrNowhere x) (sym b-in-S) nowhere, omega arith),
+    )
+
+-- the library has no entries
+only : OnlyProgramCopies S
+only zero l h e m = absurd (omega arith)
+only (suc zero) l h e m = absurd (omega arith)
+only (suc (suc zero)) l h e m = absurd (List·Memᴰ·not-nil m)
+only (suc (suc (suc k))) l h e m = absurd (omega arith)
+
+objects-are : setObjects 0x10000000 sheet bytes ≡ S
+unfolding filesOf
+objects-are = rw set-is S-is
+
+pub pair-of-sheets : PairOfSheets
+unfolding filesOf
+pair-of-sheets =
+    record {
+      arena = tab 0x4000 (bound S (2 ∷ 1 ∷ []));
+      arena′ = tab 0x5000 (bound T (2 ∷ 3 ∷ 1 ∷ []));
+      bound = S-bound;
+      longer-bound = T-bound;
+      only = subst OnlyProgramCopies (sym objects-are) only;
+      a-asked = (tab 0x4000 (placed S), query-passed sheet bytes 0x4000 inputs S (97 ∷ []) _ set-is S-prepared S-is refl a-in-S);
+      a-asked-longer = (
+        tab 0x5000 (placed T),
+        query-passed longerSheet longerBytes 0x5000 longerInputs T (97 ∷ []) _ longer-is T-prepared T-is refl a-in-T,
+      );
+      b-asked = (tab 0x4000 (placed S), query-passed sheet bytes 0x4000 inputs S (98 ∷ []) _ set-is S-prepared S-is refl b-in-S);
+      b-asked-longer = (
+        tab 0x5000 (placed T),
+        query-passed longerSheet longerBytes 0x5000 longerInputs T (98 ∷ []) _ longer-is T-prepared T-is refl b-in-T,
+      );
+      a-word = word-of 0x4000 (bound S (2 ∷ 1 ∷ [])) 0x2000 (omega arith) ∙ a-word-S;
+      a-word-longer = word-of 0x5000 (bound T (2 ∷ 3 ∷ 1 ∷ [])) 0x2000 (omega arith) ∙ a-word-T;
+      b-word = word-of 0x4000 (bound S (2 ∷ 1 ∷ [])) 0x2008 (omega arith) ∙ b-word-S;
+      b-word-longer = word-of 0x5000 (bound T (2 ∷ 3 ∷ 1 ∷ [])) 0x2008 (omega arith) ∙ b-word-T;
+      b-excepted = subst (λ (A : Objs). Excepted A 0x2008) (sym objects-are) excepted;
+    }
