@@ -14,7 +14,7 @@ use Rattle.words.specs.Words.{byteOf, leAt}
 use Rattle.words.specs.Page.{pageSize}
 use Rattle.words.specs.Names.{untilZero}
 use Rattle.words.proofs.Memory.{Out, in-or-out, out-empty, write-in, write-out}
-use Rattle.words.proofs.Slices.{mem-ext, mem-tab, mem-past, tab-mem, length-tab}
+use Rattle.words.proofs.Slices.{mem-ext, mem-tab, mem-past, length-tab}
 use Rattle.object.specs.Refusal.{require, after}
 use Rattle.object.specs.Header.{headerRefusal}
 use Rattle.object.specs.ProgramHeader.{loadsIn, loadsOf, segmentAt, dynamicIn, dynamicOf}
@@ -35,7 +35,7 @@ use Rattle.object.specs.DynamicFields.{fieldsFrom}
 use Rattle.object.specs.TableBytes.{isTable, tableBytes, tableName}
 use Rattle.object.specs.HashTable.{walk, walkFrom}
 use Rattle.object.specs.HashCheck.{numbersOk, bucketOk, lengthOk, chainOk, symbolOk, walkOk, tableOk}
-use Rattle.object.specs.SymbolCount.{highest, tableCount, countOf}
+use Rattle.object.specs.SymbolCount.{tableCount, countOf}
 use Rattle.object.specs.Record.{
   Record,
   tableIn,
@@ -134,7 +134,7 @@ module _ (host : Bool) (file : List ℕ) (segments : List Segment) (at n span : 
         loads = λ room l. after-none (placeRefusal host room file) _ (places room l) ∙ rw (image-padded, c .segments-are, c .array) (c .tables-ok);
       }
 
--- ---- the host
+-- ---- images and records
 
 abbrev pub hostImage : List ℕ
 hostImage = hostFile ++ replicate 0 0
@@ -156,25 +156,6 @@ hostRecord =
       relr = 0;
       relrs = 0;
     }
-
-host-length : length hostFile ≡ 0x1000
-unfolding bytesOf tab
-host-length = refl
-
-host-computed : Computed true hostFile [] 0x78 0 hostRecord
-unfolding bytesOf every some below tab mem byteOf leAt untilZero require after headerRefusal loadsIn segmentAt dynamicIn segmentsOk holdsHeaders
-    segmentOk pagesApart allApart segmentsOf itemsIn endIn lastOf firstOf allOf fieldsFrom isTable tableBytes tableName walk walkFrom numbersOk
-    bucketOk lengthOk chainOk symbolOk walkOk tableOk tableIn tableCount countOf recordIn recordOf fieldsRefusal needsOk relocationsOk tablesOk
-    readRefusal
-host-computed =
-    record { header = refl; segments-are = refl; segments-ok = refl; array = refl; record-of = refl; tables-ok = refl }
-
-pub host-reads : Reads true hostFile 0x1000 hostImage hostRecord
-unfolding objectSpan objectBytes
-host-reads =
-    file-reads true hostFile [] 0x78 0 0x1000 hostRecord host-computed host-length (omega (arith, host-length)) (λ i. refl)
-
--- ---- the program
 
 abbrev programSegments : List Segment
 programSegments =
@@ -201,36 +182,6 @@ programRecord =
       relr = 0;
       relrs = 0;
     }
-
-program-length : length programFile ≡ 440
-unfolding bytesOf tab
-program-length = refl
-
-program-computed : Computed false programFile programSegments 0xE8 (0x2000 - 440) programRecord
-unfolding bytesOf every some below tab mem byteOf leAt untilZero require after headerRefusal loadsIn segmentAt dynamicIn segmentsOk holdsHeaders
-    segmentOk pagesApart allApart segmentsOf itemsIn endIn lastOf firstOf allOf fieldsFrom isTable tableBytes tableName walk walkFrom numbersOk
-    bucketOk lengthOk chainOk symbolOk walkOk tableOk tableIn tableCount countOf recordIn recordOf fieldsRefusal needsOk relocationsOk tablesOk
-    readRefusal
-program-computed =
-    record { header = refl; segments-are = refl; segments-ok = refl; array = refl; record-of = refl; tables-ok = refl }
-
-program-bytes : (i : ℕ) → objectBytes false programFile i ≡ mem programFile i
-unfolding objectBytes placedOf placeSegments placeSegment segmentsOf
-program-bytes i =
-    rw (program-computed .segments-are)
-    (zeros programFile (write (write (λ _. 0) 0 0x1000 (from 0 (mem programFile))) 440 0 (λ _. 0)) 0x1000 16 i (omega (arith, program-length))
-    (page programFile 440 i (omega (arith, program-length))))
-
-program-span : objectSpan false programFile ≡ 0x2000
-unfolding objectSpan endOf segmentsOf
-program-span = rw (program-computed .segments-are)
-
-pub program-reads : Reads false programFile 0x2000 programImage programRecord
-program-reads =
-    file-reads false programFile programSegments 0xE8 (0x2000 - 440) 0x2000 programRecord program-computed program-span
-    (omega (arith, program-length)) program-bytes
-
--- ---- the libraries
 
 abbrev librarySegments : List Segment
 librarySegments = record { flags = 4; offset = 0; vaddr = 0; filesz = 320; memsz = 320 } ∷ []
@@ -259,35 +210,73 @@ libraryRecord =
 abbrev LibraryComputed : ℕ → Type 0
 LibraryComputed c = Computed false (libraryFile c) librarySegments 0xB0 (0x1000 - 320) libraryRecord
 
+record AllComputed : Type 0 where
+  of-host : Computed true hostFile [] 0x78 0 hostRecord
+  of-program : Computed false programFile programSegments 0xE8 (0x2000 - 440) programRecord
+  of-a : LibraryComputed 97
+  of-b : LibraryComputed 98
+
+computed : AllComputed
+unfolding bytesOf every some below tab mem byteOf leAt untilZero require after headerRefusal loadsIn segmentAt dynamicIn segmentsOk holdsHeaders
+    segmentOk pagesApart allApart segmentsOf itemsIn endIn lastOf firstOf allOf fieldsFrom isTable tableBytes tableName walk walkFrom numbersOk
+    bucketOk lengthOk chainOk symbolOk walkOk tableOk tableIn tableCount countOf recordIn recordOf fieldsRefusal needsOk relocationsOk tablesOk
+    readRefusal
+computed =
+    record {
+      of-host = record { header = refl; segments-are = refl; segments-ok = refl; array = refl; record-of = refl; tables-ok = refl };
+      of-program = record { header = refl; segments-are = refl; segments-ok = refl; array = refl; record-of = refl; tables-ok = refl };
+      of-a = record { header = refl; segments-are = refl; segments-ok = refl; array = refl; record-of = refl; tables-ok = refl };
+      of-b = record { header = refl; segments-are = refl; segments-ok = refl; array = refl; record-of = refl; tables-ok = refl };
+    }
+
+-- ---- the host
+
+host-length : length hostFile ≡ 0x1000
+unfolding bytesOf tab
+host-length = refl
+
+pub host-reads : Reads true hostFile 0x1000 hostImage hostRecord
+unfolding objectSpan objectBytes
+host-reads =
+    file-reads true hostFile [] 0x78 0 0x1000 hostRecord (computed .of-host) host-length (omega (arith, host-length)) (λ i. refl)
+
+-- ---- the program
+
+program-length : length programFile ≡ 440
+unfolding bytesOf tab
+program-length = refl
+
+program-bytes : (i : ℕ) → objectBytes false programFile i ≡ mem programFile i
+unfolding objectBytes placedOf placeSegments placeSegment segmentsOf
+program-bytes i =
+    rw (computed .of-program .segments-are)
+    (zeros programFile (write (write (λ _. 0) 0 0x1000 (from 0 (mem programFile))) 440 0 (λ _. 0)) 0x1000 16 i (omega (arith, program-length))
+    (page programFile 440 i (omega (arith, program-length))))
+
+program-span : objectSpan false programFile ≡ 0x2000
+unfolding objectSpan endOf segmentsOf
+program-span = rw (computed .of-program .segments-are)
+
+pub program-reads : Reads false programFile 0x2000 programImage programRecord
+program-reads =
+    file-reads false programFile programSegments 0xE8 (0x2000 - 440) 0x2000 programRecord (computed .of-program) program-span
+    (omega (arith, program-length)) program-bytes
+
+-- ---- the libraries
+
 library-length : (c : ℕ) → length (libraryFile c) ≡ 320
 unfolding bytesOf tab
 library-length c = refl
 
 library-reads-by : (c : ℕ) → LibraryComputed c → Reads false (libraryFile c) 0x1000 (libraryImage c) libraryRecord
 unfolding objectSpan objectBytes endOf placedOf placeSegments placeSegment segmentsOf
-library-reads-by c computed =
-    file-reads false (libraryFile c) librarySegments 0xB0 (0x1000 - 320) 0x1000 libraryRecord computed (rw (computed .segments-are))
+library-reads-by c known =
+    file-reads false (libraryFile c) librarySegments 0xB0 (0x1000 - 320) 0x1000 libraryRecord known (rw (known .segments-are))
     (omega (arith, library-length c))
-    (λ i. rw (computed .segments-are) (page (libraryFile c) 320 i (omega (arith, library-length c))))
-
-a-computed : LibraryComputed 97
-unfolding bytesOf every some below tab mem byteOf leAt untilZero require after headerRefusal loadsIn segmentAt dynamicIn segmentsOk holdsHeaders
-    segmentOk pagesApart allApart segmentsOf itemsIn endIn lastOf firstOf allOf fieldsFrom isTable tableBytes tableName walk walkFrom numbersOk
-    bucketOk lengthOk chainOk symbolOk walkOk tableOk tableIn tableCount countOf recordIn recordOf fieldsRefusal needsOk relocationsOk tablesOk
-    readRefusal
-a-computed =
-    record { header = refl; segments-are = refl; segments-ok = refl; array = refl; record-of = refl; tables-ok = refl }
-
-b-computed : LibraryComputed 98
-unfolding bytesOf every some below tab mem byteOf leAt untilZero require after headerRefusal loadsIn segmentAt dynamicIn segmentsOk holdsHeaders
-    segmentOk pagesApart allApart segmentsOf itemsIn endIn lastOf firstOf allOf fieldsFrom isTable tableBytes tableName walk walkFrom numbersOk
-    bucketOk lengthOk chainOk symbolOk walkOk tableOk tableIn tableCount countOf recordIn recordOf fieldsRefusal needsOk relocationsOk tablesOk
-    readRefusal
-b-computed =
-    record { header = refl; segments-are = refl; segments-ok = refl; array = refl; record-of = refl; tables-ok = refl }
+    (λ i. rw (known .segments-are) (page (libraryFile c) 320 i (omega (arith, library-length c))))
 
 pub a-reads : Reads false (libraryFile 97) 0x1000 (libraryImage 97) libraryRecord
-a-reads = library-reads-by 97 a-computed
+a-reads = library-reads-by 97 (computed .of-a)
 
 pub b-reads : Reads false (libraryFile 98) 0x1000 (libraryImage 98) libraryRecord
-b-reads = library-reads-by 98 b-computed
+b-reads = library-reads-by 98 (computed .of-b)

@@ -1,20 +1,20 @@
 -- The pair of sheets is as it is said to be. Assumes nothing.
-use mathlib.Core.Path.{_≡_, refl, sym, ap, subst, _∙_}
+use mathlib.Core.Path.{_≡_, refl, sym, subst, _∙_}
 use mathlib.Core.Bool.{Bool, true, false}
 use mathlib.Core.List.{List, [], _∷_, _++_, List·Memᴰ, List·Memᴰ·head, List·Memᴰ·tail, List·Memᴰ·not-nil}
-use Prim.Native.Nat.{ℕ, zero, suc, _+_, _*_, _-_, _^_, _≤_, _<_}
+use Prim.Native.Nat.{ℕ, zero, suc, _+_, _-_, _≤_}
 use native.Mathlib.Omega.{arith}
 use lib.Dec.{leb, ltb}
-use lib.ListN.{length, replicate, getD}
+use lib.ListN.{length, replicate}
 use Rattle.words.specs.Choice.{pick, every, some, below}
-use Rattle.words.specs.Memory.{Mem, tab, mem, write}
+use Rattle.words.specs.Memory.{Mem, tab, mem, write, In}
 use Rattle.words.specs.Words.{byteOf, leAt}
 use Rattle.words.specs.Names.{untilZero, sameBytes}
 use Rattle.words.specs.Hash.{hashBy, elfHash, gnuHash}
 use Rattle.words.proofs.Slices.{mem-tab}
 use Rattle.words.proofs.Words.{leAt-same}
 use Rattle.model.specs.Objects as objects
-use Rattle.model.specs.Objects.{Obj, Objs, obj}
+use Rattle.model.specs.Objects.{Obj, Objs}
 use Rattle.model.specs.Symbols.{Sym, absent, answer}
 use Rattle.model.specs.Symbols as symbols
 use Rattle.model.specs.Scope.{answerOf, protectedOf, scan, resolve}
@@ -29,20 +29,20 @@ use Rattle.object.specs.HashTable.{walk, walkFrom, mayHold, isHit, firstIn, fin
 use Rattle.object.specs.HashTable as hashes
 use Rattle.object.specs.HashCheck.{symbolOk}
 use Rattle.object.specs.Entries.{relaAt, relasFrom, relrsFrom, relrWords, actionOf}
-use Rattle.object.specs.Placed.{objectSpan, objectBytes}
+use Rattle.object.specs.Placed.{objectBytes}
 use Rattle.object.specs.Record.{Record, viewOf, indexOk, checkedSymbol}
-use Rattle.object.specs.Loaded.{objectRefusal}
-use Rattle.sheet.specs.Sheet.{Input, pairOk, libWords, total, sheetOk, cut, libsOf, setOf, arenaOk, twinFrom, twinOf}
+use Rattle.sheet.specs.Sheet.{Input, pairOk, libWords, total, sheetOk, cut, libsOf, setOf, arenaOk, twinFrom}
 use Rattle.sheet.specs.Sheet as sheets
 use Rattle.binder.specs.declared.Policy.the-variants.{Lenient}
 use Rattle.binder.specs.declared.Answer.the-variants.{Bound}
 use Rattle.binder.specs.Instance.{File, foundOf, placesOf, wordsOf, relasOf, entryBy, objectAt}
-use Rattle.binder.specs.Verdict.{Verdict, passed, first, verdict, loadVerdict, refusalBy, wordsVerdict, entriesVerdict, objectVerdict, orderVerdict}
+use Rattle.binder.specs.Verdict.{passed, verdict, loadVerdict, refusalBy, wordsVerdict, entriesVerdict, objectVerdict, orderVerdict}
 use Rattle.binder.specs.Report.{reportWord, isAbsent, undefinedBy, entryWords, objectWords, orderWords}
 use Rattle.binder.specs.SetOrder.{needsOf, setOrder}
 use Rattle.binder.specs.Bind.{filesOf, namesOf, objectsOf, unless, prepareVerdict, relocateVerdict, outcome, outcomeOf, bindIn, bindOf, queryOf, replied, replyOf, repliedOf}
 use Rattle.demands.specs.LongerSet.{BoundBy, setObjects}
 use Rattle.demands.specs.PairOfSheets.{bytesOf, hostFile, programFile, libraryFile, sheet, bytes, longerSheet, longerBytes, PairOfSheets}
+use Rattle.demands.proofs.LongerSetLaw.{longer-set}
 use Rattle.demands.proofs.PairFiles.{
   Reads,
   hostImage,
@@ -225,25 +225,16 @@ T-entries = rw (library-verdict T 2 97 a-reads, library-verdict T 3 98 b-reads, 
 abbrev found : Sym
 found = record { index = 1; value = 0x18; size = 8; protected = false; absolute = false }
 
-a-in-S : resolve S 1 (97 ∷ []) ≡ answer 2 found 0x10003018
-unfolding resolve scan answerOf protectedOf symbols.address bytesOf tab mem byteOf leAt untilZero sameBytes hashBy elfHash gnuHash walk walkFrom
-    mayHold isHit firstIn findBy definition hashes.answerOf symbolFrom isExported
-a-in-S = refl
+record Lookups : Type 0 where
+  a-in-S : resolve S 1 (97 ∷ []) ≡ answer 2 found 0x10003018
+  a-in-T : resolve T 1 (97 ∷ []) ≡ answer 2 found 0x10003018
+  b-in-S : resolve S 1 (98 ∷ []) ≡ absent
+  b-in-T : resolve T 1 (98 ∷ []) ≡ answer 3 found 0x10004018
 
-a-in-T : resolve T 1 (97 ∷ []) ≡ answer 2 found 0x10003018
+look : Lookups
 unfolding resolve scan answerOf protectedOf symbols.address bytesOf tab mem byteOf leAt untilZero sameBytes hashBy elfHash gnuHash walk walkFrom
     mayHold isHit firstIn findBy definition hashes.answerOf symbolFrom isExported
-a-in-T = refl
-
-b-in-S : resolve S 1 (98 ∷ []) ≡ absent
-unfolding resolve scan answerOf protectedOf symbols.address bytesOf tab mem byteOf leAt untilZero sameBytes hashBy elfHash gnuHash walk walkFrom
-    mayHold isHit firstIn findBy definition hashes.answerOf symbolFrom isExported
-b-in-S = refl
-
-b-in-T : resolve T 1 (98 ∷ []) ≡ answer 3 found 0x10004018
-unfolding resolve scan answerOf protectedOf symbols.address bytesOf tab mem byteOf leAt untilZero sameBytes hashBy elfHash gnuHash walk walkFrom
-    mayHold isHit firstIn findBy definition hashes.answerOf symbolFrom isExported
-b-in-T = refl
+look = record { a-in-S = refl; a-in-T = refl; b-in-S = refl; b-in-T = refl }
 
 -- ---- reports
 
@@ -262,11 +253,11 @@ library-words A k c reads = rw (reads .image-is, reads .record-is)
 
 S-words : orderWords S files (2 ∷ 1 ∷ []) ≡ 0x50000002 ∷ (0x50000001 ∷ (0x60000001 ∷ []))
 unfolding orderWords
-S-words = rw (library-words S 2 97 a-reads, program-words S true (rw a-in-S) (rw b-in-S))
+S-words = rw (library-words S 2 97 a-reads, program-words S true (rw (look .a-in-S)) (rw (look .b-in-S)))
 
 T-words : orderWords T longerFiles (2 ∷ 3 ∷ 1 ∷ []) ≡ 0x50000002 ∷ (0x50000003 ∷ (0x50000001 ∷ []))
 unfolding orderWords
-T-words = rw (library-words T 2 97 a-reads, library-words T 3 98 b-reads, program-words T false (rw a-in-T) (rw b-in-T))
+T-words = rw (library-words T 2 97 a-reads, library-words T 3 98 b-reads, program-words T false (rw (look .a-in-T)) (rw (look .b-in-T)))
 
 -- ---- bound
 
@@ -303,32 +294,26 @@ query-passed sheet bytes size os A name x s v o l e = rw (v, s, o, l, e)
 word-of : (size : ℕ) (m : Mem) (at : ℕ) → at + 8 ≤ size → leAt 8 (mem (tab size m)) at ≡ leAt 8 m at
 word-of size m at l = leAt-same 8 (mem (tab size m)) m at at (λ k h. mem-tab size m (at + k) (omega arith))
 
-a-word-S : leAt 8 (bound S (2 ∷ 1 ∷ [])) 0x2000 ≡ 0x10003018
-unfolding leAt bound run relocate addWords effects effect write byteOf addressOr0
-a-word-S = rw a-in-S
+record ProgramWords : Type 0 where
+  a-in-S : leAt 8 (bound S (2 ∷ 1 ∷ [])) 0x2000 ≡ 0x10003018
+  a-in-T : leAt 8 (bound T (2 ∷ 3 ∷ 1 ∷ [])) 0x2000 ≡ 0x10003018
+  b-in-S : leAt 8 (bound S (2 ∷ 1 ∷ [])) 0x2008 ≡ 0
+  b-in-T : leAt 8 (bound T (2 ∷ 3 ∷ 1 ∷ [])) 0x2008 ≡ 0x10004018
 
-b-word-S : leAt 8 (bound S (2 ∷ 1 ∷ [])) 0x2008 ≡ 0
+program-has : ProgramWords
 unfolding leAt bound run relocate addWords effects effect write byteOf addressOr0
-b-word-S = rw b-in-S
+program-has = record { a-in-S = rw (look .a-in-S); a-in-T = rw (look .a-in-T); b-in-S = rw (look .b-in-S); b-in-T = rw (look .b-in-T) }
 
-a-word-T : leAt 8 (bound T (2 ∷ 3 ∷ 1 ∷ [])) 0x2000 ≡ 0x10003018
-unfolding leAt bound run relocate addWords effects effect write byteOf addressOr0
-a-word-T = rw a-in-T
-
-b-word-T : leAt 8 (bound T (2 ∷ 3 ∷ 1 ∷ [])) 0x2008 ≡ 0x10004018
-unfolding leAt bound run relocate addWords effects effect write byteOf addressOr0
-b-word-T = rw b-in-T
-
--- the byte at 0x2008 is named by entry 1 of the program, which found b nowhere
-excepted : Excepted S 0x2008
-excepted =
+-- the bytes from 0x2008 on are named by entry 1 of the program, which found b nowhere
+excepted : (i : ℕ) → In 0x2008 8 i → Excepted S i
+excepted i w =
     named (
       1,
       objects.symbol 0x1008 8 (98 ∷ []) (λ a. a),
       omega arith,
       omega arith,
       List·Memᴰ·tail (List·Memᴰ·head refl),
-      (subst (λ (x : symbols.Answer). HostOrNowhere x) (sym b-in-S) nowhere, omega arith),
+      (subst (λ (x : symbols.Answer). HostOrNowhere x) (sym (look .b-in-S)) nowhere, omega arith),
     )
 
 -- the library has no entries
@@ -351,19 +336,22 @@ pair-of-sheets =
       bound = S-bound;
       longer-bound = T-bound;
       only = subst OnlyProgramCopies (sym objects-are) only;
-      a-asked = (tab 0x4000 (placed S), query-passed sheet bytes 0x4000 inputs S (97 ∷ []) _ set-is S-prepared S-is refl a-in-S);
+      a-asked = (tab 0x4000 (placed S), query-passed sheet bytes 0x4000 inputs S (97 ∷ []) _ set-is S-prepared S-is refl (look .a-in-S));
       a-asked-longer = (
         tab 0x5000 (placed T),
-        query-passed longerSheet longerBytes 0x5000 longerInputs T (97 ∷ []) _ longer-is T-prepared T-is refl a-in-T,
+        query-passed longerSheet longerBytes 0x5000 longerInputs T (97 ∷ []) _ longer-is T-prepared T-is refl (look .a-in-T),
       );
-      b-asked = (tab 0x4000 (placed S), query-passed sheet bytes 0x4000 inputs S (98 ∷ []) _ set-is S-prepared S-is refl b-in-S);
+      b-asked = (tab 0x4000 (placed S), query-passed sheet bytes 0x4000 inputs S (98 ∷ []) _ set-is S-prepared S-is refl (look .b-in-S));
       b-asked-longer = (
         tab 0x5000 (placed T),
-        query-passed longerSheet longerBytes 0x5000 longerInputs T (98 ∷ []) _ longer-is T-prepared T-is refl b-in-T,
+        query-passed longerSheet longerBytes 0x5000 longerInputs T (98 ∷ []) _ longer-is T-prepared T-is refl (look .b-in-T),
       );
-      a-word = word-of 0x4000 (bound S (2 ∷ 1 ∷ [])) 0x2000 (omega arith) ∙ a-word-S;
-      a-word-longer = word-of 0x5000 (bound T (2 ∷ 3 ∷ 1 ∷ [])) 0x2000 (omega arith) ∙ a-word-T;
-      b-word = word-of 0x4000 (bound S (2 ∷ 1 ∷ [])) 0x2008 (omega arith) ∙ b-word-S;
-      b-word-longer = word-of 0x5000 (bound T (2 ∷ 3 ∷ 1 ∷ [])) 0x2008 (omega arith) ∙ b-word-T;
-      b-excepted = subst (λ (A : Objs). Excepted A 0x2008) (sym objects-are) excepted;
+      a-word = word-of 0x4000 (bound S (2 ∷ 1 ∷ [])) 0x2000 (omega arith) ∙ program-has .a-in-S;
+      a-word-longer = word-of 0x5000 (bound T (2 ∷ 3 ∷ 1 ∷ [])) 0x2000 (omega arith) ∙ program-has .a-in-T;
+      b-word = word-of 0x4000 (bound S (2 ∷ 1 ∷ [])) 0x2008 (omega arith) ∙ program-has .b-in-S;
+      b-word-longer = word-of 0x5000 (bound T (2 ∷ 3 ∷ 1 ∷ [])) 0x2008 (omega arith) ∙ program-has .b-in-T;
+      b-excepted = λ i w. subst (λ (A : Objs). Excepted A i) (sym objects-are) (excepted i w);
+      kept =
+          longer-set 0x10000000 Lenient sheet bytes 0x4000 16 _ _ S-bound (subst OnlyProgramCopies (sym objects-are) only) 0x30000140 0x40000001
+          (libraryFile 98 ++ (109 ∷ [])) 0x5000 16 _ _ T-bound;
     }

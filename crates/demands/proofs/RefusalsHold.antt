@@ -1,7 +1,7 @@
 -- Demand 1's statements on refusals hold. Assumes nothing.
 use mathlib.Core.Path.{_≡_, refl, ap, _∙_}
 use mathlib.Core.Bool.{true, false, true≢false}
-use mathlib.Core.Logic.{_≢_}
+use mathlib.Core.Logic.{_⊎_, inl, inr, _≢_}
 use mathlib.Core.List.{List, _++_}
 use Prim.Native.Nat.{ℕ, _+_, _-_, _≤_, _<_}
 use native.Mathlib.Omega.{arith}
@@ -45,7 +45,7 @@ use Rattle.binder.specs.Bind.{
 use Rattle.binder.proofs.OutcomeLaws.{first-passed, unless-passed, objectsIn, orderIn}
 use Rattle.binder.proofs.OrderIs.{names-length}
 use Rattle.binder.proofs.PrepareLaws.{files-length}
-use Rattle.demands.specs.Refusals.{withoutObject, ObjectOf, BindNumber, BindRefusals, QueryNumber, QueryRefusals, Lengths}
+use Rattle.demands.specs.Refusals.{withoutObject, ObjectOf, BindNumber, BindRefusals, QueryNumber, QueryRefusals, Answered, Lengths}
 use Rattle.demands.proofs.RefusalNumbers.{
   Meets,
   first-meets,
@@ -227,6 +227,32 @@ query-refusals sheet bytes size address requester name n k arena e =
     (query-right sheet bytes size address requester)
     (no-refusal (resolve (objectsIn address (setOf sheet bytes)) requester name)) e in
     record { number = o .0 .0; object = o .0 .1; arena-zeros = o .1 }
+
+-- ---- every call
+
+bind-answered :
+    (size words : ℕ) (v : Verdict) (a r : List ℕ)
+    → ((arena report : List ℕ) × (outcomeOf size words v a r ≡ outcome answers.the-variants.Bound arena report))
+    ⊎ ((n k : ℕ) × (outcomeOf size words v a r ≡ outcome (answers.the-variants.Refused n k) (replicate size 0) (replicate words 0)))
+unfolding outcomeOf
+bind-answered size words passed a r = inl (a, r ++ replicate (words - length r) 0, refl)
+bind-answered size words (refused n k) a r = inr (n, k, refl)
+
+query-answered :
+    (size : ℕ) (v : Verdict) (x : Reply) (l : List ℕ)
+    → ((arena : List ℕ) × (repliedOf size v x l ≡ replied x arena))
+    ⊎ ((n k : ℕ) × (repliedOf size v x l ≡ replied (replies.the-variants.Refused n k) (replicate size 0)))
+unfolding repliedOf
+query-answered size passed x l = inl (l, refl)
+query-answered size (refused n k) x l = inr (n, k, refl)
+
+pub answered : Answered
+unfolding bindOf bindIn queryOf
+answered =
+    record {
+      bind = λ sheet bytes size address policy words. bind-answered size words _ _ _;
+      query = λ sheet bytes size address requester name. query-answered size _ _ _;
+    }
 
 -- ---- lengths
 

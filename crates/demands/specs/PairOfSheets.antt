@@ -5,9 +5,9 @@ use mathlib.Core.List.{List, [], _∷_, _++_}
 use mathlib.Core.Path.{_≡_}
 use Prim.Native.Nat.{ℕ, _+_, _*_, _-_, _^_}
 use lib.ListN.{replicate}
-use Rattle.words.specs.Memory.{mem, tab}
+use Rattle.words.specs.Memory.{mem, tab, In}
 use Rattle.words.specs.Words.{byteOf, leAt}
-use Rattle.model.specs.Longer.{OnlyProgramCopies, Excepted}
+use Rattle.model.specs.Longer.{OnlyProgramCopies, Excepted, Kept}
 use Rattle.binder.specs.declared.Policy.the-variants.{Lenient}
 use Rattle.binder.specs.declared.Reply.{Reply}
 use Rattle.binder.specs.declared.Reply.the-variants.{Found, Absent}
@@ -120,4 +120,7 @@ pub record PairOfSheets : Type 0 where
   pub a-word-longer : leAt 8 (mem arena′) 0x2000 ≡ 0x10003018
   pub b-word : leAt 8 (mem arena) 0x2008 ≡ 0
   pub b-word-longer : leAt 8 (mem arena′) 0x2008 ≡ 0x10004018
-  pub b-excepted : Excepted (setObjects 0x10000000 sheet bytes) 0x2008
+  pub b-excepted : (i : ℕ) → In 0x2008 8 i → Excepted (setObjects 0x10000000 sheet bytes) i
+  -- what `LongerSet` says of the pair
+  pub kept :
+      Kept (setObjects 0x10000000 sheet bytes) (setObjects 0x10000000 longerSheet longerBytes) (mem arena) (mem arena′)

@@ -1,22 +1,23 @@
 -- Demand 1 for `bind` and `query`: "The answer to every sheet, file, address and policy, damaged ones included, is a bound arena with its
 -- report, or one numbered refusal with an object number; a refusal leaves zeros in arena and report". Document 01, "Refused, in checking
 -- order": "Object number 0 for 1, 2, 13, 20"; "What is handed in": "The host plays the part of `miros`: already mapped, never written".
--- That a call has one answer, of one of these forms, is the type of `bindOf` and `queryOf`. Assumes nothing.
+-- Assumes nothing.
 use mathlib.Core.Bool.{true, false}
 use mathlib.Core.List.{List, [], _∷_}
-use mathlib.Core.Logic.{_≢_}
+use mathlib.Core.Logic.{_⊎_, _≢_}
 use mathlib.Core.Path.{_≡_}
 use Prim.Native.Nat.{ℕ, _≤_, _<_}
 use lib.ListN.{length, getD, take, replicate}
 use Rattle.model.specs.Order.{has}
+use Rattle.model.specs.Scope.{resolve}
 use Rattle.sheet.specs.Sheet.{Input, noInput, setOf}
 use Rattle.binder.specs.declared.Policy.{Policy}
 use Rattle.binder.specs.declared.Answer as answers
 use Rattle.binder.specs.declared.Answer.{Answer}
 use Rattle.binder.specs.declared.Reply as replies
 use Rattle.binder.specs.declared.Reply.{Reply}
-use Rattle.binder.specs.Bind.{bindOf, outcome, queryOf, replied}
-use Rattle.demands.specs.LongerSet.{BoundBy}
+use Rattle.binder.specs.Bind.{bindOf, outcome, queryOf, replied, replyOf}
+use Rattle.demands.specs.LongerSet.{BoundBy, setObjects}
 
 -- ---- refusals
 
@@ -66,6 +67,23 @@ QueryRefusals =
     (sheet bytes : List ℕ) (size address requester : ℕ) (name : List ℕ) (n k : ℕ) (arena : List ℕ)
     → queryOf sheet bytes size address requester name ≡ replied (replies.the-variants.Refused n k) arena
     → QueryRefused sheet bytes size n k arena
+
+-- ---- every call
+
+-- "is a bound arena with its report, or one numbered refusal with an object number"; of a query, a reply that is a lookup's, or a refusal
+pub record Answered : Type 0 where
+  pub bind :
+      (sheet bytes : List ℕ) (size address : ℕ) (policy : Policy) (words : ℕ)
+      → ((arena report : List ℕ) × BoundBy sheet bytes size address policy words arena report)
+      ⊎ ((n k : ℕ)
+      × (bindOf sheet bytes size address policy words
+      ≡ outcome (answers.the-variants.Refused n k) (replicate size 0) (replicate words 0)))
+  pub query :
+      (sheet bytes : List ℕ) (size address requester : ℕ) (name : List ℕ)
+      → ((arena : List ℕ)
+      × (queryOf sheet bytes size address requester name
+      ≡ replied (replyOf (resolve (setObjects address sheet bytes) requester name)) arena))
+      ⊎ ((n k : ℕ) × (queryOf sheet bytes size address requester name ≡ replied (replies.the-variants.Refused n k) (replicate size 0)))
 
 -- ---- the host's part of the arena
 
