@@ -1,11 +1,9 @@
 -- The host's part of the arena is the host's file. Assumes nothing.
 use mathlib.Core.Path.{_≡_, refl, sym, ap, _∙_}
-use mathlib.Core.Bool.{true}
 use mathlib.Core.Logic.{inl, _≢_}
 use mathlib.Core.List.{List, [], _∷_, map}
 use Prim.Native.Nat.{ℕ, _+_, _-_, _≤_, _<_}
 use native.Mathlib.Omega.{arith}
-use lib.Dec.{eqb}
 use lib.ListN.{length, take, length-take, length-map}
 use Rattle.words.specs.Memory.{Mem, mem, tab}
 use Rattle.words.proofs.Memory.{write-in, write-out}
@@ -18,7 +16,7 @@ use Rattle.model.specs.Layout as layouts
 use Rattle.model.proofs.Frame.{relocate-frame}
 use Rattle.model.proofs.Orders.{run-append, run-keeps, times-early, apart-out}
 use Rattle.object.specs.Placed.{objectSpan, objectBytes}
-use Rattle.sheet.specs.Sheet.{Input, sheetOk, setOf, arenaOk, twinOf}
+use Rattle.sheet.specs.Sheet.{Input, setOf}
 use Rattle.sheet.proofs.SheetLonger.{Shape, sheet-shape}
 use Rattle.binder.specs.declared.Policy.{Policy}
 use Rattle.binder.specs.declared.Reply as replies
@@ -27,12 +25,13 @@ use Rattle.binder.specs.Instance.{File, objectAt}
 use Rattle.binder.specs.Verdict.{Verdict, passed, refused, loadVerdict, orderVerdict}
 use Rattle.binder.specs.SetOrder.{setOrder}
 use Rattle.binder.specs.Prepared.{placeFiles}
-use Rattle.binder.specs.Bind.{filesOf, namesOf, objectsOf, unless, prepareVerdict, replied, repliedOf, queryOf}
+use Rattle.binder.specs.Bind.{filesOf, namesOf, objectsOf, prepareVerdict, replied, repliedOf, queryOf}
 use Rattle.binder.proofs.FileLaws.{hostFile, fileOf, files-are}
-use Rattle.binder.proofs.OutcomeLaws.{objectsIn, orderIn, bound-passed, first-passed, unless-passed}
+use Rattle.binder.proofs.OutcomeLaws.{objectsIn, orderIn, bound-passed, first-passed}
 use Rattle.binder.proofs.OrderIs.{names-length, order-is}
 use Rattle.binder.proofs.QueryLaws.{placed-is}
 use Rattle.binder.proofs.SoundLaws.{set-sound, set-fits}
+use Rattle.demands.proofs.PassedSet.{prepared}
 use Rattle.demands.specs.LongerSet.{BoundBy}
 use Rattle.demands.specs.Refusals.{HostIn, HostKept}
 
@@ -134,20 +133,6 @@ answered :
 unfolding repliedOf
 answered size passed x l r arena e ne = (refl, cc)
 answered size (refused n k) x l r arena e ne = absurd (ne n k cc)
-
--- it passed refusals 1 to 12
-record Loaded (sheet bytes : List ℕ) (size address : ℕ) : Type 0 where
-  sheet-ok : sheetOk sheet (length bytes) ≡ true
-  loads : loadVerdict size 0 0 (filesOf (setOf sheet bytes)) ≡ passed
-
-prepared : (sheet bytes : List ℕ) (size address : ℕ) → prepareVerdict sheet bytes size address ≡ passed → Loaded sheet bytes size address
-unfolding prepareVerdict
-prepared sheet bytes size address v =
-    let os : List Input = setOf sheet bytes in
-    let a = first-passed (unless (sheetOk sheet (length bytes)) 1 0) _ v in
-    let b = first-passed (unless (arenaOk size address) 2 0) _ (a .1) in
-    let c = first-passed (unless (eqb (twinOf os) 0) 3 (twinOf os)) (loadVerdict size 0 0 (filesOf os)) (b .1) in
-    record { sheet-ok = unless-passed (sheetOk sheet (length bytes)) 1 0 (a .0); loads = c .1 }
 
 pub host-kept : HostKept
 unfolding queryOf

@@ -1,4 +1,5 @@
 -- The theorems, one for each statement of specs/.
+pub mod PassedSet
 pub mod LongerSetLaw
 pub mod LongerQueryLaw
 pub mod CasesHold

@@ -2,9 +2,9 @@
 use mathlib.Core.Path.{_≡_, refl, sym, subst, _∙_}
 use mathlib.Core.Bool.{Bool, true, false}
 use mathlib.Core.List.{List, [], _∷_, _++_, List·Memᴰ, List·Memᴰ·head, List·Memᴰ·tail, List·Memᴰ·not-nil}
-use Prim.Native.Nat.{ℕ, zero, suc, _+_, _-_, _≤_}
+use Prim.Native.Nat.{ℕ, zero, suc, _+_, _-_, _≤_, _<_}
 use native.Mathlib.Omega.{arith}
-use lib.Dec.{leb, ltb}
+use lib.Dec.{leb}
 use lib.ListN.{length, replicate}
 use Rattle.words.specs.Choice.{pick, every, some, below}
 use Rattle.words.specs.Memory.{Mem, tab, mem, write, In}
@@ -39,9 +39,10 @@ use Rattle.binder.specs.Instance.{File, foundOf, placesOf, wordsOf, relasOf, en
 use Rattle.binder.specs.Verdict.{passed, verdict, loadVerdict, refusalBy, wordsVerdict, entriesVerdict, objectVerdict, orderVerdict}
 use Rattle.binder.specs.Report.{reportWord, isAbsent, undefinedBy, entryWords, objectWords, orderWords}
 use Rattle.binder.specs.SetOrder.{needsOf, setOrder}
-use Rattle.binder.specs.Bind.{filesOf, namesOf, objectsOf, unless, prepareVerdict, relocateVerdict, outcome, outcomeOf, bindIn, bindOf, queryOf, replied, replyOf, repliedOf}
+use Rattle.binder.specs.Bind.{filesOf, namesOf, objectsOf, unless, prepareVerdict, relocateVerdict, outcome, outcomeOf, bindIn, bindOf, queryOf, replied, replyOf}
 use Rattle.demands.specs.LongerSet.{BoundBy, setObjects}
 use Rattle.demands.specs.PairOfSheets.{bytesOf, hostFile, programFile, libraryFile, sheet, bytes, longerSheet, longerBytes, PairOfSheets}
+use Rattle.demands.proofs.LongerQueryLaw.{asked}
 use Rattle.demands.proofs.LongerSetLaw.{longer-set}
 use Rattle.demands.proofs.PairFiles.{
   Reads,
@@ -284,10 +285,9 @@ T-bound = bind-passed longerSheet longerBytes 0x5000 longerInputs (2 ∷ 3 ∷ 1
 
 query-passed :
     (sheet bytes : List ℕ) (size : ℕ) (os : List Input) (A : Objs) (name : List ℕ) (x : symbols.Answer) → setOf sheet bytes ≡ os
-    → prepareVerdict sheet bytes size 0x10000000 ≡ passed → objectsOf 0x10000000 (filesOf os) ≡ A → ltb 1 (length os) ≡ true → resolve A 1 name ≡ x
+    → prepareVerdict sheet bytes size 0x10000000 ≡ passed → objectsOf 0x10000000 (filesOf os) ≡ A → 1 < length os → resolve A 1 name ≡ x
     → queryOf sheet bytes size 0x10000000 1 name ≡ replied (replyOf x) (tab size (placed A))
-unfolding queryOf repliedOf unless
-query-passed sheet bytes size os A name x s v o l e = rw (v, s, o, l, e)
+query-passed sheet bytes size os A name x s v o l e = asked sheet bytes size 0x10000000 1 name v (rw s l) ∙ rw (s, o, e)
 
 -- ---- the program's words
 
@@ -336,15 +336,15 @@ pair-of-sheets =
       bound = S-bound;
       longer-bound = T-bound;
       only = subst OnlyProgramCopies (sym objects-are) only;
-      a-asked = (tab 0x4000 (placed S), query-passed sheet bytes 0x4000 inputs S (97 ∷ []) _ set-is S-prepared S-is refl (look .a-in-S));
+      a-asked = (tab 0x4000 (placed S), query-passed sheet bytes 0x4000 inputs S (97 ∷ []) _ set-is S-prepared S-is (omega arith) (look .a-in-S));
       a-asked-longer = (
         tab 0x5000 (placed T),
-        query-passed longerSheet longerBytes 0x5000 longerInputs T (97 ∷ []) _ longer-is T-prepared T-is refl (look .a-in-T),
+        query-passed longerSheet longerBytes 0x5000 longerInputs T (97 ∷ []) _ longer-is T-prepared T-is (omega arith) (look .a-in-T),
       );
-      b-asked = (tab 0x4000 (placed S), query-passed sheet bytes 0x4000 inputs S (98 ∷ []) _ set-is S-prepared S-is refl (look .b-in-S));
+      b-asked = (tab 0x4000 (placed S), query-passed sheet bytes 0x4000 inputs S (98 ∷ []) _ set-is S-prepared S-is (omega arith) (look .b-in-S));
       b-asked-longer = (
         tab 0x5000 (placed T),
-        query-passed longerSheet longerBytes 0x5000 longerInputs T (98 ∷ []) _ longer-is T-prepared T-is refl (look .b-in-T),
+        query-passed longerSheet longerBytes 0x5000 longerInputs T (98 ∷ []) _ longer-is T-prepared T-is (omega arith) (look .b-in-T),
       );
       a-word = word-of 0x4000 (bound S (2 ∷ 1 ∷ [])) 0x2000 (omega arith) ∙ program-has .a-in-S;
       a-word-longer = word-of 0x5000 (bound T (2 ∷ 3 ∷ 1 ∷ [])) 0x2000 (omega arith) ∙ program-has .a-in-T;

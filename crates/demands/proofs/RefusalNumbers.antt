@@ -14,7 +14,7 @@ use Rattle.model.specs.Order.{has}
 use Rattle.model.specs.Objects.{Objs}
 use Rattle.model.specs.Scope.{resolveCopy}
 use Rattle.model.specs.Symbols.{Answer, absent, answer}
-use Rattle.model.proofs.OrderLaws.{decide, clash, has-head, has-cons, nothing-else}
+use Rattle.model.proofs.OrderLaws.{decide, clash, has-head, has-cons}
 use Rattle.object.specs.Refusal.{require, after}
 use Rattle.object.specs.Header.{headerRefusal}
 use Rattle.object.specs.ProgramHeader.{dynamicOf}
@@ -58,7 +58,6 @@ use Rattle.binder.specs.Verdict.{
   orderVerdict,
 }
 use Rattle.binder.specs.Report.{hasUndefined, firstUndefined}
-use Rattle.binder.specs.SetOrder.{needsOf, setOrder}
 use Rattle.binder.specs.Bind.{unless}
 
 -- ---- numbers: none, or one of a range
@@ -293,12 +292,3 @@ pub twin-later : (os : List Input) → twinOf os ≢ 0 → (3 ≤ twinOf os) × 
 twin-later os ne =
     let r = twin-from os (length (drop 2 os)) 2 (omega arith) ne in
     (r .0, omega (arith, length-drop 2 os))
-
--- ---- the objects of an order
-
-pub order-objects :
-    (files : List File) (names : List (List ℕ)) (k : ℕ) → has k (setOrder files names) ≡ true → (1 ≤ k) × (k < length names + 2)
-unfolding setOrder
-order-objects files names k h =
-    ⊎-elim (λ (e : k ≡ 1). omega arith) (λ (b : (2 ≤ k) × (k < length names + 2)). omega arith)
-    (nothing-else (λ k. needsOf names (getD files k noFile)) (length names) k h)

@@ -16,7 +16,6 @@ use Rattle.model.specs.Symbols as symbols
 use Rattle.model.specs.Symbols.{absent, answer}
 use Rattle.model.proofs.OrderLaws.{clash}
 use Rattle.sheet.specs.Sheet.{Input, sheetOk, setOf, arenaOk, twinOf}
-use Rattle.sheet.proofs.SheetLonger.{sheet-shape}
 use Rattle.binder.specs.declared.Policy.{Policy}
 use Rattle.binder.specs.declared.Policy.the-variants.{Strict, Lenient}
 use Rattle.binder.specs.declared.Answer as answers
@@ -43,9 +42,9 @@ use Rattle.binder.specs.Bind.{
   queryOf,
 }
 use Rattle.binder.proofs.OutcomeLaws.{first-passed, unless-passed, objectsIn, orderIn}
-use Rattle.binder.proofs.OrderIs.{names-length}
 use Rattle.binder.proofs.PrepareLaws.{files-length}
 use Rattle.demands.specs.Refusals.{withoutObject, ObjectOf, BindNumber, BindRefusals, QueryNumber, QueryRefusals, Answered, Lengths}
+use Rattle.demands.proofs.PassedSet.{prepared, counts, order-objects}
 use Rattle.demands.proofs.RefusalNumbers.{
   Meets,
   first-meets,
@@ -55,7 +54,6 @@ use Rattle.demands.proofs.RefusalNumbers.{
   order-meets,
   first-undefined,
   twin-later,
-  order-objects,
 }
 
 -- ---- a refusal's number and its object
@@ -118,15 +116,6 @@ module _ (sheet bytes : List ℕ) (size address : ℕ) where
             (omega (arith, files-length os)) (λ e. absurd (omega arith)) (λ g i. absurd (omega arith)),
       )))))
 
-  -- where the sheet is not refused, the libraries' names are as many as the libraries
-  set-names : sheetOk sheet (length bytes) ≡ true → length (namesOf os) + 2 ≡ length os
-  set-names ok =
-      let s = sheet-shape sheet bytes (length bytes) ok in
-      let names : length (namesOf os) ≡ length (s .libs) =
-      ap (λ (l : List Input). length (namesOf l)) (s .is) ∙ names-length (s .host) (s .program) (s .libs) in
-      let all : length os ≡ length (s .libs) + 2 = omega (arith, ap (λ (l : List Input). length l) (s .is)) in
-      omega arith
-
   -- 14 to 20
   relocate-right :
       (N : ℕ → Type 0) → ((n : ℕ) → 14 ≤ n → n ≤ 20 → N n) → sheetOk sheet (length bytes) ≡ true → (policy : Policy) (words : ℕ)
@@ -153,16 +142,11 @@ module _ (sheet bytes : List ℕ) (size address : ℕ) where
       entry-of : (n k : ℕ) → 14 ≤ n → n ≤ 19 → 1 ≤ k → k < length (namesOf os) + 2 → ObjectOf (length os) n k
       entry-of n k l h pos small =
           of-object (length os) n k (λ e. omega arith) (λ e. omega arith) (λ e. omega arith) (λ e. omega arith)
-          (omega (arith, set-names good)) (λ e. absurd (omega arith)) (λ g i. pos)
+          (omega (arith, counts sheet bytes good)) (λ e. absurd (omega arith)) (λ g i. pos)
 
       undefined : (policy : Policy) → allows policy u ≡ false → u ≢ 0
       undefined Strict e = eqb-false u 0 e
       undefined Lenient e = absurd (true≢false e)
-
-  -- a set that passed 1 to 12 has a good sheet
-  good-sheet : prepareVerdict sheet bytes size address ≡ passed → sheetOk sheet (length bytes) ≡ true
-  unfolding prepareVerdict
-  good-sheet v = unless-passed (sheetOk sheet (length bytes)) 1 0 (first-passed (unless (sheetOk sheet (length bytes)) 1 0) _ v .0)
 
   bind-right :
       (policy : Policy) (words : ℕ)
@@ -171,7 +155,7 @@ module _ (sheet bytes : List ℕ) (size address : ℕ) where
   bind-right policy words =
       first-then (Right BindNumber (length os)) (prepareVerdict sheet bytes size address) _
       (prepare-right BindNumber (λ n l h. omega arith))
-      (λ v. relocate-right BindNumber (λ n l h. omega arith) (good-sheet v) policy words)
+      (λ v. relocate-right BindNumber (λ n l h. omega arith) (prepared sheet bytes size address v .sheet-ok) policy words)
 
   query-right :
       (requester : ℕ)
