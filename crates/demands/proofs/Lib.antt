@@ -1,4 +1,4 @@
--- The theorems, one for each statement of specs/.
+-- The theorems, one for each statement of specs/, and what only they rest on.
 pub mod PassedSet
 pub mod LongerSetLaw
 pub mod LongerQueryLaw
