@@ -1,5 +1,11 @@
--- The theorems, one for each statement of specs/.
+-- The theorems, one for each statement of specs/, and what only they rest on.
+pub mod PassedSet
 pub mod LongerSetLaw
 pub mod LongerQueryLaw
 pub mod CasesHold
 pub mod OrderReported
+pub mod RefusalNumbers
+pub mod RefusalsHold
+pub mod HostStays
+pub mod PairFiles
+pub mod PairHolds

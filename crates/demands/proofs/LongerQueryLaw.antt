@@ -14,7 +14,7 @@ use Rattle.model.specs.Scope.{resolve}
 use Rattle.model.specs.Relocation.{placed}
 use Rattle.model.proofs.Laid.{objs-longer}
 use Rattle.model.proofs.Scope.{resolve-kept}
-use Rattle.sheet.specs.Sheet.{Input, sheetOk, setOf}
+use Rattle.sheet.specs.Sheet.{Input, setOf}
 use Rattle.sheet.proofs.SheetLonger.{Longer, sheet-longer}
 use Rattle.binder.specs.declared.Policy.{Policy}
 use Rattle.binder.specs.declared.Reply.{Reply}
@@ -22,6 +22,7 @@ use Rattle.binder.specs.declared.Reply.the-variants.{Found}
 use Rattle.binder.specs.Instance.{File, objectAt}
 use Rattle.binder.specs.Verdict.{Verdict, passed, refused, first}
 use Rattle.binder.specs.Bind.{filesOf, objectsOf, unless, prepareVerdict, replied, replyOf, repliedOf, queryOf}
+use Rattle.demands.proofs.PassedSet.{prepared}
 use Rattle.demands.specs.LongerSet.{LoadedBy, BoundBy, setObjects, LongerQuery}
 use Rattle.binder.proofs.OutcomeLaws.{first-passed, unless-passed, bound-passed}
 use Rattle.binder.proofs.FileLaws.{hostFile, fileOf, files-are, files-longer}
@@ -71,7 +72,7 @@ loaded sheet bytes size address policy words arena report e =
     rw (p .sheet-ok, p .arena-ok, p .no-twin) (p .loads)
 
 -- what a set that is not refused replies
-asked :
+pub asked :
     (sheet bytes : List ℕ) (size address requester : ℕ) (name : List ℕ) → LoadedBy sheet bytes size address → requester < length (setOf sheet bytes)
     → queryOf sheet bytes size address requester name
     ≡ replied (replyOf (resolve (setObjects address sheet bytes) requester name)) (tab size (placed (setObjects address sheet bytes)))
@@ -84,12 +85,12 @@ same :
     → (f n : ℕ) (added : List ℕ) (size′ : ℕ) → LoadedBy (sheet ++ (f ∷ (n ∷ []))) (bytes ++ added) size′ address
     → queryOf (sheet ++ (f ∷ (n ∷ []))) (bytes ++ added) size′ address requester name
     ≡ replied (Found k i a) (tab size′ (placed (setObjects address (sheet ++ (f ∷ (n ∷ []))) (bytes ++ added))))
-unfolding queryOf prepareVerdict
+unfolding queryOf
 same address sheet bytes size requester name k i a arena e pos f n added size′ v =
     let os : List Input = setOf sheet bytes in
     let p = found-passed size _ _ _ arena k i a e in
     let q = first-passed (prepareVerdict sheet bytes size address) (unless (ltb requester (length os)) 13 0) (p .0) in
-    let ok = unless-passed (sheetOk sheet (length bytes)) 1 0 (first-passed (unless (sheetOk sheet (length bytes)) 1 0) _ (q .0) .0) in
+    let ok = prepared sheet bytes size address (q .0) .sheet-ok in
     let l = ltb-true requester (length os) (unless-passed (ltb requester (length os)) 13 0 (q .1)) in
     let x = found-answer (resolve (setObjects address sheet bytes) requester name) k i a (p .1) in
     let t = kept address os (setOf (sheet ++ (f ∷ (n ∷ []))) (bytes ++ added)) (sheet-longer sheet bytes f n added ok) requester l name k (x .0) a

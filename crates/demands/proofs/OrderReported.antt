@@ -1,7 +1,6 @@
 -- The words of kind 5 of a report are the order of the set, with its laws. Assumes nothing.
 use mathlib.Core.Path.{_≡_, refl, ap, subst, _∙_}
 use mathlib.Core.Bool.{Bool, true, false}
-use mathlib.Core.Logic.{⊎-elim}
 use mathlib.Core.List.{List, [], _∷_, _++_}
 use Prim.Native.Nat.{ℕ, zero, suc, _+_, _*_, _-_, _/_, _%_, _^_, _≤_, _<_}
 use native.Mathlib.Omega.{arith}
@@ -11,7 +10,7 @@ use lib.ListN.{length, getD, replicate}
 use Rattle.words.specs.Choice.{pick}
 use Rattle.model.specs.Objects.{Objs}
 use Rattle.model.specs.Order.{has, Before, Reach, OnceEach}
-use Rattle.model.proofs.OrderLaws.{has-head, has-cons, nothing-else, needed-first}
+use Rattle.model.proofs.OrderLaws.{has-head, has-cons, needed-first}
 use Rattle.object.specs.Entries.{actionOf}
 use Rattle.object.specs.Record.{Record}
 use Rattle.object.specs.declared.relocate.Rela.{Rela}
@@ -19,12 +18,12 @@ use Rattle.sheet.specs.Sheet.{Input, setOf}
 use Rattle.binder.specs.Instance.{File, imageOf, recordOf, relasOf}
 use Rattle.binder.specs.Verdict.{noFile}
 use Rattle.binder.specs.Report.{reportWord, isUndefined, isPassed, entryWords, objectWords, orderWords}
-use Rattle.binder.specs.SetOrder.{needsOf, setOrder}
+use Rattle.binder.specs.SetOrder.{setOrder}
 use Rattle.binder.specs.Bind.{filesOf, namesOf}
 use Rattle.demands.specs.OrderReport.{numbersOf, needsIn, OrderReport}
+use Rattle.demands.proofs.PassedSet.{counts, order-objects}
 use Rattle.binder.proofs.OutcomeLaws.{objectsIn, orderIn, bound-passed}
-use Rattle.sheet.proofs.SheetLonger.{sheet-shape}
-use Rattle.binder.proofs.OrderIs.{set-order, names-length}
+use Rattle.binder.proofs.OrderIs.{set-order}
 
 -- ---- words of kind 5, and others
 
@@ -93,10 +92,7 @@ append-nil (x ∷ l) = ap (λ (r : List ℕ). x ∷ r) (append-nil l)
 -- ---- the order of a set of at most 62 libraries
 
 order-small : (files : List File) (names : List (List ℕ)) → length names ≤ 62 → (k : ℕ) → has k (setOrder files names) ≡ true → k < 2 ^ 28
-unfolding setOrder
-order-small files names few k h =
-    ⊎-elim (λ (e : k ≡ 1). omega arith) (λ (b : (2 ≤ k) × (k < length names + 2)). omega arith)
-    (nothing-else (λ k. needsOf names (getD files k noFile)) (length names) k h)
+order-small files names few k h = omega (arith, order-objects files names k h)
 
 set-needed-first :
     (os : List Input) (a b : ℕ) → 2 ≤ a → a < length (namesOf os) + 2 → 2 ≤ b → b < length (namesOf os) + 2
@@ -110,21 +106,16 @@ pub order-report : OrderReport
 order-report sheet bytes size address policy words arena report e =
     let os : List Input = setOf sheet bytes in
     let p = bound-passed sheet bytes size address policy words arena report e in
-    let s = sheet-shape sheet bytes (length bytes) (p .sheet-ok) in
-    let names : length (namesOf os) ≡ length (s .libs) =
-    ap (λ (l : List Input). length (namesOf l)) (s .is) ∙ names-length (s .host) (s .program) (s .libs) in
-    let all : length os ≡ length (s .libs) + 2 = omega (arith, ap (λ (l : List Input). length l) (s .is)) in
-    let count : length (namesOf os) + 2 ≡ length os = omega arith in
+    let c = counts sheet bytes (p .sheet-ok) in
     let ws : List ℕ = orderWords (objectsIn address os) (filesOf os) (orderIn os) in
-    let few : length (namesOf os) ≤ 62 = omega (arith, s .few) in
     let is : numbersOf 5 report ≡ orderIn os =
     ap (λ (l : List ℕ). numbersOf 5 l) (p .report-is)
     ∙ (numbers-append 5 ws (replicate (words - length ws) 0)
     ∙ (ap (λ (l : List ℕ). numbersOf 5 ws ++ l) (no-zeros (words - length ws))
     ∙ (append-nil (numbersOf 5 ws)
-    ∙ order-numbers (objectsIn address os) (filesOf os) (orderIn os) (order-small (filesOf os) (namesOf os) few)))) in
+    ∙ order-numbers (objectsIn address os) (filesOf os) (orderIn os) (order-small (filesOf os) (namesOf os) (c .few))))) in
     record {
       order = is;
-      once = rw is (subst (λ (n : ℕ). OnceEach n (orderIn os)) count (set-order (filesOf os) (namesOf os)));
-      needed-first = λ a b la ha lb hb n far. rw is (set-needed-first os a b la (omega arith) lb (omega arith) n far);
+      once = rw is (subst (λ (n : ℕ). OnceEach n (orderIn os)) (c .all) (set-order (filesOf os) (namesOf os)));
+      needed-first = λ a b la ha lb hb n far. rw is (set-needed-first os a b la (omega (arith, c .all)) lb (omega (arith, c .all)) n far);
     }

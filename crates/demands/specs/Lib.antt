@@ -2,3 +2,5 @@
 pub mod LongerSet
 pub mod OrderReport
 pub mod Cases
+pub mod Refusals
+pub mod PairOfSheets

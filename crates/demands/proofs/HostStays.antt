@@ -1,0 +1,158 @@
+-- The host's part of the arena is the host's file. Assumes nothing.
+use mathlib.Core.Path.{_≡_, refl, sym, ap, _∙_}
+use mathlib.Core.Logic.{inl, _≢_}
+use mathlib.Core.List.{List, [], _∷_, map}
+use Prim.Native.Nat.{ℕ, _+_, _-_, _≤_, _<_}
+use native.Mathlib.Omega.{arith}
+use lib.ListN.{length, take, length-take, length-map}
+use Rattle.words.specs.Memory.{Mem, mem, tab}
+use Rattle.words.proofs.Memory.{write-in, write-out}
+use Rattle.words.proofs.Slices.{mem-take, mem-tab, mem-ext, length-tab}
+use Rattle.model.specs.Objects.{Objs, count, obj}
+use Rattle.model.specs.Relocation.{placed, bound, run}
+use Rattle.model.specs.Sound.{Sound, Order}
+use Rattle.model.specs.Layout.{objsOf}
+use Rattle.model.specs.Layout as layouts
+use Rattle.model.proofs.Frame.{relocate-frame}
+use Rattle.model.proofs.Orders.{run-append, run-keeps, times-early, apart-out}
+use Rattle.object.specs.Placed.{objectSpan, objectBytes}
+use Rattle.sheet.specs.Sheet.{Input, setOf}
+use Rattle.sheet.proofs.SheetLonger.{Shape, sheet-shape}
+use Rattle.binder.specs.declared.Policy.{Policy}
+use Rattle.binder.specs.declared.Reply as replies
+use Rattle.binder.specs.declared.Reply.{Reply}
+use Rattle.binder.specs.Instance.{File, objectAt}
+use Rattle.binder.specs.Verdict.{Verdict, passed, refused, loadVerdict, orderVerdict}
+use Rattle.binder.specs.SetOrder.{setOrder}
+use Rattle.binder.specs.Prepared.{placeFiles}
+use Rattle.binder.specs.Bind.{filesOf, namesOf, objectsOf, prepareVerdict, replied, repliedOf, queryOf}
+use Rattle.binder.proofs.FileLaws.{hostFile, fileOf, files-are}
+use Rattle.binder.proofs.OutcomeLaws.{objectsIn, orderIn, bound-passed, first-passed}
+use Rattle.binder.proofs.OrderIs.{names-length, order-is}
+use Rattle.binder.proofs.QueryLaws.{placed-is}
+use Rattle.binder.proofs.SoundLaws.{set-sound, set-fits}
+use Rattle.demands.proofs.PassedSet.{prepared}
+use Rattle.demands.specs.LongerSet.{BoundBy}
+use Rattle.demands.specs.Refusals.{HostIn, HostKept}
+
+-- ---- placing and binding leave the bytes of the first object
+
+place-below : (fs : List File) (off : ℕ) (m : Mem) (i : ℕ) → i < off → placeFiles fs off m i ≡ m i
+unfolding placeFiles
+place-below [] off m i h = refl
+place-below (f ∷ fs) off m i h =
+    place-below fs (off + objectSpan (f .host) (f .bytes)) _ i (omega arith)
+    ∙ write-out m off (objectSpan (f .host) (f .bytes)) (objectBytes (f .host) (f .bytes)) i (inl h)
+
+placed-first :
+    (address : ℕ) (h p : File) (fs : List File) (i : ℕ) → i < objectSpan (h .host) (h .bytes)
+    → placed (objsOf (objectAt address) h p fs) i ≡ objectBytes (h .host) (h .bytes) i
+unfolding placeFiles
+placed-first address h p fs i l =
+    let start : i - 0 ≡ i = omega arith in
+    ap (λ (m : Mem). m i) (placed-is address h p fs)
+    ∙ (place-below (p ∷ fs) (0 + objectSpan (h .host) (h .bytes)) _ i (omega arith)
+    ∙ (write-in (λ _. 0) 0 (objectSpan (h .host) (h .bytes)) (objectBytes (h .host) (h .bytes)) i (omega arith)
+    ∙ ap (objectBytes (h .host) (h .bytes)) start))
+
+-- no library is the host, and neither is the program
+bound-first : (S : Objs) → Sound S → (order : List ℕ) → Order S order → (i : ℕ) → i < (obj S 0) .span → (obj S 0) .offset ≡ 0 → bound S order i ≡ placed S i
+unfolding bound run
+bound-first S sound order o i l start =
+    let front : run S (o .front) (placed S) i ≡ placed S i =
+    run-keeps S sound (o .front) (o .only) 0 (omega arith) (times-early (count S) (o .front) 0 (o .only) (omega arith)) (placed S) i (omega arith) in
+    rw (o .split, run-append S (o .front) (1 ∷ []) (placed S))
+    (relocate-frame S sound 1 (omega arith) (omega arith) (run S (o .front) (placed S)) i
+    (apart-out S sound 1 0 (omega arith) (omega arith) (λ e. omega arith) i (omega arith))
+    ∙ front)
+
+-- ---- as lists
+
+first-bytes : (file : List ℕ) (size : ℕ) (m : Mem) → length file ≤ size → ((i : ℕ) → i < length file → m i ≡ mem file i) → take (length file) (tab size m) ≡ file
+first-bytes file size m l same =
+    mem-ext (take (length file) (tab size m)) file many
+    (λ i h.
+    let g : i < length file = omega (arith, many) in
+    mem-take (length file) (tab size m) i g ∙ (mem-tab size m i (omega arith) ∙ same i g))
+  where
+    many : length (take (length file) (tab size m)) ≡ length file
+    many = simp (length-take, length-tab) (omega arith)
+
+module _ (address size : ℕ) (h p : Input) (ls : List Input) (v : loadVerdict size 0 0 (filesOf (h ∷ (p ∷ ls))) ≡ passed) where
+  abbrev fs : List File
+  fs = map fileOf ls
+
+  loads : loadVerdict size 0 0 (hostFile h ∷ (fileOf p ∷ fs)) ≡ passed
+  loads = rw (files-are h p ls) at v
+
+  fits : length (h .file) ≤ size
+  unfolding layouts.objsOf objectAt objectSpan
+  fits = omega (arith, set-fits address size (hostFile h) (fileOf p) fs loads 0 (omega arith))
+
+  placed-host : (i : ℕ) → i < length (h .file) → placed (objectsOf address (filesOf (h ∷ (p ∷ ls)))) i ≡ mem (h .file) i
+  unfolding objectsOf objectSpan objectBytes
+  placed-host i l = rw (files-are h p ls) (placed-first address (hostFile h) (fileOf p) fs i l)
+
+  bound-host :
+      orderVerdict (objectsIn address (h ∷ (p ∷ ls))) (filesOf (h ∷ (p ∷ ls))) (orderIn (h ∷ (p ∷ ls))) ≡ passed
+      → (i : ℕ) → i < length (h .file)
+      → bound (objectsIn address (h ∷ (p ∷ ls))) (orderIn (h ∷ (p ∷ ls))) i ≡ mem (h .file) i
+  unfolding objectsOf objectSpan objectAt layouts.objsOf
+  bound-host w i l =
+      let order : List ℕ = setOrder (hostFile h ∷ (fileOf p ∷ fs)) (namesOf (h ∷ (p ∷ ls))) in
+      let o = order-is address (hostFile h) (fileOf p) fs (namesOf (h ∷ (p ∷ ls))) (names-length h p ls ∙ sym (length-map ls fileOf)) in
+      let sound = set-sound address size (hostFile h) (fileOf p) fs loads order o (rw (files-are h p ls) at w) in
+      rw (files-are h p ls)
+      (bound-first (objsOf (objectAt address) (hostFile h) (fileOf p) fs) sound order o i l refl) ∙ placed-host i l
+
+-- ---- of a set
+
+module _ (address size : ℕ) (os : List Input) (s : Shape os) (v : loadVerdict size 0 0 (filesOf os) ≡ passed) where
+  -- an arena whose first bytes are the host's
+  host-in : (m : Mem) → ((i : ℕ) → i < length (s .host .file) → m i ≡ mem (s .host .file) i) → HostIn os (tab size m)
+  host-in m same =
+      rw (s .is)
+      (first-bytes (s .host .file) size m (fits address size (s .host) (s .program) (s .libs) (rw (s .is) at v)) same)
+
+  placed-in : HostIn os (tab size (placed (objectsIn address os)))
+  placed-in =
+      host-in (placed (objectsIn address os))
+      (λ i l. rw (s .is) (placed-host address size (s .host) (s .program) (s .libs) (rw (s .is) at v) i l))
+
+  bound-in :
+      orderVerdict (objectsIn address os) (filesOf os) (orderIn os) ≡ passed → HostIn os (tab size (bound (objectsIn address os) (orderIn os)))
+  bound-in w =
+      host-in (bound (objectsIn address os) (orderIn os))
+      (λ i l. rw (s .is) (bound-host address size (s .host) (s .program) (s .libs) (rw (s .is) at v) (rw (s .is) at w) i l))
+
+-- a query that was answered
+answered :
+    (size : ℕ) (v : Verdict) (x : Reply) (l : List ℕ) (r : Reply) (arena : List ℕ) → repliedOf size v x l ≡ replied r arena
+    → ((n k : ℕ) → r ≢ replies.the-variants.Refused n k)
+    → (v ≡ passed) × (arena ≡ l)
+unfolding repliedOf
+answered size passed x l r arena e ne = (refl, cc)
+answered size (refused n k) x l r arena e ne = absurd (ne n k cc)
+
+pub host-kept : HostKept
+unfolding queryOf
+host-kept = record { bound = bind-host; asked = query-host }
+  where
+    bind-host :
+        (sheet bytes : List ℕ) (size address : ℕ) (policy : Policy) (words : ℕ) (arena report : List ℕ)
+        → BoundBy sheet bytes size address policy words arena report
+        → HostIn (setOf sheet bytes) arena
+    bind-host sheet bytes size address policy words arena report e =
+        let q = bound-passed sheet bytes size address policy words arena report e in
+        rw (q .arena-is)
+        (bound-in address size (setOf sheet bytes) (sheet-shape sheet bytes (length bytes) (q .sheet-ok)) (q .loads) (q .relocates))
+
+    query-host :
+        (sheet bytes : List ℕ) (size address requester : ℕ) (name : List ℕ) (r : Reply) (arena : List ℕ)
+        → queryOf sheet bytes size address requester name ≡ replied r arena
+        → ((n k : ℕ) → r ≢ replies.the-variants.Refused n k)
+        → HostIn (setOf sheet bytes) arena
+    query-host sheet bytes size address requester name r arena e ne =
+        let a = answered size _ _ _ r arena e ne in
+        let q = prepared sheet bytes size address (first-passed (prepareVerdict sheet bytes size address) _ (a .0) .0) in
+        rw (a .1) (placed-in address size (setOf sheet bytes) (sheet-shape sheet bytes (length bytes) (q .sheet-ok)) (q .loads))

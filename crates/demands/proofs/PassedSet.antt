@@ -1,0 +1,56 @@
+-- A set that meets none of refusals 1 to 12: its sheet, its counts, and the objects of its order. Assumes nothing.
+use mathlib.Core.Path.{_≡_, ap, _∙_}
+use mathlib.Core.Bool.{true}
+use mathlib.Core.Logic.{⊎-elim}
+use mathlib.Core.List.{List}
+use Prim.Native.Nat.{ℕ, _+_, _≤_, _<_}
+use native.Mathlib.Omega.{arith}
+use lib.Dec.{eqb}
+use lib.ListN.{length, getD}
+use Rattle.model.specs.Order.{has}
+use Rattle.model.proofs.OrderLaws.{nothing-else}
+use Rattle.sheet.specs.Sheet.{Input, sheetOk, setOf, arenaOk, twinOf}
+use Rattle.sheet.proofs.SheetLonger.{sheet-shape}
+use Rattle.binder.specs.Instance.{File}
+use Rattle.binder.specs.Verdict.{passed, noFile, loadVerdict}
+use Rattle.binder.specs.SetOrder.{needsOf, setOrder}
+use Rattle.binder.specs.Bind.{filesOf, namesOf, unless, prepareVerdict}
+use Rattle.binder.proofs.OutcomeLaws.{first-passed, unless-passed}
+use Rattle.binder.proofs.OrderIs.{names-length}
+
+module _ (sheet bytes : List ℕ) where
+  abbrev os : List Input
+  os = setOf sheet bytes
+
+  pub record Loads (size : ℕ) : Type 0 where
+    pub sheet-ok : sheetOk sheet (length bytes) ≡ true
+    pub loads : loadVerdict size 0 0 (filesOf os) ≡ passed
+
+  pub prepared : (size address : ℕ) → prepareVerdict sheet bytes size address ≡ passed → Loads size
+  unfolding prepareVerdict
+  prepared size address v =
+      let a = first-passed (unless (sheetOk sheet (length bytes)) 1 0) _ v in
+      let b = first-passed (unless (arenaOk size address) 2 0) _ (a .1) in
+      let c = first-passed (unless (eqb (twinOf os) 0) 3 (twinOf os)) (loadVerdict size 0 0 (filesOf os)) (b .1) in
+      record { sheet-ok = unless-passed (sheetOk sheet (length bytes)) 1 0 (a .0); loads = c .1 }
+
+  -- its libraries have a name each, and are at most 62
+  pub record Counts : Type 0 where
+    pub all : length (namesOf os) + 2 ≡ length os
+    pub few : length (namesOf os) ≤ 62
+
+  pub counts : sheetOk sheet (length bytes) ≡ true → Counts
+  counts ok =
+      let s = sheet-shape sheet bytes (length bytes) ok in
+      let names : length (namesOf os) ≡ length (s .libs) =
+      ap (λ (l : List Input). length (namesOf l)) (s .is) ∙ names-length (s .host) (s .program) (s .libs) in
+      let every : length os ≡ length (s .libs) + 2 = omega (arith, ap (λ (l : List Input). length l) (s .is)) in
+      record { all = omega arith; few = omega (arith, s .few) }
+
+-- no object of an order is the host
+pub order-objects :
+    (files : List File) (names : List (List ℕ)) (k : ℕ) → has k (setOrder files names) ≡ true → (1 ≤ k) × (k < length names + 2)
+unfolding setOrder
+order-objects files names k h =
+    ⊎-elim (λ (e : k ≡ 1). omega arith) (λ (b : (2 ≤ k) × (k < length names + 2)). omega arith)
+    (nothing-else (λ k. needsOf names (getD files k noFile)) (length names) k h)

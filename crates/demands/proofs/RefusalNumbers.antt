@@ -1,0 +1,294 @@
+-- Which numbers and which objects refusals have. Assumes nothing.
+use mathlib.Core.Path.{_≡_, refl}
+use mathlib.Core.Bool.{Bool, true, false}
+use mathlib.Core.Logic.{⊎-elim, _≢_}
+use mathlib.Core.List.{List, [], _∷_}
+use Prim.Native.Nat.{ℕ, zero, suc, _+_, _-_, _≤_, _<_, min}
+use native.Mathlib.Omega.{arith}
+use borrow.Author.Tests.{eqb-true, eqb-false}
+use lib.Dec.{eqb}
+use lib.ListN.{length, getD, take, drop, length-drop}
+use Rattle.words.specs.Choice.{pick}
+use Rattle.words.specs.Choice as choice
+use Rattle.model.specs.Order.{has}
+use Rattle.model.specs.Objects.{Objs}
+use Rattle.model.specs.Scope.{resolveCopy}
+use Rattle.model.specs.Symbols.{Answer, absent, answer}
+use Rattle.model.proofs.OrderLaws.{decide, clash, has-head, has-cons}
+use Rattle.object.specs.Refusal.{require, after}
+use Rattle.object.specs.Header.{headerRefusal}
+use Rattle.object.specs.ProgramHeader.{dynamicOf}
+use Rattle.object.specs.Placed.{segmentsOf, objectImage, objectSpan, placeRefusal}
+use Rattle.object.specs.Record.{Record, fieldsRefusal, readRefusal, checkedSymbol, indexOk, isTableOf, nameOf}
+use Rattle.object.specs.Symbol.{symbolAt}
+use Rattle.object.specs.HashCheck.{symbolOk}
+use Rattle.object.specs.TableBytes.{inWritable}
+use Rattle.object.specs.Loaded.{objectRefusal}
+use Rattle.object.specs.Entries.{actionOf, Word, place, nowhere}
+use Rattle.object.specs.DynamicFields.{fieldsOf}
+use Rattle.object.specs.declared.program_header.Segment.{Segment}
+use Rattle.object.specs.declared.program_header.Dynamic.{Dynamic}
+use Rattle.object.specs.declared.program_header.Dynamic.the-variants.{Missing, At}
+use Rattle.object.specs.declared.dynamic_array.DynamicFields.{DynamicFields}
+use Rattle.object.specs.declared.symbol.Symbol.{Symbol}
+use Rattle.object.specs.declared.relocate.Rela.{Rela}
+use Rattle.object.specs.declared.relocate.Action.{Action}
+use Rattle.object.specs.declared.relocate.Action.the-variants.{Ignored, Passed, Relative, Symbolic, Copy, Irelative}
+use Rattle.object.specs.declared.dynamic_fields.CheckedSymbol.the-variants.{Refused, Checked}
+use Rattle.sheet.specs.Sheet.{Input, noInput, named, twinFrom, twinOf}
+use Rattle.binder.specs.Instance.{File, imageOf, recordOf, wordsOf, relasOf}
+use Rattle.binder.specs.Verdict.{
+  Verdict,
+  passed,
+  refused,
+  first,
+  verdict,
+  noFile,
+  loadVerdict,
+  writtenRefusal,
+  wordRefusal,
+  copyOk,
+  copyRefusal,
+  symbolThen,
+  refusalBy,
+  entryRefusal,
+  wordsVerdict,
+  entriesVerdict,
+  objectVerdict,
+  orderVerdict,
+}
+use Rattle.binder.specs.Report.{hasUndefined, firstUndefined}
+use Rattle.binder.specs.Bind.{unless}
+
+-- ---- numbers: none, or one of a range
+
+abbrev Range : ℕ → ℕ → ℕ → Type 0
+Range low high n = 0 < n → (low ≤ n) × (n ≤ high)
+
+module _ (low high : ℕ) where
+  required-range : (t : Bool) (n rest : ℕ) → low ≤ n → n ≤ high → Range low high rest → Range low high (require t n rest)
+  unfolding require
+  required-range true n rest l h r = r
+  required-range false n rest l h r = λ z. (l, h)
+
+  after-range : (n rest : ℕ) → Range low high n → Range low high rest → Range low high (after n rest)
+  unfolding after
+  after-range zero rest q r = r
+  after-range (suc n) rest q r = q
+
+  -- a test whose refusal is the last
+  last-range : (t : Bool) (n : ℕ) → low ≤ n → n ≤ high → Range low high (require t n 0)
+  last-range t n l h = required-range t n 0 l h (λ z. absurd (omega arith))
+
+-- 4 to 6
+header-range : (file : List ℕ) → Range 4 12 (headerRefusal file)
+unfolding headerRefusal
+header-range file =
+    required-range 4 12 _ 4 _ (omega arith) (omega arith)
+    (required-range 4 12 _ 4 _ (omega arith) (omega arith)
+    (required-range 4 12 _ 4 _ (omega arith) (omega arith)
+    (required-range 4 12 _ 5 _ (omega arith) (omega arith)
+    (required-range 4 12 _ 5 _ (omega arith) (omega arith)
+    (required-range 4 12 _ 5 _ (omega arith) (omega arith)
+    (required-range 4 12 _ 5 _ (omega arith) (omega arith)
+    (required-range 4 12 _ 6 _ (omega arith) (omega arith) (last-range 4 12 _ 6 (omega arith) (omega arith)))))))))
+
+-- 7 and 8
+place-range : (host : Bool) (room : ℕ) (file : List ℕ) → Range 4 12 (placeRefusal host room file)
+unfolding placeRefusal
+place-range host room file =
+    after-range 4 12 (headerRefusal file) _ (header-range file)
+    (required-range 4 12 _ 7 _ (omega arith) (omega arith) (last-range 4 12 _ 8 (omega arith) (omega arith)))
+
+-- 9 to 12
+fields-range : (f : DynamicFields) → Range 4 12 (fieldsRefusal f)
+unfolding fieldsRefusal
+fields-range f =
+    required-range 4 12 _ 9 _ (omega arith) (omega arith)
+    (required-range 4 12 _ 10 _ (omega arith) (omega arith)
+    (required-range 4 12 _ 10 _ (omega arith) (omega arith)
+    (required-range 4 12 _ 11 _ (omega arith) (omega arith)
+    (required-range 4 12 _ 11 _ (omega arith) (omega arith) (last-range 4 12 _ 11 (omega arith) (omega arith))))))
+
+read-range : (host : Bool) (image : List ℕ) (segments : List Segment) (d : Dynamic) → Range 4 12 (readRefusal host image segments d)
+unfolding readRefusal
+read-range host image segments Missing = λ z. omega arith
+read-range host image segments (At at) =
+    after-range 4 12 (fieldsRefusal (fieldsOf image at)) _ (fields-range (fieldsOf image at))
+    (required-range 4 12 _ 11 _ (omega arith) (omega arith) (last-range 4 12 _ 12 (omega arith) (omega arith)))
+
+object-range : (host : Bool) (room : ℕ) (file : List ℕ) → Range 4 12 (objectRefusal host room file)
+unfolding objectRefusal
+object-range host room file =
+    after-range 4 12 (placeRefusal host room file) _ (place-range host room file)
+    (read-range host (objectImage host file) (segmentsOf host file) (dynamicOf file))
+
+-- 17
+written-range : (r : Record) (p n : ℕ) → Range 14 18 (writtenRefusal r p n)
+written-range r p n = last-range 14 18 (inWritable (r .segments) p n) 17 (omega arith) (omega arith)
+
+word-range : (r : Record) (w : Word) → Range 14 18 (wordRefusal r w)
+word-range r (place p) = written-range r p 8
+word-range r nowhere = λ z. omega arith
+
+-- 17 and 18
+copy-range : (S : Objs) (k : ℕ) (r : Record) (p size : ℕ) (a : Answer) → Range 14 18 (copyRefusal S k r p size a)
+unfolding copyRefusal
+copy-range S k r p size absent = λ z. absurd (omega arith)
+copy-range S k r p size (answer d s a) = go (eqb (min size (s .size)) 0)
+  where
+    go :
+        (t : Bool)
+        → Range 14 18
+        (pick t 0
+        (require (inWritable (r .segments) p (min size (s .size))) 17 (require (copyOk S k p d s (min size (s .size))) 18 0)))
+    go true = λ z. absurd (omega arith)
+    go false =
+        required-range 14 18 _ 17 _ (omega arith) (omega arith) (last-range 14 18 _ 18 (omega arith) (omega arith))
+
+-- 14 and 15, else what follows
+symbol-range :
+    (image : List ℕ) (r : Record) (i : ℕ) (rest : Symbol → ℕ) → ((y : Symbol) → Range 14 18 (rest y))
+    → Range 14 18 (symbolThen (checkedSymbol image r i) rest)
+unfolding checkedSymbol
+symbol-range image r i rest h =
+    go (indexOk (r .known) i) (symbolOk (isTableOf r) image (r .symbols) (r .strings) i)
+  where
+    go : (s t : Bool) → Range 14 18 (symbolThen (pick s (pick t (Checked (symbolAt image (r .symbols) i)) (Refused 15)) (Refused 14)) rest)
+    go true true = h (symbolAt image (r .symbols) i)
+    go true false = λ z. omega arith
+    go false t = λ z. omega arith
+
+entry-range : (S : Objs) (k : ℕ) (image : List ℕ) (r : Record) (e : Rela) (a : Action) → Range 14 18 (refusalBy S k image r e a)
+unfolding refusalBy
+entry-range S k image r e Ignored = λ z. absurd (omega arith)
+entry-range S k image r e Passed = λ z. absurd (omega arith)
+entry-range S k image r e Irelative = λ z. omega arith
+entry-range S k image r e Relative = written-range r (e .place) 8
+entry-range S k image r e Symbolic =
+    symbol-range image r (e .symbol) (λ y. writtenRefusal r (e .place) 8) (λ y. written-range r (e .place) 8)
+entry-range S k image r e Copy =
+    symbol-range image r (e .symbol) (λ y. copyRefusal S k r (e .place) (y .size) (resolveCopy S (nameOf image r y)))
+    (λ y. copy-range S k r (e .place) (y .size) (resolveCopy S (nameOf image r y)))
+
+-- ---- verdicts: what holds of the number and the object, where there is a refusal
+
+abbrev pub Meets : (ℕ → ℕ → Type 0) → Verdict → Type 0
+Meets P passed = Unit {0}
+Meets P (refused n k) = P n k
+
+module _ (P : ℕ → ℕ → Type 0) where
+  pub first-meets : (v w : Verdict) → Meets P v → Meets P w → Meets P (first v w)
+  first-meets passed w a b = b
+  first-meets (refused n k) w a b = a
+
+  -- the second is looked at where the first passed
+  pub first-then : (v w : Verdict) → Meets P v → (v ≡ passed → Meets P w) → Meets P (first v w)
+  first-then passed w a b = b refl
+  first-then (refused n k) w a b = a
+
+  pub unless-meets : (t : Bool) (n k : ℕ) → (t ≡ false → P n k) → Meets P (unless t n k)
+  unfolding unless
+  unless-meets true n k h = tt
+  unless-meets false n k h = h refl
+
+  -- of numbers in a range
+  verdict-meets : (low high n k : ℕ) → Range low high n → (low ≤ n → n ≤ high → P n k) → Meets P (verdict n k)
+  unfolding verdict
+  verdict-meets low high n k r h = go (eqb n 0) refl
+    where
+      go : (t : Bool) → eqb n 0 ≡ t → Meets P (pick t passed (refused n k))
+      go true e = tt
+      go false e =
+          let ne = eqb-false n 0 e in
+          let z = r (omega arith) in
+          h (z .0) (z .1)
+
+  -- 4 to 12, of the objects from `k` on
+  pub load-meets :
+      (size k off : ℕ) (files : List File) → ((n j : ℕ) → 4 ≤ n → n ≤ 12 → j < k + length files → P n j)
+      → Meets P (loadVerdict size k off files)
+  unfolding loadVerdict
+  load-meets size k off [] h = tt
+  load-meets size k off (f ∷ fs) h =
+      first-meets (verdict (objectRefusal (f .host) (size - off) (f .bytes)) k) _
+      (verdict-meets 4 12 (objectRefusal (f .host) (size - off) (f .bytes)) k (object-range (f .host) (size - off) (f .bytes))
+      (λ l g. h _ k l g (omega arith)))
+      (load-meets size (k + 1) (off + objectSpan (f .host) (f .bytes)) fs (λ n j l g b. h n j l g (omega arith)))
+
+  -- 14 to 18, of object `k`
+  module _ (S : Objs) (k : ℕ) (h : (n : ℕ) → 14 ≤ n → n ≤ 18 → P n k) where
+    words-meets : (r : Record) (ws : List Word) → Meets P (wordsVerdict k r ws)
+    unfolding wordsVerdict
+    words-meets r [] = tt
+    words-meets r (w ∷ ws) =
+        first-meets (verdict (wordRefusal r w) k) _ (verdict-meets 14 18 (wordRefusal r w) k (word-range r w) (h _)) (words-meets r ws)
+
+    entries-meets : (image : List ℕ) (r : Record) (es : List Rela) → Meets P (entriesVerdict S k image r es)
+    unfolding entriesVerdict
+    entries-meets image r [] = tt
+    entries-meets image r (e ∷ es) =
+        first-meets (verdict (entryRefusal S k image r e) k) _
+        (verdict-meets 14 18 (entryRefusal S k image r e) k (entry-range S k image r e (actionOf (e .kind))) (h _)) (entries-meets image r es)
+
+    object-meets : (f : File) → Meets P (objectVerdict S k f)
+    unfolding objectVerdict
+    object-meets f =
+        first-meets (wordsVerdict k (recordOf f) (wordsOf (imageOf f) (recordOf f))) _
+        (words-meets (recordOf f) (wordsOf (imageOf f) (recordOf f)))
+        (entries-meets (imageOf f) (recordOf f) (relasOf (imageOf f) (recordOf f)))
+
+  -- of the objects of an order
+  pub order-meets :
+      (S : Objs) (files : List File) (order : List ℕ) → ((n k : ℕ) → 14 ≤ n → n ≤ 18 → has k order ≡ true → P n k)
+      → Meets P (orderVerdict S files order)
+  unfolding orderVerdict
+  order-meets S files [] h = tt
+  order-meets S files (k ∷ ks) h =
+      first-meets (objectVerdict S k (getD files k noFile)) _
+      (object-meets S k (λ n l g. h n k l g (has-head k ks)) (getD files k noFile))
+      (order-meets S files ks (λ n j l g m. h n j l g (has-cons j k ks m)))
+
+-- ---- 19: an object of the order, or none
+
+pub first-undefined : (S : Objs) (files : List File) (order : List ℕ) → firstUndefined S files order ≢ 0 → has (firstUndefined S files order) order ≡ true
+unfolding firstUndefined
+first-undefined S files [] ne = absurd (ne refl)
+first-undefined S files (k ∷ ks) ne =
+    ⊎-elim
+    (λ (t : hasUndefined S k (getD files k noFile) ≡ true). rw t (has-head k ks))
+    (λ (t : hasUndefined S k (getD files k noFile) ≡ false).
+    rw t (has-cons (firstUndefined S files ks) k ks (first-undefined S files ks (rw t at ne))))
+    (decide (hasUndefined S k (getD files k noFile)))
+
+-- ---- 3: an object with a library before it, or none
+
+no-earlier : (n : List ℕ) (os : List Input) → named n (drop 2 (take 2 os)) ≡ false
+unfolding choice.some
+no-earlier n [] = refl
+no-earlier n (h ∷ []) = refl
+no-earlier n (h ∷ (p ∷ ls)) = refl
+
+twin-from :
+    (os : List Input) (n k : ℕ) → 2 ≤ k → twinFrom os n k ≢ 0 → (3 ≤ twinFrom os n k) × (twinFrom os n k < k + n)
+unfolding twinFrom
+twin-from os zero k l ne = absurd (ne refl)
+twin-from os (suc n) k l ne =
+    ⊎-elim
+    (λ (t : named (getD os k noInput .name) (drop 2 (take k os)) ≡ true). rw t (later t, omega arith))
+    (λ (t : named (getD os k noInput .name) (drop 2 (take k os)) ≡ false).
+    let r = twin-from os n (k + 1) (omega arith) (rw t at ne) in
+    rw t (r .0, omega arith))
+    (decide (named (getD os k noInput .name) (drop 2 (take k os))))
+  where
+    later : named (getD os k noInput .name) (drop 2 (take k os)) ≡ true → 3 ≤ k
+    later t = go (eqb k 2) refl
+      where
+        go : (b : Bool) → eqb k 2 ≡ b → 3 ≤ k
+        go true e = absurd (clash (rw (eqb-true k 2 e) at t) (no-earlier (getD os 2 noInput .name) os))
+        go false e = let ne = eqb-false k 2 e in omega arith
+
+pub twin-later : (os : List Input) → twinOf os ≢ 0 → (3 ≤ twinOf os) × (twinOf os < length os)
+twin-later os ne =
+    let r = twin-from os (length (drop 2 os)) 2 (omega arith) ne in
+    (r .0, omega (arith, length-drop 2 os))

@@ -1,0 +1,287 @@
+-- Demand 1's statements on refusals hold. Assumes nothing.
+use mathlib.Core.Path.{_≡_, refl, ap, _∙_}
+use mathlib.Core.Bool.{true, false, true≢false}
+use mathlib.Core.Logic.{_⊎_, inl, inr, _≢_}
+use mathlib.Core.List.{List, _++_}
+use Prim.Native.Nat.{ℕ, _+_, _-_, _≤_, _<_}
+use native.Mathlib.Omega.{arith}
+use borrow.Author.Tests.{ne-eqb, eqb-false, leb-true}
+use lib.Dec.{eqb, leb, ltb}
+use lib.ListN.{length, replicate, length-append, length-replicate}
+use Rattle.words.proofs.Slices.{length-tab}
+use Rattle.model.specs.Order.{has}
+use Rattle.model.specs.Objects.{Objs}
+use Rattle.model.specs.Scope.{resolve}
+use Rattle.model.specs.Symbols as symbols
+use Rattle.model.specs.Symbols.{absent, answer}
+use Rattle.model.proofs.OrderLaws.{clash}
+use Rattle.sheet.specs.Sheet.{Input, sheetOk, setOf, arenaOk, twinOf}
+use Rattle.binder.specs.declared.Policy.{Policy}
+use Rattle.binder.specs.declared.Policy.the-variants.{Strict, Lenient}
+use Rattle.binder.specs.declared.Answer as answers
+use Rattle.binder.specs.declared.Answer.{Answer}
+use Rattle.binder.specs.declared.Reply as replies
+use Rattle.binder.specs.declared.Reply.{Reply}
+use Rattle.binder.specs.Instance.{File}
+use Rattle.binder.specs.Verdict.{Verdict, passed, refused, first, orderVerdict}
+use Rattle.binder.specs.Report.{orderWords, firstUndefined}
+use Rattle.binder.specs.Bind.{
+  filesOf,
+  namesOf,
+  unless,
+  prepareVerdict,
+  allows,
+  relocateVerdict,
+  outcome,
+  outcomeOf,
+  bindIn,
+  bindOf,
+  replied,
+  replyOf,
+  repliedOf,
+  queryOf,
+}
+use Rattle.binder.proofs.OutcomeLaws.{first-passed, unless-passed, objectsIn, orderIn}
+use Rattle.binder.proofs.PrepareLaws.{files-length}
+use Rattle.demands.specs.Refusals.{withoutObject, ObjectOf, BindNumber, BindRefusals, QueryNumber, QueryRefusals, Answered, Lengths}
+use Rattle.demands.proofs.PassedSet.{prepared, counts, order-objects}
+use Rattle.demands.proofs.RefusalNumbers.{
+  Meets,
+  first-meets,
+  first-then,
+  unless-meets,
+  load-meets,
+  order-meets,
+  first-undefined,
+  twin-later,
+}
+
+-- ---- a refusal's number and its object
+
+-- of a set of `count` objects, whose refusals have numbers that satisfy N
+abbrev Right : (ℕ → Type 0) → ℕ → ℕ → ℕ → Type 0
+Right N count n k = N n × ObjectOf count n k
+
+-- a refusal without an object
+without : (count n : ℕ) → has n withoutObject ≡ true → n ≢ 3 → (14 ≤ n → n ≤ 19 → ⊥) → ObjectOf count n 0
+without count n e three entry =
+    record {
+      zero = λ _. refl;
+      object = λ f. absurd (clash e f);
+      later = λ z. absurd (three z);
+      entry = λ l h. absurd (entry l h);
+    }
+
+not-without : (n : ℕ) → n ≢ 1 → n ≢ 2 → n ≢ 13 → n ≢ 20 → has n withoutObject ≡ false
+not-without n a b c d = rw (ne-eqb n 1 a, ne-eqb n 2 b, ne-eqb n 13 c, ne-eqb n 20 d)
+
+-- a refusal of object `k`
+of-object :
+    (count n k : ℕ) → n ≢ 1 → n ≢ 2 → n ≢ 13 → n ≢ 20 → k < count → (n ≡ 3 → 3 ≤ k) → (14 ≤ n → n ≤ 19 → 1 ≤ k) → ObjectOf count n k
+of-object count n k a b c d small later entry =
+    record {
+      zero = λ e. absurd (clash e (not-without n a b c d));
+      object = λ _. omega arith;
+      later = λ e. omega (arith, later e);
+      entry = λ l h. omega (arith, entry l h);
+    }
+
+module _ (sheet bytes : List ℕ) (size address : ℕ) where
+  abbrev os : List Input
+  os = setOf sheet bytes
+
+  -- 1 to 12
+  prepare-right :
+      (N : ℕ → Type 0) → ((n : ℕ) → 1 ≤ n → n ≤ 12 → N n) → Meets (Right N (length os)) (prepareVerdict sheet bytes size address)
+  unfolding prepareVerdict
+  prepare-right N ok =
+      first-meets (Right N (length os)) (unless (sheetOk sheet (length bytes)) 1 0) _
+      (unless-meets (Right N (length os)) (sheetOk sheet (length bytes)) 1 0
+      (λ _. (ok 1 (omega arith) (omega arith), without (length os) 1 refl (λ e. omega arith) (λ l h. omega arith))))
+      (first-meets (Right N (length os)) (unless (arenaOk size address) 2 0) _
+      (unless-meets (Right N (length os)) (arenaOk size address) 2 0
+      (λ _. (ok 2 (omega arith) (omega arith), without (length os) 2 refl (λ e. omega arith) (λ l h. omega arith))))
+      (first-meets (Right N (length os)) (unless (eqb (twinOf os) 0) 3 (twinOf os)) _
+      (unless-meets (Right N (length os)) (eqb (twinOf os) 0) 3 (twinOf os)
+      (λ e.
+      let t = twin-later os (eqb-false (twinOf os) 0 e) in (
+        ok 3 (omega arith) (omega arith),
+        of-object (length os) 3 (twinOf os) (λ e. omega arith) (λ e. omega arith) (λ e. omega arith) (λ e. omega arith) (t .1) (λ _. t .0)
+            (λ l h. absurd (omega arith)),
+      )))
+      (load-meets (Right N (length os)) size 0 0 (filesOf os)
+      (λ n j l h b. (
+        ok n (omega arith) (omega arith),
+        of-object (length os) n j (λ e. omega arith) (λ e. omega arith) (λ e. omega arith) (λ e. omega arith)
+            (omega (arith, files-length os)) (λ e. absurd (omega arith)) (λ g i. absurd (omega arith)),
+      )))))
+
+  -- 14 to 20
+  relocate-right :
+      (N : ℕ → Type 0) → ((n : ℕ) → 14 ≤ n → n ≤ 20 → N n) → sheetOk sheet (length bytes) ≡ true → (policy : Policy) (words : ℕ)
+      → Meets (Right N (length os)) (relocateVerdict (objectsIn address os) (filesOf os) (orderIn os) policy words)
+  unfolding relocateVerdict
+  relocate-right N ok good policy words =
+      first-meets (Right N (length os)) (orderVerdict (objectsIn address os) (filesOf os) (orderIn os)) _
+      (order-meets (Right N (length os)) (objectsIn address os) (filesOf os) (orderIn os)
+      (λ n k l h m.
+      let b : (1 ≤ k) × (k < length (namesOf os) + 2) = order-objects (filesOf os) (namesOf os) k m in
+      (ok n (omega arith) (omega arith), entry-of n k l (omega arith) (b .0) (b .1))))
+      (first-meets (Right N (length os)) (unless (allows policy u) 19 u) _
+      (unless-meets (Right N (length os)) (allows policy u) 19 u
+      (λ e.
+      let m = first-undefined (objectsIn address os) (filesOf os) (orderIn os) (undefined policy e) in
+      let b : (1 ≤ u) × (u < length (namesOf os) + 2) = order-objects (filesOf os) (namesOf os) u m in
+      (ok 19 (omega arith) (omega arith), entry-of 19 u (omega arith) (omega arith) (b .0) (b .1))))
+      (unless-meets (Right N (length os)) (leb (length (orderWords (objectsIn address os) (filesOf os) (orderIn os))) words) 20 0
+      (λ _. (ok 20 (omega arith) (omega arith), without (length os) 20 refl (λ e. omega arith) (λ l h. omega arith)))))
+    where
+      u : ℕ
+      u = firstUndefined (objectsIn address os) (filesOf os) (orderIn os)
+
+      entry-of : (n k : ℕ) → 14 ≤ n → n ≤ 19 → 1 ≤ k → k < length (namesOf os) + 2 → ObjectOf (length os) n k
+      entry-of n k l h pos small =
+          of-object (length os) n k (λ e. omega arith) (λ e. omega arith) (λ e. omega arith) (λ e. omega arith)
+          (omega (arith, counts sheet bytes good)) (λ e. absurd (omega arith)) (λ g i. pos)
+
+      undefined : (policy : Policy) → allows policy u ≡ false → u ≢ 0
+      undefined Strict e = eqb-false u 0 e
+      undefined Lenient e = absurd (true≢false e)
+
+  bind-right :
+      (policy : Policy) (words : ℕ)
+      → Meets (Right BindNumber (length os))
+      (first (prepareVerdict sheet bytes size address) (relocateVerdict (objectsIn address os) (filesOf os) (orderIn os) policy words))
+  bind-right policy words =
+      first-then (Right BindNumber (length os)) (prepareVerdict sheet bytes size address) _
+      (prepare-right BindNumber (λ n l h. omega arith))
+      (λ v. relocate-right BindNumber (λ n l h. omega arith) (prepared sheet bytes size address v .sheet-ok) policy words)
+
+  query-right :
+      (requester : ℕ)
+      → Meets (Right QueryNumber (length os))
+      (first (prepareVerdict sheet bytes size address) (unless (ltb requester (length os)) 13 0))
+  query-right requester =
+      first-then (Right QueryNumber (length os)) (prepareVerdict sheet bytes size address) _
+      (prepare-right QueryNumber (λ n l h. omega arith))
+      (λ v. unless-meets (Right QueryNumber (length os)) (ltb requester (length os)) 13 0
+      (λ _. (omega arith, without (length os) 13 refl (λ e. omega arith) (λ l h. omega arith))))
+
+-- ---- what is left
+
+refused-outcome :
+    (P : ℕ → ℕ → Type 0) (size words : ℕ) (v : Verdict) (a r : List ℕ) (n k : ℕ) (arena report : List ℕ) → Meets P v
+    → outcomeOf size words v a r ≡ outcome (answers.the-variants.Refused n k) arena report
+    → P n k × (arena ≡ replicate size 0) × (report ≡ replicate words 0)
+unfolding outcomeOf
+refused-outcome P size words passed a r n k arena report m e = let z : _≡_ {A = ℕ} 0 1 = cc in absurd (omega arith)
+refused-outcome P size words (refused i j) a r n k arena report m e =
+    let number : i ≡ n = cc in
+    let object : j ≡ k = cc in
+    (rw (number, object) at m, cc, cc)
+
+pub bind-refusals : BindRefusals
+unfolding bindOf bindIn
+bind-refusals sheet bytes size address policy words n k arena report e =
+    let o = refused-outcome (Right BindNumber (length (setOf sheet bytes))) size words _ _ _ n k arena report
+    (bind-right sheet bytes size address policy words) e in
+    record { number = o .0 .0; object = o .0 .1; arena-zeros = o .1; report-zeros = o .2 }
+
+refused-reply :
+    (P : ℕ → ℕ → Type 0) (size : ℕ) (v : Verdict) (r : Reply) (l : List ℕ) (n k : ℕ) (arena : List ℕ) → Meets P v
+    → ((i j : ℕ) → r ≢ replies.the-variants.Refused i j)
+    → repliedOf size v r l ≡ replied (replies.the-variants.Refused n k) arena
+    → P n k × (arena ≡ replicate size 0)
+unfolding repliedOf
+refused-reply P size passed r l n k arena m ne e = absurd (ne n k cc)
+refused-reply P size (refused i j) r l n k arena m ne e =
+    let number : i ≡ n = cc in
+    let object : j ≡ k = cc in
+    (rw (number, object) at m, cc)
+
+-- a lookup is no refusal
+no-refusal : (x : symbols.Answer) (n k : ℕ) → replyOf x ≢ replies.the-variants.Refused n k
+no-refusal absent n k e = let z : _≡_ {A = ℕ} 0 1 = cc in absurd (omega arith)
+no-refusal (answer j s a) n k e = let z : _≡_ {A = ℕ} 0 1 = cc in absurd (omega arith)
+
+pub query-refusals : QueryRefusals
+unfolding queryOf
+query-refusals sheet bytes size address requester name n k arena e =
+    let o = refused-reply (Right QueryNumber (length (setOf sheet bytes))) size _ _ _ n k arena
+    (query-right sheet bytes size address requester)
+    (no-refusal (resolve (objectsIn address (setOf sheet bytes)) requester name)) e in
+    record { number = o .0 .0; object = o .0 .1; arena-zeros = o .1 }
+
+-- ---- every call
+
+bind-answered :
+    (size words : ℕ) (v : Verdict) (a r : List ℕ)
+    → ((arena report : List ℕ) × (outcomeOf size words v a r ≡ outcome answers.the-variants.Bound arena report))
+    ⊎ ((n k : ℕ) × (outcomeOf size words v a r ≡ outcome (answers.the-variants.Refused n k) (replicate size 0) (replicate words 0)))
+unfolding outcomeOf
+bind-answered size words passed a r = inl (a, r ++ replicate (words - length r) 0, refl)
+bind-answered size words (refused n k) a r = inr (n, k, refl)
+
+query-answered :
+    (size : ℕ) (v : Verdict) (x : Reply) (l : List ℕ)
+    → ((arena : List ℕ) × (repliedOf size v x l ≡ replied x arena))
+    ⊎ ((n k : ℕ) × (repliedOf size v x l ≡ replied (replies.the-variants.Refused n k) (replicate size 0)))
+unfolding repliedOf
+query-answered size passed x l = inl (l, refl)
+query-answered size (refused n k) x l = inr (n, k, refl)
+
+pub answered : Answered
+unfolding bindOf bindIn queryOf
+answered =
+    record {
+      bind = λ sheet bytes size address policy words. bind-answered size words _ _ _;
+      query = λ sheet bytes size address requester name. query-answered size _ _ _;
+    }
+
+-- ---- lengths
+
+words-fit : (words : ℕ) (ws : List ℕ) → length ws ≤ words → length (ws ++ replicate (words - length ws) 0) ≡ words
+words-fit words ws l = simp (length-append, length-replicate) (omega arith)
+
+bind-lengths :
+    (size words : ℕ) (v : Verdict) (a r : List ℕ) (x : Answer) (arena report : List ℕ) → length a ≡ size → (v ≡ passed → length r ≤ words)
+    → outcomeOf size words v a r ≡ outcome x arena report
+    → (length arena ≡ size) × (length report ≡ words)
+unfolding outcomeOf
+bind-lengths size words passed a r x arena report la lr e =
+    let arena-is : arena ≡ a = cc in
+    let report-is : report ≡ r ++ replicate (words - length r) 0 = cc in
+    (ap length arena-is ∙ la, ap length report-is ∙ words-fit words r (lr refl))
+bind-lengths size words (refused n k) a r x arena report la lr e =
+    let arena-is : arena ≡ replicate size 0 = cc in
+    let report-is : report ≡ replicate words 0 = cc in
+    (ap length arena-is ∙ length-replicate size 0, ap length report-is ∙ length-replicate words 0)
+
+query-length :
+    (size : ℕ) (v : Verdict) (x : Reply) (l : List ℕ) (r : Reply) (arena : List ℕ) → length l ≡ size → repliedOf size v x l ≡ replied r arena
+    → length arena ≡ size
+unfolding repliedOf
+query-length size passed x l r arena n e = let is : arena ≡ l = cc in ap length is ∙ n
+query-length size (refused i j) x l r arena n e = let is : arena ≡ replicate size 0 = cc in ap length is ∙ length-replicate size 0
+
+-- 20 was passed
+room :
+    (S : Objs) (files : List File) (order : List ℕ) (policy : Policy) (words : ℕ) (v : Verdict)
+    → first v (relocateVerdict S files order policy words) ≡ passed → length (orderWords S files order) ≤ words
+unfolding relocateVerdict
+room S files order policy words v e =
+    let a = first-passed v _ e in
+    let b = first-passed (orderVerdict S files order) _ (a .1) in
+    let c = first-passed (unless (allows policy (firstUndefined S files order)) 19 (firstUndefined S files order)) _ (b .1) in
+    leb-true _ _ (unless-passed (leb (length (orderWords S files order)) words) 20 0 (c .1))
+
+pub lengths : Lengths
+unfolding bindOf bindIn queryOf
+lengths =
+    record {
+      bind = λ sheet bytes size address policy words x arena report e.
+          bind-lengths size words _ _ _ x arena report (length-tab size _)
+          (room (objectsIn address (setOf sheet bytes)) (filesOf (setOf sheet bytes)) (orderIn (setOf sheet bytes)) policy words
+          (prepareVerdict sheet bytes size address)) e;
+      query = λ sheet bytes size address requester name r arena e. query-length size _ _ _ r arena (length-tab size _) e;
+    }
