@@ -1,0 +1,65 @@
+-- Texts that are printed one after the other. Assumes nothing.
+use mathlib.Core.Path.{_≡_, refl, sym, ap, _∙_}
+use mathlib.Core.List.{List, [], _∷_, _++_}
+use Prim.Native.Nat.{ℕ, zero, suc, _+_, _≤_, _<_, min}
+use native.Mathlib.Omega.{arith}
+use native.Mathlib.Decide.{decLt}
+use lib.ListN.{length, drop, length-append, List·getD-append}
+use lib.Seq.{getD-append-add}
+use Rattle.words.specs.Memory.{mem, patch}
+use Rattle.words.specs.Memory as memory
+use Rattle.words.proofs.Slices.{length-patch, patch-none, patch-same, patch-cut, patch-past, patch-join}
+use Rattle.program.specs.Program.{digits, Written, written, print}
+
+mem-left : (a b : List ℕ) (k : ℕ) → k < length a → mem a k ≡ mem (a ++ b) k
+unfolding memory.mem
+mem-left a b k h = sym (List·getD-append a b 0 k h)
+
+mem-right : (a b : List ℕ) (k : ℕ) → mem b k ≡ mem (a ++ b) (length a + k)
+unfolding memory.mem
+mem-right a b k = sym (getD-append-add a b k 0)
+
+both-texts :
+    (out : List ℕ) (at : ℕ) (a b : List ℕ) (p : ℕ) → p ≡ min (at + length a) (length out)
+    → patch (patch out at (length a) (mem a)) p (length b) (mem b) ≡ patch out at (length a + length b) (mem (a ++ b))
+both-texts out at a b p e = go (decLt (length out) (at + length a))
+  where
+    go :
+        Dec (length out < at + length a)
+        → patch (patch out at (length a) (mem a)) p (length b) (mem b) ≡ patch out at (length a + length b) (mem (a ++ b))
+    go (yes h) =
+        patch-past (patch out at (length a) (mem a)) p (length b) (mem b) (omega (arith, length-patch out at (length a) (mem a)))
+        ∙ patch-same out at (length a) (mem a) (mem (a ++ b)) (mem-left a b)
+        ∙ patch-cut out at (length a + length b) (length a) (mem (a ++ b)) (omega arith) (omega arith)
+    go (no h) =
+        let q : p ≡ at + length a = omega arith in
+        rw q (patch-join out at (length a) (length b) (mem a) (mem b) (mem (a ++ b)) (mem-left a b) (λ k _. mem-right a b k))
+
+pub print-join : (s : Written) (a b : List ℕ) → print (print s a) b ≡ print s (a ++ b)
+unfolding print
+print-join (written out at) a b =
+    let n : length (patch out at (length a) (mem a)) ≡ length out = length-patch out at (length a) (mem a) in
+    let l : length (a ++ b) ≡ length a + length b = length-append a b in
+    let next : min (min (at + length a) (length out) + length b) (length out) ≡ min (at + (length a + length b)) (length out) = omega arith in
+    rw (n, l, next, both-texts out at a b (min (at + length a) (length out)) refl)
+
+-- no text
+pub print-none : (out : List ℕ) (at : ℕ) → at ≤ length out → print (written out at) [] ≡ written out at
+unfolding print
+print-none out at h =
+    let e : min (at + 0) (length out) ≡ at = omega arith in
+    rw (e, patch-none out at (mem []))
+
+-- the next place
+pub place : Written → ℕ
+place (written out at) = at
+
+pub next-place : (out : List ℕ) (at : ℕ) (text : List ℕ) → place (print (written out at) text) ≡ min (at + length text) (length out)
+unfolding print place
+next-place out at text = refl
+
+-- the low digits of a number are the last of more of them
+pub digits-drop : (k n base v : ℕ) → drop k (digits base (k + n) v) ≡ digits base n v
+unfolding digits
+digits-drop zero n base v = let e : 0 + n ≡ n = omega arith in rw e
+digits-drop (suc k) n base v = let e : suc k + n ≡ suc (k + n) = omega arith in rw e (digits-drop k n base v)
