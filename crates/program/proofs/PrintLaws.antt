@@ -6,7 +6,7 @@ use native.Mathlib.Omega.{arith}
 use native.Mathlib.Decide.{decLt}
 use lib.ListN.{length, drop, length-append, List·getD-append}
 use lib.Seq.{getD-append-add}
-use Rattle.words.specs.Memory.{mem, patch}
+use Rattle.words.specs.Memory.{mem, from, patch}
 use Rattle.words.specs.Memory as memory
 use Rattle.words.proofs.Slices.{length-patch, patch-none, patch-same, patch-cut, patch-past, patch-join}
 use Rattle.program.specs.Program.{digits, Written, written, print}
@@ -51,15 +51,27 @@ print-none out at h =
     rw (e, patch-none out at (mem []))
 
 -- the next place
-pub place : Written → ℕ
+place : Written → ℕ
 place (written out at) = at
 
-pub next-place : (out : List ℕ) (at : ℕ) (text : List ℕ) → place (print (written out at) text) ≡ min (at + length text) (length out)
+pub next-place :
+    (out : List ℕ) (at : ℕ) (text : List ℕ) {exit : List ℕ} {r : ℕ} → written exit r ≡ print (written out at) text → r ≡ min (at + length text) (length out)
 unfolding print place
-next-place out at text = refl
+next-place out at text e = ap place e
 
 -- the low digits of a number are the last of more of them
 pub digits-drop : (k n base v : ℕ) → drop k (digits base (k + n) v) ≡ digits base n v
 unfolding digits
 digits-drop zero n base v = let e : 0 + n ≡ n = omega arith in rw e
 digits-drop (suc k) n base v = let e : suc k + n ≡ suc (k + n) = omega arith in rw e (digits-drop k n base v)
+
+-- a copy of the whole text prints it
+pub copy-prints :
+    (out : List ℕ) (at : ℕ) (text exit : List ℕ) (r : ℕ) → exit ≡ patch out at (length text) (from 0 (mem text)) → r ≡ min (at + length text) (length exit)
+    → written exit r ≡ print (written out at) text
+unfolding print
+copy-prints out at text exit r e p =
+    let same : exit ≡ patch out at (length text) (mem text) =
+        e ∙ patch-same out at (length text) (from 0 (mem text)) (mem text) (λ k _. let z : 0 + k ≡ k = omega arith in ap (mem text) z) in
+    let n : length exit ≡ length out = ap length same ∙ length-patch out at (length text) (mem text) in
+    rw (p, n, same)

@@ -1,3 +1,5 @@
+use Rattle.program.proofs.PrintLaws.{copy-prints}
+use denote.Ref.{now}
 use borrow.Author.Needs.{needs}
 use Rattle.program.proofs.put.Statement.{statement}
 use Rattle.program.proofs.put.Tie as tie
@@ -16,7 +18,8 @@ same-length : tie.Need-same-length
 same-length c = search needs
 
 returns : tie.Need-returns
-returns c = ?
+returns c =
+    copy-prints (now (c .before .before .before .before .before .before .before .args .out)) (c .before .before .before .before .before .before .before .args .at) (now (c .before .before .before .before .before .before .before .args .text)) (c .before .before .before .copy .last .0) (c .place .result) (c .before .before .before .copy .ensures) (c .place .ensures)
 
 pub put-spec : {M : Type 1} → statement M
 put-spec = tie.close (tie.spec copy-requires place-requires same-length returns)

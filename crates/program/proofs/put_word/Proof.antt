@@ -1,3 +1,4 @@
+use Rattle.program.specs.Program.{digits, hexLine}
 use borrow.Author.Needs.{needs}
 use Rattle.program.proofs.put_word.Statement.{statement}
 use Rattle.program.proofs.put_word.Tie as tie
@@ -40,7 +41,9 @@ same-length : tie.Need-same-length
 same-length c = search needs
 
 returns : tie.Need-returns
-returns c = ?
+unfolding hexLine digits
+returns c =
+    rw (c .before .before .before .before .before .before .before .before .before .before .before .before .digit-of .ensures, c .before .before .before .before .before .before .before .before .before .before .before .digit-of2 .ensures, c .before .before .before .before .before .before .before .before .before .before .digit-of3 .ensures, c .before .before .before .before .before .before .before .before .before .digit-of4 .ensures, c .before .before .before .before .before .before .before .before .digit-of5 .ensures, c .before .before .before .before .before .before .before .digit-of6 .ensures, c .before .before .before .before .before .before .digit-of7 .ensures, c .before .before .before .before .before .digit-of8 .ensures) at (c .before .before .put .ensures)
 
 pub put-word-spec : {M : Type 1} → statement M
 put-word-spec =

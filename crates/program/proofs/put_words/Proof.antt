@@ -1,6 +1,7 @@
+use mathlib.Core.List.{List, []}
 use borrow.Author.Needs.{needs}
-use Rattle.program.proofs.PrintLaws.{print-join, print-none, place, next-place}
-use Rattle.program.specs.Program.{hexLine, hexLines, written, print}
+use Rattle.program.proofs.PrintLaws.{print-join, print-none, next-place}
+use Rattle.program.specs.Program.{hexLine, hexLines, Written, written, print}
 use Rattle.words.proofs.NameLaws.{name-more, name-stop, name-none}
 use Rattle.words.specs.Names.{nameAt}
 use denote.Ref.{now}
@@ -36,7 +37,10 @@ same-length : tie.Need-same-length Inv-loop μ-loop
 same-length c = search needs
 
 returns : tie.Need-returns Inv-loop μ-loop
-returns c = search needs
+unfolding hexLines
+returns c =
+    let l = c .before .before .before .loop in
+    sym (print-none (l .out) (l .at) (l .inv .1)) ∙ rw (name-stop (now (c .before .before .before .before .before .before .args .report)) (l .i) (omega arith) (c .if1 .taken)) at (l .inv .3)
 
 put-word-requires : tie.Need-put-word-requires Inv-loop μ-loop
 put-word-requires c κs = search needs
@@ -48,13 +52,26 @@ loop-less : tie.Need-loop-less Inv-loop μ-loop
 loop-less c = search needs
 
 loop-again : tie.Need-loop-again Inv-loop μ-loop
-loop-again c = search needs
+unfolding hexLines
+loop-again c =
+    let l = c .before .before .before .before .before .before .before .loop in
+    let p = c .before .before .put-word in
+    let rest = hexLines (nameAt (now (c .before .before .before .before .before .before .before .before .before .before .args .report)) (l .i + 1)) in (
+      p .kept .0 ∙ l .inv .0,
+      omega (arith, p .kept .0, next-place (l .out) (l .at) (hexLine (getD (now (c .before .before .before .before .before .before .before .before .before .before .args .report)) (l .i) 0)) (p .ensures)),
+      omega arith,
+      ap (λ (s : Written). print s rest) (p .ensures) ∙ print-join (written (l .out) (l .at)) (hexLine (getD (now (c .before .before .before .before .before .before .before .before .before .before .args .report)) (l .i) 0)) rest
+      ∙ rw (name-more (now (c .before .before .before .before .before .before .before .before .before .before .args .report)) (l .i) (omega arith) (c .before .before .before .before .if1 .left)) at (l .inv .3),
+    )
 
 same-length-2 : tie.Need-same-length-2 Inv-loop μ-loop
 same-length-2 c = search needs
 
 returns-2 : tie.Need-returns-2 Inv-loop μ-loop
-returns-2 c = search needs
+unfolding hexLines
+returns-2 c =
+    let l = c .before .loop in
+    sym (print-none (l .out) (l .at) (l .inv .1)) ∙ rw (name-none (now (c .before .before .before .before .args .report)) (l .i) (omega arith)) at (l .inv .3)
 
 pub put-words-spec : {M : Type 1} → statement M
 put-words-spec =
