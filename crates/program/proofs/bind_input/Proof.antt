@@ -1,3 +1,8 @@
+use Rattle.program.proofs.AnswerLaws.{short-refused, long-refused, whole-bound}
+use lib.ListN.{length}
+use native.Mathlib.Omega.{arith}
+use mathlib.Core.Path.{_≡_, sym, _∙_}
+use denote.Ref.{now}
 use borrow.Author.Needs.{needs}
 use Rattle.program.proofs.bind_input.Statement.{statement}
 use Rattle.program.proofs.bind_input.Tie as tie
@@ -29,7 +34,9 @@ same-length-2 : tie.Need-same-length-2
 same-length-2 c = search needs
 
 returns : tie.Need-returns
-returns c = ?
+returns c =
+    let a = c .before .before .before .before .before .before .before .before .before .before .before .before .args in
+    c .before .before .before .before .refuse .ensures ∙ sym (short-refused (now (a .input)) (length (now (a .arena))) (length (now (a .report))) (omega (arith, c .before .before .before .before .before .before .before .before .u32-at .ensures)))
 
 refuse-requires-2 : tie.Need-refuse-requires-2
 refuse-requires-2 c κs = search needs
@@ -41,7 +48,9 @@ same-length-4 : tie.Need-same-length-4
 same-length-4 c = search needs
 
 returns-2 : tie.Need-returns-2
-returns-2 c = ?
+returns-2 c =
+    let a = c .before .before .before .before .before .before .before .before .before .before .before .before .before .args in
+    c .before .before .before .before .refuse2 .ensures ∙ sym (long-refused (now (a .input)) (length (now (a .arena))) (length (now (a .report))) (omega arith))
 
 bind-sheet-requires : tie.Need-bind-sheet-requires
 bind-sheet-requires c κs = search needs
@@ -53,7 +62,10 @@ same-length-6 : tie.Need-same-length-6
 same-length-6 c = search needs
 
 returns-3 : tie.Need-returns-3
-returns-3 c = ?
+returns-3 c =
+    let a = c .before .before .before .before .before .before .before .before .before .before .before .before .before .args in
+    rw (c .before .before .before .before .before .before .before .before .before .u32-at .ensures) at (c .before .before .before .before .bind-sheet .ensures)
+    ∙ sym (whole-bound (now (a .input)) (length (now (a .arena))) (length (now (a .report))) (omega (arith, c .before .before .before .before .before .before .before .before .before .u32-at .ensures)) (omega arith))
 
 pub bind-input-spec : {M : Type 1} → statement M
 bind-input-spec =

@@ -1,3 +1,13 @@
+use Rattle.program.proofs.AnswerLaws.{written-part}
+use Rattle.program.specs.Program.{wordIn}
+use Rattle.words.specs.Memory.{tab}
+use lib.Seq.{length-take-le, take-all}
+use lib.ListN.{length, take, drop, replicate, length-drop}
+use native.Mathlib.Omega.{arith}
+use mathlib.Core.List.{List}
+use mathlib.Core.Path.{_≡_, sym, ap, _∙_}
+use Prim.Native.Nat.{ℕ, _+_, _*_, _-_, _≤_}
+use denote.Ref.{now}
 use borrow.Author.Needs.{needs}
 use Rattle.program.proofs.bind_sheet.Statement.{statement}
 use Rattle.program.proofs.bind_sheet.Tie as tie
@@ -22,7 +32,8 @@ array-share-prefix-sheet : tie.Need-array-share-prefix-sheet
 array-share-prefix-sheet c = search needs
 
 slice-aggregate-bind : tie.Need-slice-aggregate-bind
-slice-aggregate-bind c = ?
+slice-aggregate-bind c =
+    sym (length-take-le (c .before .before .before .before .before .before .before .args .count) (c .before .before .read-words .last .1 .0) (omega arith))
 
 sub-bind : tie.Need-sub-bind
 sub-bind c = search needs
@@ -43,7 +54,14 @@ same-length-2 : tie.Need-same-length-2
 same-length-2 c = search needs
 
 returns : tie.Need-returns
-returns c = ?
+returns c =
+    let a = c .before .before .before .before .before .before .before .before .before .before .before .before .before .before .before .args in
+    let n = now (a .input) in
+    let start = 4 + 4 * a .count in
+    let sheet : take (a .count) (c .before .before .before .before .before .before .before .before .before .before .read-words .last .1 .0) ≡ tab (a .count) (wordIn n) =
+        written-part (replicate 16383 0) (a .count) (wordIn n) (c .before .before .before .before .before .before .before .before .before .before .read-words .ensures) (omega arith) in
+    let rest : take (length n - start) (drop start n) ≡ drop start n = take-all (length n - start) (drop start n) (omega (arith, length-drop start n)) in
+    rw (sheet, rest) at (c .before .before .before .before .bind .ensures)
 
 pub bind-sheet-spec : {M : Type 1} → statement M
 bind-sheet-spec =

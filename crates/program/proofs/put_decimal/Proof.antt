@@ -1,3 +1,10 @@
+use Rattle.program.specs.Program.{digits, decimalOf, written, print}
+use mathlib.Core.List.{List}
+use mathlib.Core.Path.{_≡_, ap, _∙_}
+use denote.Ref.{now}
+use Rattle.program.proofs.PrintLaws.{width-most, decimal-part}
+use native.Mathlib.Omega.{arith}
+use Prim.Native.Nat.{ℕ, _≤_}
 use borrow.Author.Needs.{needs}
 use Rattle.program.proofs.put_decimal.Statement.{statement}
 use Rattle.program.proofs.put_decimal.Tie as tie
@@ -41,7 +48,8 @@ width-requires : tie.Need-width-requires
 width-requires c κs = search needs
 
 sub-start : tie.Need-sub-start
-sub-start c = ?
+sub-start c =
+    omega (arith, c .width .ensures, width-most 9 1 (c .before .before .before .before .before .before .before .before .before .before .before .before .args .v))
 
 sub-put : tie.Need-sub-put
 sub-put c = search needs
@@ -59,7 +67,11 @@ same-length : tie.Need-same-length
 same-length c = search needs
 
 returns : tie.Need-returns
-returns c = ?
+unfolding digits
+returns c =
+    let a = c .before .before .before .before .before .before .before .before .before .before .before .before .before .before .before .before .before .before .args in
+    rw (c .before .before .before .before .before .before .before .before .before .before .before .before .before .before .before .before .digit-of .ensures, c .before .before .before .before .before .before .before .before .before .before .before .before .before .before .before .digit-of2 .ensures, c .before .before .before .before .before .before .before .before .before .before .before .before .before .before .digit-of3 .ensures, c .before .before .before .before .before .before .before .before .before .before .before .before .before .digit-of4 .ensures, c .before .before .before .before .before .before .before .before .before .before .before .before .digit-of5 .ensures, c .before .before .before .before .before .before .before .before .before .before .before .digit-of6 .ensures, c .before .before .before .before .before .before .before .before .before .before .digit-of7 .ensures, c .before .before .before .before .before .before .before .before .before .digit-of8 .ensures, c .before .before .before .before .before .before .before .before .digit-of9 .ensures, c .before .before .before .before .before .before .before .digit-of10 .ensures) at (c .before .before .put .ensures)
+    ∙ ap (λ (l : List ℕ). print (written (now (a .out)) (a .at)) l) (decimal-part (a .v) (c .before .before .before .before .before .before .width .result) (c .before .before .before .before .before .before .width .ensures))
 
 pub put-decimal-spec : {M : Type 1} → statement M
 put-decimal-spec =
