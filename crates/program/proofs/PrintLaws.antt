@@ -84,7 +84,7 @@ pub copy-prints :
 unfolding print
 copy-prints out at text exit r e p =
     let same : exit ≡ patch out at (length text) (mem text) =
-        e ∙ patch-same out at (length text) (from 0 (mem text)) (mem text) (λ k _. let z : 0 + k ≡ k = omega arith in ap (mem text) z) in
+    e ∙ patch-same out at (length text) (from 0 (mem text)) (mem text) (λ k _. let z : 0 + k ≡ k = omega arith in ap (mem text) z) in
     let n : length exit ≡ length out = ap length same ∙ length-patch out at (length text) (mem text) in
     rw (p, n, same)
 

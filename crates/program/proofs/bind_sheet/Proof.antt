@@ -59,7 +59,7 @@ returns c =
     let n = now (a .input) in
     let start = 4 + 4 * a .count in
     let sheet : take (a .count) (c .before .before .before .before .before .before .before .before .before .before .read-words .last .1 .0) ≡ tab (a .count) (wordIn n) =
-        written-part (replicate 16383 0) (a .count) (wordIn n) (c .before .before .before .before .before .before .before .before .before .before .read-words .ensures) (omega arith) in
+    written-part (replicate 16383 0) (a .count) (wordIn n) (c .before .before .before .before .before .before .before .before .before .before .read-words .ensures) (omega arith) in
     let rest : take (length n - start) (drop start n) ≡ drop start n = take-all (length n - start) (drop start n) (omega (arith, length-drop start n)) in
     rw (sheet, rest) at (c .before .before .before .before .bind .ensures)
 

@@ -61,7 +61,7 @@ loop-again c =
       omega (arith, p .kept .0, next-place (l .out) (l .at) (hexLine (getD (now (c .before .before .before .before .before .before .before .before .before .before .args .report)) (l .i) 0)) (p .ensures)),
       omega arith,
       ap (λ (s : Written). print s rest) (p .ensures) ∙ print-join (written (l .out) (l .at)) (hexLine (getD (now (c .before .before .before .before .before .before .before .before .before .before .args .report)) (l .i) 0)) rest
-      ∙ rw (name-more (now (c .before .before .before .before .before .before .before .before .before .before .args .report)) (l .i) (omega arith) (c .before .before .before .before .if1 .left)) at (l .inv .3),
+          ∙ rw (name-more (now (c .before .before .before .before .before .before .before .before .before .before .args .report)) (l .i) (omega arith) (c .before .before .before .before .if1 .left)) at (l .inv .3),
     )
 
 same-length-2 : tie.Need-same-length-2 Inv-loop μ-loop
