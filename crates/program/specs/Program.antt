@@ -2,11 +2,12 @@
 -- input a 32-bit little-endian sheet word count, the sheet (its words little-endian too) and the bytes, and binds leniently at 0x10000000 in
 -- 32,768 bytes with 1,024 report words; input cut short or over 65,536 bytes is refusal 1. It prints each report word before the first 0 as
 -- eight lower-case hexadecimal digits on its line, or `refused N object M` in decimal." Assumes nothing.
-use Prim.Native.Nat.{ℕ, zero, suc, _+_, _*_, _/_, _%_, _^_, _-_, min}
+use Prim.Native.Nat.{ℕ, zero, suc, _+_, _-_, _*_, _/_, _%_, _^_, _≤_, min}
+use mathlib.Core.Path.{_≡_}
 use mathlib.Core.Bool.{Bool, true, false}
 use mathlib.Core.List.{List, [], _∷_, _++_}
 use lib.Dec.{leb, ltb}
-use lib.ListN.{length, drop, replicate}
+use lib.ListN.{length, take, drop, replicate}
 use Rattle.words.specs.Choice.{pick, both}
 use Rattle.words.specs.Memory.{mem, tab, patch}
 use Rattle.words.specs.Words.{leAt}
@@ -111,3 +112,11 @@ pub data Written : Type 0 where
 -- the text from that place on; what does not fit is dropped
 unfoldable pub print : Written → List ℕ → Written
 print (written out at) text = written (patch out at (length text) (mem text)) (min (at + length text) (length out))
+
+-- ---- all of it is printed
+
+-- 9 bytes for each word of the report hold the lines: the part of such a slice before the next place is what the program prints
+abbrev pub AllPrinted : Type 0
+AllPrinted =
+    (input out exit : List ℕ) (r : ℕ) → 9 * reportWords ≤ length out → written exit r ≡ print (written out 0) (linesOf (programOf input))
+    → take r exit ≡ linesOf (programOf input)
