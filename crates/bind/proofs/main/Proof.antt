@@ -1,3 +1,11 @@
+-- `bind::main` meets its contract. Assumes nothing.
+use Rattle.program.proofs.PrintLaws.{next-place}
+use Rattle.program.specs.Program.{linesOf, programOf}
+use lib.Seq.{length-take-le}
+use lib.ListN.{take, replicate}
+use Prim.Native.Nat.{ℕ}
+use mathlib.Core.Path.{sym}
+use native.Mathlib.Omega.{arith}
 use borrow.Author.Needs.{needs}
 use Rattle.bind.proofs.main.Statement.{statement}
 use Rattle.bind.proofs.main.Tie as tie
@@ -33,11 +41,13 @@ run-requires c κs = search needs
 
 -- src/main.rt:10:34
 array-share-prefix-out : tie.Need-array-share-prefix-out
-array-share-prefix-out c = ?
+array-share-prefix-out c =
+    omega (arith, c .before .run .kept, next-place (replicate 9216 0) 0 (linesOf (programOf (take (c .before .before .before .before .before .read-full .result) (c .before .before .before .before .before .read-full .last .1 .0)))) (c .before .run .ensures))
 
 -- src/main.rt:10:34
 slice-aggregate-write-all : tie.Need-slice-aggregate-write-all
-slice-aggregate-write-all c = ?
+slice-aggregate-write-all c =
+    sym (length-take-le (c .before .before .run .result) (c .before .before .run .last .1 .0) (array-share-prefix-out (c .before)))
 
 -- src/main.rt:10:5
 write-all-requires : tie.Need-write-all-requires

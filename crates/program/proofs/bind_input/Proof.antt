@@ -1,3 +1,4 @@
+-- `program::bind_input` meets its contract. Assumes nothing.
 use Rattle.program.proofs.AnswerLaws.{short-refused, long-refused, whole-bound}
 use lib.ListN.{length}
 use native.Mathlib.Omega.{arith}

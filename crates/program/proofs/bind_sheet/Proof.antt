@@ -1,3 +1,4 @@
+-- `program::bind_sheet` meets its contract. Assumes nothing.
 use Rattle.program.proofs.AnswerLaws.{written-part}
 use Rattle.program.specs.Program.{wordIn}
 use Rattle.words.specs.Memory.{tab}

@@ -1,3 +1,4 @@
+-- `program::digit_of` meets its contract. Assumes nothing.
 use Rattle.program.specs.Program.{digit}
 use borrow.Author.Tests.{lt-ltb, le-ltb}
 use borrow.Author.Needs.{needs}

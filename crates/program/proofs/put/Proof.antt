@@ -1,3 +1,4 @@
+-- `program::put` meets its contract. Assumes nothing.
 use Rattle.program.proofs.PrintLaws.{copy-prints}
 use denote.Ref.{now}
 use borrow.Author.Needs.{needs}

@@ -1,3 +1,4 @@
+-- `program::put_answer` meets its contract. Assumes nothing.
 use borrow.Author.Needs.{needs}
 use Rattle.program.proofs.put_answer.Statement.{statement}
 use Rattle.program.proofs.put_answer.Tie as tie

@@ -1,3 +1,4 @@
+-- `program::put_decimal` meets its contract. Assumes nothing.
 use Rattle.program.specs.Program.{digits, decimalOf, written, print}
 use mathlib.Core.List.{List}
 use mathlib.Core.Path.{_≡_, ap, _∙_}

@@ -1,3 +1,4 @@
+-- `program::put_refusal` meets its contract. Assumes nothing.
 use Rattle.program.specs.Program.{decimalOf, objectText, refusedText, refusalLine, written}
 use denote.Ref.{now}
 use Rattle.program.proofs.PrintLaws.{print-then}

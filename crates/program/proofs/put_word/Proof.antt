@@ -1,3 +1,4 @@
+-- `program::put_word` meets its contract. Assumes nothing.
 use Rattle.program.specs.Program.{digits, hexLine}
 use borrow.Author.Needs.{needs}
 use Rattle.program.proofs.put_word.Statement.{statement}

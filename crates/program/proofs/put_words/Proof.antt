@@ -1,3 +1,4 @@
+-- `program::put_words` meets its contract. Assumes nothing.
 use mathlib.Core.List.{List, []}
 use borrow.Author.Needs.{needs}
 use Rattle.program.proofs.PrintLaws.{print-join, print-none, next-place}

@@ -1,3 +1,4 @@
+-- `program::read_words` meets its contract. Assumes nothing.
 use borrow.Author.Needs.{needs}
 use Rattle.program.specs.Program.{wordIn}
 use Rattle.words.proofs.Slices.{patch-none, patch-next}

@@ -1,3 +1,4 @@
+-- `program::run` meets its contract. Assumes nothing.
 use Rattle.program.specs.Program.{arenaBytes, reportWords, programOf, linesOf, written, print}
 use lib.ListN.{length, replicate, length-replicate}
 use mathlib.Core.List.{List}

@@ -1,3 +1,4 @@
+-- `program::width` meets its contract. Assumes nothing.
 use Rattle.program.specs.Program.{widthFrom}
 use borrow.Author.Tests.{lt-ltb, le-ltb}
 use borrow.Author.Needs.{needs}
