@@ -63,12 +63,12 @@ programOf input = answerIn input arenaBytes reportWords
 unfoldable pub digit : ℕ → ℕ
 digit d = pick (ltb d 10) (48 + d) (97 + (d - 10))
 
--- the `n` low digits of a number, the highest first
+-- the `n` low digits of a number in a base, the highest first
 unfoldable pub digits : ℕ → ℕ → ℕ → List ℕ
 digits base zero v = []
 digits base (suc n) v = digit (v / base ^ n % base) ∷ digits base n v
 
--- the least `k` for which the number is below 10 ^ k, of those from `k` on, `n` of them tried
+-- the least number of decimal digits that holds the number, from `k` to `k + n`
 unfoldable pub widthFrom : ℕ → ℕ → ℕ → ℕ
 widthFrom zero k v = k
 widthFrom (suc n) k v = pick (ltb v (10 ^ k)) k (widthFrom n (suc k) v)
