@@ -1,52 +1,68 @@
--- Symbols and names that need no further test of refusals 14 and 15. No contract cites this file. Assumes nothing.
+-- Symbols, names and chain words that need no further test of refusals 12, 14 and 15. No contract cites this file. Assumes nothing.
 use mathlib.Core.Path.{_≡_, _∙_}
-use mathlib.Core.Bool.{true}
+use mathlib.Core.Bool.{Bool, true}
 use mathlib.Core.List.{List}
 use Prim.Native.Nat.{ℕ, _+_, _-_, _*_, _/_, _≤_, _<_}
 use native.Mathlib.Nat.{add-zero}
 use native.Mathlib.Omega.{arith}
 use lib.ListN.{length}
 use Rattle.words.specs.Memory.{mem}
+use Rattle.words.specs.Words.{leAt}
 use Rattle.object.specs.declared.dynamic_fields.CheckedSymbol.the-variants.{Checked}
 use Rattle.object.specs.TableBytes.{tableBytes, tableName}
 use Rattle.object.specs.LastZero.{RunOf}
 use Rattle.object.specs.Symbol.{symbolFrom, symbolAt}
 use Rattle.object.specs.HashCheck.{symbolOk}
 use Rattle.object.specs.Record.{Record, isTableOf, indexOk, checkedSymbol}
-use Rattle.object.specs.FineRange.{FineOf}
+use Rattle.object.specs.FineRange.{TablesFine, LinksFine, FineOf}
 use Rattle.object.proofs.LastZeroLaws.{name-yes, bytes-yes}
 use Rattle.object.proofs.ReadingsSame.{name-ok-same}
 
--- nothing needs no test
-pub fine-none : (image : List ℕ) (r : Record) → FineOf image r 0 0
-fine-none image r = record {
-  index = λ s h. absurd (omega arith);
-  symbols = λ s h. absurd (omega arith);
-  names = λ n h. absurd (omega arith);
-  inside = omega arith;
-}
+-- bytes of a run
+run-bytes :
+    (image : List ℕ) (isT : ℕ → Bool) (span p end low : ℕ) → RunOf isT (mem image) span p end low → (k n : ℕ) → p + k + n ≤ end
+    → tableBytes isT (p + k) n ≡ true
+run-bytes image isT span p end low u k n h = bytes-yes image isT (p + k) end (omega arith) n (λ q a b. u .bytes q (omega arith) b) h
 
--- the symbols of a run, and the names of one
-module _ (image : List ℕ) (r : Record) (end low : ℕ) where
-  run-symbols : RunOf (isTableOf r) (mem image) (r .span) (r .symbols) end low
-      → (s : ℕ) → s < (end - r .symbols) / 24 → tableBytes (isTableOf r) (r .symbols + 24 * s) 24 ≡ true
-  run-symbols u s h =
-      bytes-yes image (isTableOf r) (r .symbols + 24 * s) end (omega (arith, u .within)) 24 (λ q a b. u .bytes q (omega arith) b) (omega (arith, u .within))
+module _ (image : List ℕ) (isT : ℕ → Bool) (symbols strings span : ℕ) where
+  -- nothing needs no test
+  pub tables-none : TablesFine isT image symbols strings span 0 0
+  tables-none = record { bytes = λ s h. absurd (omega arith); names = λ n h. absurd (omega arith); inside = omega arith }
 
-  run-names : RunOf (isTableOf r) (mem image) (r .span) (r .strings) end low
-      → (n : ℕ) → n < low - r .strings → tableName (isTableOf r) image (r .strings + n) ≡ true
-  run-names u n h =
-      name-yes image (isTableOf r) (r .strings + n) end (omega (arith, u .last .within)) low (λ q a b. u .bytes q (omega arith) b) (omega arith)
-      (u .last .within) (u .last .zero (omega arith))
+  -- the symbols of a run, and the names of one
+  pub tables-runs :
+      (end low end′ low′ : ℕ) → RunOf isT (mem image) span symbols end low → RunOf isT (mem image) span strings end′ low′
+      → TablesFine isT image symbols strings span ((end - symbols) / 24) (low′ - strings)
+  tables-runs end low end′ low′ u v = record {
+    bytes = λ s h. run-bytes image isT span symbols end low u (24 * s) 24 (omega (arith, u .within));
+    names = λ n h.
+        name-yes image isT (strings + n) end′ (omega (arith, v .last .within)) low′ (λ q a b. v .bytes q (omega arith) b) (omega arith)
+        (v .last .within) (v .last .zero (omega arith));
+    inside = omega (arith, u .within, u .inside);
+  }
 
-pub fine-runs : (image : List ℕ) (r : Record) (end low end′ low′ fits : ℕ)
-    → RunOf (isTableOf r) (mem image) (r .span) (r .symbols) end low → RunOf (isTableOf r) (mem image) (r .span) (r .strings) end′ low′
-    → fits ≤ (end - r .symbols) / 24 → ((s : ℕ) → s < fits → indexOk (r .known) s ≡ true) → FineOf image r fits (low′ - r .strings)
-fine-runs image r end low end′ low′ fits u v le known = record {
+  -- such a symbol with such a name passes
+  pub tables-pass : (fits ends : ℕ) → TablesFine isT image symbols strings span fits ends → (s w : ℕ) → s < fits
+      → w ≡ leAt 4 (mem image) (symbols + 24 * s) → w < ends → symbolOk isT image symbols strings s ≡ true
+  unfolding symbolOk
+  tables-pass fits ends f s w h e k = rw (f .bytes s h, ← e) (f .names w k)
+
+pub links-runs :
+    (image : List ℕ) (isT : ℕ → Bool) (span at chain end low : ℕ) → RunOf isT (mem image) span (at + chain) end low
+    → LinksFine isT at chain ((end - (at + chain)) / 4)
+links-runs image isT span at chain end low u d h =
+    let e : at + chain + 4 * d ≡ at + (chain + 4 * d) = omega arith in
+    rw e at (run-bytes image isT span (at + chain) end low u (4 * d) 4 (omega (arith, u .within)))
+
+-- what holds of the tables of a record holds of the record, as far as the symbols are below a known count
+pub fine-tables : (image : List ℕ) (r : Record) (most fits ends : ℕ)
+    → TablesFine (isTableOf r) image (r .symbols) (r .strings) (r .span) most ends
+    → fits ≤ most → ((s : ℕ) → s < fits → indexOk (r .known) s ≡ true) → FineOf image r fits ends
+fine-tables image r most fits ends f le known = record {
   index = known;
-  symbols = λ s h. run-symbols image r end low u s (omega arith);
-  names = run-names image r end′ low′ v;
-  inside = omega (arith, u .within, u .inside);
+  symbols = λ s h. f .bytes s (omega arith);
+  names = f .names;
+  inside = omega (arith, f .inside);
 }
 
 -- a symbol that needs no test, with a name that needs none, is not refused

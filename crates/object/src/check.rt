@@ -3,16 +3,18 @@
 // `step`th of more (`step_of`).
 ghost use mathlib.Core.Path.{_≡_};
 ghost use mathlib.Core.Bool.{true, false};
-ghost use Prim.Native.Nat.{_+_, _-_, _^_, _≤_, _<_};
+ghost use Prim.Native.Nat.{_+_, _-_, _*_, _^_, _≤_, _<_};
 ghost use lib.ListN.{length, take, getD};
 ghost use Rattle.words.specs.Choice.{every, below};
 ghost use Rattle.words.specs.Memory.{mem};
 ghost use Rattle.object.specs.declared.hash_tables.HashTable.the-variants.{SysV, Gnu};
-ghost use Rattle.object.specs.TableBytes.{isTable};
+ghost use Rattle.object.specs.TableBytes.{isTable, tableBytes};
 ghost use Rattle.object.specs.HashTable.{fuel, walk};
 ghost use Rattle.object.specs.HashCheck.{symbolOk, stepOk, walkOk, tableOk};
 ghost use Rattle.object.specs.LastZero.{LastZeros};
+ghost use Rattle.object.specs.FineRange.{TablesFine, LinksFine};
 ghost use Rattle.object.specs.Marks.{MarkAt, NewMark, Marked, SysvMore, GnuMore, within, Passes};
+use crate::dynamic_fields::Fine;
 
 // Whether a walk passes, and how many symbols it passed before a marked one or its end.
 struct Walked {
@@ -82,6 +84,41 @@ fn symbol_in(
     crate::table_bytes::both_in(image, b, zeros, p, 24, strings + w)
 }
 
+// The same, at once for most symbols.
+fn symbol_quick(
+    image: &[u8],
+    b: crate::table_bytes::Bounds,
+    zeros: &[usize; 17],
+    f: Fine,
+    symbols: usize,
+    strings: usize,
+    s: usize,
+) -> bool
+    requires { ⌜ (s < 2 ^ 40) × LastZeros (mem (now image)) (b .span) (b .segments) (now zeros)
+        × TablesFine (isTable (b .span) (take (b .count) (b .segments))) (now image) symbols strings (b .span) (f .fits) (f .ends) ⌝ }
+    ensures { λ r. ⌜ r ≡ symbolOk (isTable (b .span) (take (b .count) (b .segments))) (now (image .entry)) symbols strings s ⌝ }
+{
+    if f.fits <= s {
+        return symbol_in(image, b, zeros, symbols, strings, s);
+    }
+    let w = words::bytes::u32_at(image, symbols + 24 * s) as usize;
+    if f.ends <= w {
+        return symbol_in(image, b, zeros, symbols, strings, s);
+    }
+    true
+}
+
+// Whether chain word `d`, which stands `k` places after `at`, is in table bytes: at once for the first `links`.
+fn link_quick(b: crate::table_bytes::Bounds, at: usize, k: usize, d: usize, links: usize) -> bool
+    requires { ⌜ (d < links → tableBytes (isTable (b .span) (take (b .count) (b .segments))) (at + k) 4 ≡ true) ⌝ }
+    ensures { λ r. ⌜ r ≡ tableBytes (isTable (b .span) (take (b .count) (b .segments))) (at + k) 4 ⌝ }
+{
+    if links <= d {
+        return crate::table_bytes::table_off(b, at, k, 4);
+    }
+    true
+}
+
 // Whether `d` has a mark, and it is set.
 fn is_marked(seen: &[bool; 16384], step: usize, d: usize) -> bool
     requires { ⌜ 0 < step ⌝ }
@@ -116,6 +153,7 @@ fn sysv_walk(
     image: &[u8],
     b: crate::table_bytes::Bounds,
     zeros: &[usize; 17],
+    f: Fine,
     symbols: usize,
     strings: usize,
     at: usize,
@@ -126,7 +164,8 @@ fn sysv_walk(
     word: usize,
 ) -> Walked
     requires { ⌜ (word < 2 ^ 32) × LastZeros (mem (now image)) (b .span) (b .segments) (now zeros)
-        × Marked (now seen) 1 (λ s. within (now image) (SysV at buckets chains) (stepOk (isTable (b .span) (take (b .count) (b .segments))) (now image) symbols strings (SysV at buckets chains)) s (total) ≡ true) ⌝ }
+        × Marked (now seen) 1 (λ s. within (now image) (SysV at buckets chains) (stepOk (isTable (b .span) (take (b .count) (b .segments))) (now image) symbols strings (SysV at buckets chains)) s (total) ≡ true)
+        × TablesFine (isTable (b .span) (take (b .count) (b .segments))) (now image) symbols strings (b .span) (f .fits) (f .ends) ⌝ }
     ensures { λ r. ⌜ (r .ok ≡ within (now (image .entry)) (SysV at buckets chains) (stepOk (isTable (b .span) (take (b .count) (b .segments))) (now (image .entry)) symbols strings (SysV at buckets chains)) word chains)
         × (r .count ≤ chains)
         × (r .ok ≡ true → within (now (image .entry)) (SysV at buckets chains) (stepOk (isTable (b .span) (take (b .count) (b .segments))) (now (image .entry)) symbols strings (SysV at buckets chains)) word (total + r .count) ≡ true) ⌝ }
@@ -150,7 +189,7 @@ fn sysv_walk(
                 };
             }
         }
-        if !symbol_in(image, b, zeros, symbols, strings, s) {
+        if !symbol_quick(image, b, zeros, f, symbols, strings, s) {
             return Walked {
                 ok: false,
                 count: 0,
@@ -204,6 +243,7 @@ fn sysv_bucket(
     image: &[u8],
     b: crate::table_bytes::Bounds,
     zeros: &[usize; 17],
+    f: Fine,
     symbols: usize,
     strings: usize,
     at: usize,
@@ -214,7 +254,8 @@ fn sysv_bucket(
     i: usize,
 ) -> Walked
     requires { ⌜ (i < buckets) × (total ≤ chains) × LastZeros (mem (now image)) (b .span) (b .segments) (now zeros)
-        × Marked (now seen) 1 (λ s. within (now image) (SysV at buckets chains) (stepOk (isTable (b .span) (take (b .count) (b .segments))) (now image) symbols strings (SysV at buckets chains)) s (total) ≡ true) ⌝ }
+        × Marked (now seen) 1 (λ s. within (now image) (SysV at buckets chains) (stepOk (isTable (b .span) (take (b .count) (b .segments))) (now image) symbols strings (SysV at buckets chains)) s (total) ≡ true)
+        × TablesFine (isTable (b .span) (take (b .count) (b .segments))) (now image) symbols strings (b .span) (f .fits) (f .ends) ⌝ }
     ensures { λ r. ⌜ (r .ok ≡ walkOk (isTable (b .span) (take (b .count) (b .segments))) (now (image .entry)) symbols strings (SysV at buckets chains) i)
         × (total + r .count ≤ chains)
         × (r .ok ≡ true → Marked (now (seen .exit)) 1 (λ s. within (now (image .entry)) (SysV at buckets chains) (stepOk (isTable (b .span) (take (b .count) (b .segments))) (now (image .entry)) symbols strings (SysV at buckets chains)) s (total + r .count) ≡ true)) ⌝ }
@@ -228,6 +269,7 @@ fn sysv_bucket(
         image,
         b,
         zeros,
+        f,
         symbols,
         strings,
         at,
@@ -259,6 +301,7 @@ fn sysv_walks(
     image: &[u8],
     b: crate::table_bytes::Bounds,
     zeros: &[usize; 17],
+    f: Fine,
     symbols: usize,
     strings: usize,
     at: usize,
@@ -267,7 +310,8 @@ fn sysv_walks(
     seen: &mut [bool; 16384],
 ) -> bool
     requires { ⌜ LastZeros (mem (now image)) (b .span) (b .segments) (now zeros)
-        × Marked (now seen) 1 (λ s. within (now image) (SysV at buckets chains) (stepOk (isTable (b .span) (take (b .count) (b .segments))) (now image) symbols strings (SysV at buckets chains)) s (0) ≡ true) ⌝ }
+        × Marked (now seen) 1 (λ s. within (now image) (SysV at buckets chains) (stepOk (isTable (b .span) (take (b .count) (b .segments))) (now image) symbols strings (SysV at buckets chains)) s (0) ≡ true)
+        × TablesFine (isTable (b .span) (take (b .count) (b .segments))) (now image) symbols strings (b .span) (f .fits) (f .ends) ⌝ }
     ensures { λ r. ⌜ r ≡ below (walkOk (isTable (b .span) (take (b .count) (b .segments))) (now (image .entry)) symbols strings (SysV at buckets chains)) buckets ⌝ }
 {
     let n = buckets as usize;
@@ -278,6 +322,7 @@ fn sysv_walks(
             image,
             b,
             zeros,
+            f,
             symbols,
             strings,
             at,
@@ -316,11 +361,13 @@ fn sysv_ok(
     }
     let mut zeros = [0usize; 17];
     crate::table_bytes::last_zeros(image, b, &mut zeros);
+    let f = crate::table_bytes::fine_of(image, b, symbols, strings);
     let mut seen = [false; 16384];
     sysv_walks(
         image,
         b,
         &zeros,
+        f,
         symbols,
         strings,
         at,
@@ -335,6 +382,7 @@ fn gnu_walk(
     image: &[u8],
     b: crate::table_bytes::Bounds,
     zeros: &[usize; 17],
+    f: Fine,
     symbols: usize,
     strings: usize,
     at: usize,
@@ -342,12 +390,15 @@ fn gnu_walk(
     first: u32,
     blooms: u32,
     shift: u32,
+    links: usize,
     seen: &[bool; 16384],
     step: usize,
     word: usize,
 ) -> Walked
     requires { ⌜ (first ≤ word) × (word < 2 ^ 32) × (0 < step) × LastZeros (mem (now image)) (b .span) (b .segments) (now zeros)
-        × Marked (now seen) step (λ d. Passes (now image) (Gnu at buckets first blooms shift) (stepOk (isTable (b .span) (take (b .count) (b .segments))) (now image) symbols strings (Gnu at buckets first blooms shift)) (first + d)) ⌝ }
+        × Marked (now seen) step (λ d. Passes (now image) (Gnu at buckets first blooms shift) (stepOk (isTable (b .span) (take (b .count) (b .segments))) (now image) symbols strings (Gnu at buckets first blooms shift)) (first + d))
+        × TablesFine (isTable (b .span) (take (b .count) (b .segments))) (now image) symbols strings (b .span) (f .fits) (f .ends)
+        × LinksFine (isTable (b .span) (take (b .count) (b .segments))) at (16 + 8 * blooms + 4 * buckets) links ⌝ }
     ensures { λ r. ⌜ (r .ok ≡ every (stepOk (isTable (b .span) (take (b .count) (b .segments))) (now (image .entry)) symbols strings (Gnu at buckets first blooms shift)) (walk (now (image .entry)) (Gnu at buckets first blooms shift) (fuel (now (image .entry)) (Gnu at buckets first blooms shift)) word))
         × (r .ok ≡ true → 0 < r .count → Passes (now (image .entry)) (Gnu at buckets first blooms shift) (stepOk (isTable (b .span) (take (b .count) (b .segments))) (now (image .entry)) symbols strings (Gnu at buckets first blooms shift)) word) ⌝ }
 {
@@ -364,13 +415,13 @@ fn gnu_walk(
                 count: most - left,
             };
         }
-        if !crate::table_bytes::table_off(b, at, chain + 4 * d, 4) {
+        if !link_quick(b, at, chain + 4 * d, d, links) {
             return Walked {
                 ok: false,
                 count: 0,
             };
         }
-        if !symbol_in(image, b, zeros, symbols, strings, s) {
+        if !symbol_quick(image, b, zeros, f, symbols, strings, s) {
             return Walked {
                 ok: false,
                 count: 0,
@@ -426,6 +477,7 @@ fn gnu_bucket(
     image: &[u8],
     b: crate::table_bytes::Bounds,
     zeros: &[usize; 17],
+    f: Fine,
     symbols: usize,
     strings: usize,
     at: usize,
@@ -433,12 +485,15 @@ fn gnu_bucket(
     first: u32,
     blooms: u32,
     shift: u32,
+    links: usize,
     seen: &mut [bool; 16384],
     step: usize,
     i: usize,
 ) -> bool
     requires { ⌜ (i < buckets) × (0 < step) × LastZeros (mem (now image)) (b .span) (b .segments) (now zeros)
-        × Marked (now seen) step (λ d. Passes (now image) (Gnu at buckets first blooms shift) (stepOk (isTable (b .span) (take (b .count) (b .segments))) (now image) symbols strings (Gnu at buckets first blooms shift)) (first + d)) ⌝ }
+        × Marked (now seen) step (λ d. Passes (now image) (Gnu at buckets first blooms shift) (stepOk (isTable (b .span) (take (b .count) (b .segments))) (now image) symbols strings (Gnu at buckets first blooms shift)) (first + d))
+        × TablesFine (isTable (b .span) (take (b .count) (b .segments))) (now image) symbols strings (b .span) (f .fits) (f .ends)
+        × LinksFine (isTable (b .span) (take (b .count) (b .segments))) at (16 + 8 * blooms + 4 * buckets) links ⌝ }
     ensures { λ r. ⌜ (r ≡ walkOk (isTable (b .span) (take (b .count) (b .segments))) (now (image .entry)) symbols strings (Gnu at buckets first blooms shift) i)
         × (r ≡ true → Marked (now (seen .exit)) step (λ d. Passes (now (image .entry)) (Gnu at buckets first blooms shift) (stepOk (isTable (b .span) (take (b .count) (b .segments))) (now (image .entry)) symbols strings (Gnu at buckets first blooms shift)) (first + d))) ⌝ }
 {
@@ -454,6 +509,7 @@ fn gnu_bucket(
         image,
         b,
         zeros,
+        f,
         symbols,
         strings,
         at,
@@ -461,6 +517,7 @@ fn gnu_bucket(
         first,
         blooms,
         shift,
+        links,
         seen,
         step,
         s,
@@ -492,6 +549,7 @@ fn gnu_walks(
     image: &[u8],
     b: crate::table_bytes::Bounds,
     zeros: &[usize; 17],
+    f: Fine,
     symbols: usize,
     strings: usize,
     at: usize,
@@ -499,11 +557,14 @@ fn gnu_walks(
     first: u32,
     blooms: u32,
     shift: u32,
+    links: usize,
     seen: &mut [bool; 16384],
     step: usize,
 ) -> bool
     requires { ⌜ (0 < step) × LastZeros (mem (now image)) (b .span) (b .segments) (now zeros)
-        × Marked (now seen) step (λ d. Passes (now image) (Gnu at buckets first blooms shift) (stepOk (isTable (b .span) (take (b .count) (b .segments))) (now image) symbols strings (Gnu at buckets first blooms shift)) (first + d)) ⌝ }
+        × Marked (now seen) step (λ d. Passes (now image) (Gnu at buckets first blooms shift) (stepOk (isTable (b .span) (take (b .count) (b .segments))) (now image) symbols strings (Gnu at buckets first blooms shift)) (first + d))
+        × TablesFine (isTable (b .span) (take (b .count) (b .segments))) (now image) symbols strings (b .span) (f .fits) (f .ends)
+        × LinksFine (isTable (b .span) (take (b .count) (b .segments))) at (16 + 8 * blooms + 4 * buckets) links ⌝ }
     ensures { λ r. ⌜ r ≡ below (walkOk (isTable (b .span) (take (b .count) (b .segments))) (now (image .entry)) symbols strings (Gnu at buckets first blooms shift)) buckets ⌝ }
 {
     let n = buckets as usize;
@@ -513,6 +574,7 @@ fn gnu_walks(
             image,
             b,
             zeros,
+            f,
             symbols,
             strings,
             at,
@@ -520,6 +582,7 @@ fn gnu_walks(
             first,
             blooms,
             shift,
+            links,
             seen,
             step,
             i,
@@ -573,11 +636,14 @@ fn gnu_ok(
     let high = crate::hash_tables::highest_bucket(image, at, buckets, first, blooms, shift);
     let known = symbol_in(image, b, &zeros, symbols, strings, high);
     let step = step_of(known, high, first as usize, image.len());
+    let f = crate::table_bytes::fine_of(image, b, symbols, strings);
+    let links = crate::table_bytes::links_of(image, b, at, 16 + 8 * (blooms as usize) + 4 * n);
     let mut seen = [false; 16384];
     gnu_walks(
         image,
         b,
         &zeros,
+        f,
         symbols,
         strings,
         at,
@@ -585,6 +651,7 @@ fn gnu_ok(
         first,
         blooms,
         shift,
+        links,
         &mut seen,
         step,
     )

@@ -354,20 +354,10 @@ fn known_of(known: SymbolCount, n: usize) -> usize
 pub fn fine_in(image: &[u8], o: ObjectData) -> Fine
     ensures { λ r. ⌜ FineOf (now (image .entry)) (heldBy o) (r .fits) (r .ends) ⌝ }
 {
-    let symbols = o.symbols;
-    let strings = o.strings;
     let known = o.known;
-    let b = bounds_of(o);
-    if b.span <= symbols {
-        return Fine { fits: 0, ends: 0 };
-    }
-    if b.span <= strings {
-        return Fine { fits: 0, ends: 0 };
-    }
-    let one = crate::table_bytes::run_from(image, b, symbols);
-    let two = crate::table_bytes::run_from(image, b, strings);
+    let f = crate::table_bytes::fine_of(image, bounds_of(o), o.symbols, o.strings);
     Fine {
-        fits: known_of(known, (one.end - symbols) / 24),
-        ends: words::bytes::monus(two.low, strings),
+        fits: known_of(known, f.fits),
+        ends: f.ends,
     }
 }

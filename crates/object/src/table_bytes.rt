@@ -7,7 +7,9 @@ ghost use Rattle.words.specs.Choice.{both, below};
 ghost use Rattle.words.specs.Memory.{mem};
 ghost use Rattle.object.specs.TableBytes.{isWritable, holdsRange, isTable, tableBytes, tableName, inWritable};
 ghost use Rattle.object.specs.WritableRange.{WritableRange};
+ghost use Rattle.object.specs.FineRange.{TablesFine, LinksFine};
 ghost use Rattle.object.specs.LastZero.{LastZero, LastZeros, Nearer, RunOf};
+use crate::dynamic_fields::Fine;
 
 // An object's span, and its load segments: the first `count` of them. The host has none.
 pub struct Bounds {
@@ -132,9 +134,9 @@ pub(crate) fn last_zeros(image: &[u8], b: Bounds, zeros: &mut [usize; 17])
 }
 
 // Where a run of table bytes ends, and one past the last zero byte before that.
-pub struct Run {
-    pub end: usize,
-    pub low: usize,
+struct Run {
+    end: usize,
+    low: usize,
 }
 
 // What a segment leaves of the run from `p` to `end`; `zero` is one past the last zero byte before the segment.
@@ -163,7 +165,7 @@ fn nearer(s: crate::program_header::Segment, p: usize, end: usize, low: usize, z
 }
 
 // The run of table bytes from `p`.
-pub(crate) fn run_from(image: &[u8], b: Bounds, p: usize) -> Run
+fn run_from(image: &[u8], b: Bounds, p: usize) -> Run
     requires { ⌜ p < b .span ⌝ }
     ensures { λ r. ⌜ RunOf (isTable (b .span) (take (b .count) (b .segments))) (mem (now (image .entry))) (b .span) p (r .end) (r .low) ⌝ }
 {
@@ -181,6 +183,40 @@ pub(crate) fn run_from(image: &[u8], b: Bounds, p: usize) -> Run
         end: end,
         low: last_zero(image, end),
     }
+}
+
+// How many symbols need no further test, and how many places of the strings where a name needs none.
+pub(crate) fn fine_of(image: &[u8], b: Bounds, symbols: usize, strings: usize) -> Fine
+    ensures { λ r. ⌜ TablesFine (isTable (b .span) (take (b .count) (b .segments))) (now (image .entry)) symbols strings (b .span) (r .fits) (r .ends) ⌝ }
+{
+    if b.span <= symbols {
+        return Fine { fits: 0, ends: 0 };
+    }
+    if b.span <= strings {
+        return Fine { fits: 0, ends: 0 };
+    }
+    let one = run_from(image, b, symbols);
+    let two = run_from(image, b, strings);
+    Fine {
+        fits: (one.end - symbols) / 24,
+        ends: words::bytes::monus(two.low, strings),
+    }
+}
+
+// How many of the words that stand `chain` places after `at` need no further test.
+pub(crate) fn links_of(image: &[u8], b: Bounds, at: usize, chain: usize) -> usize
+    ensures { λ r. ⌜ LinksFine (isTable (b .span) (take (b .count) (b .segments))) at chain r ⌝ }
+{
+    let span = b.span;
+    if span <= chain {
+        return 0;
+    }
+    if span - chain <= at {
+        return 0;
+    }
+    let p = at + chain;
+    let one = run_from(image, b, p);
+    (one.end - p) / 4
 }
 
 // Whether the `k` bytes from `p`, and the name at `q` with its zero byte, are in table bytes: no byte of the name is read.

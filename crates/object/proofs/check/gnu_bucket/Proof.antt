@@ -47,7 +47,7 @@ cast-s c = search needs
 
 gnu-walk-requires : tie.Need-gnu-walk-requires
 gnu-walk-requires c κs =
-    (search needs, search needs, search needs, c .before .before .before .before .before .pre .2, c .before .before .before .before .before .pre .3)
+    (search needs, search needs, search needs, c .before .before .before .before .before .pre .2, c .before .before .before .before .before .pre .3, c .before .before .before .before .before .pre .4, c .before .before .before .before .before .pre .5)
 
 returns-3 : tie.Need-returns-3
 returns-3 c =

@@ -1,8 +1,8 @@
 -- `object::check::gnu_ok` meets its contract. Assumes nothing.
 use mathlib.Core.Path.{sym, _∙_}
 use native.Mathlib.Omega.{arith}
-use borrow.Author.Tests.{eq-eqb, ne-eqb, le-leb, lt-leb, not-true, not-false}
 use borrow.Author.Needs.{needs}
+use borrow.Author.Tests.{eq-eqb, ne-eqb, le-leb, lt-leb, not-true, not-false}
 use Rattle.object.specs.HashCheck.{tableOk, numbersOk}
 use Rattle.object.proofs.MarkLaws.{never, unmarked}
 use Rattle.object.proofs.check.gnu_ok.Statement.{statement}
@@ -56,14 +56,32 @@ symbol-in-requires c κs =
 step-of-requires : tie.Need-step-of-requires
 step-of-requires c κs = search needs
 
+fine-of-requires : tie.Need-fine-of-requires
+fine-of-requires c κs = search needs
+
+mul-links-of : tie.Need-mul-links-of
+mul-links-of c = search needs
+
+add-links-of : tie.Need-add-links-of
+add-links-of c = search needs
+
+mul-links-of-2 : tie.Need-mul-links-of-2
+mul-links-of-2 c = search needs
+
+add-links-of-2 : tie.Need-add-links-of-2
+add-links-of-2 c = search needs
+
+links-of-requires : tie.Need-links-of-requires
+links-of-requires c κs = search needs
+
 gnu-walks-requires : tie.Need-gnu-walks-requires
 gnu-walks-requires c κs =
-    (c .before .before .step-of .ensures, c .before .before .before .before .before .before .last-zeros .ensures, λ j g. never (sym (unmarked 16384 j) ∙ g))
+    (c .before .before .before .before .step-of .ensures, c .before .before .before .before .before .before .before .before .last-zeros .ensures, λ j g. never (sym (unmarked 16384 j) ∙ g), c .before .before .before .fine-of .ensures, c .before .before .links-of .ensures)
 
 returns-5 : tie.Need-returns-5
 unfolding tableOk numbersOk
 returns-5 c =
-    rw (ne-eqb _ _ (c .before .before .before .before .before .before .before .before .before .before .before .before .before .if1 .left), ne-eqb _ _ (c .before .before .before .before .before .before .before .before .before .before .before .before .if2 .left), le-leb _ _ (c .before .before .before .before .before .before .before .before .before .before .before .if3 .left), sym (c .before .before .before .before .before .before .before .before .before .before .table-bytes .ensures) ∙ not-false _ (c .before .before .before .before .before .before .before .before .before .if4 .left)) (c .gnu-walks .ensures)
+    rw (ne-eqb _ _ (c .before .before .before .before .before .before .before .before .before .before .before .before .before .before .before .if1 .left), ne-eqb _ _ (c .before .before .before .before .before .before .before .before .before .before .before .before .before .before .if2 .left), le-leb _ _ (c .before .before .before .before .before .before .before .before .before .before .before .before .before .if3 .left), sym (c .before .before .before .before .before .before .before .before .before .before .before .before .table-bytes .ensures) ∙ not-false _ (c .before .before .before .before .before .before .before .before .before .before .before .if4 .left)) (c .gnu-walks .ensures)
 
 pub gnu-ok-spec : {M : Type 1} → statement M
 gnu-ok-spec =
@@ -82,5 +100,11 @@ gnu-ok-spec =
     highest-bucket-requires
     symbol-in-requires
     step-of-requires
+    fine-of-requires
+    mul-links-of
+    add-links-of
+    mul-links-of-2
+    add-links-of-2
+    links-of-requires
     gnu-walks-requires
     returns-5)

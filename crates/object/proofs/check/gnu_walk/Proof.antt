@@ -18,14 +18,14 @@ use Rattle.object.proofs.check.gnu_walk.Statement.{statement}
 use Rattle.object.proofs.check.gnu_walk.Tie as tie
 
 abbrev Inv-loop : tie.InvT-loop
-Inv-loop image b zeros symbols strings at buckets first blooms shift seen step word chain low most s₀ left₀ s left =
+Inv-loop image b zeros f symbols strings at buckets first blooms shift links seen step word chain low most s₀ left₀ s left =
     (first ≤ s) × (s + left ≡ word + most) × ((left ≤ most) × (most ≤ 2 ^ 28))
     × GnuAt image (Gnu at buckets first blooms shift) (stepOk (isTable (b .span) (take (b .count) (b .segments))) image symbols strings (Gnu at buckets first blooms shift))
     (every (stepOk (isTable (b .span) (take (b .count) (b .segments))) image symbols strings (Gnu at buckets first blooms shift))
     (walk image (Gnu at buckets first blooms shift) (fuel image (Gnu at buckets first blooms shift)) word)) word s left
 
 abbrev μ-loop : tie.MeasureT-loop
-μ-loop image b zeros symbols strings at buckets first blooms shift seen step word chain low most s₀ left₀ s left =
+μ-loop image b zeros f symbols strings at buckets first blooms shift links seen step word chain low most s₀ left₀ s left =
     left
 
 mul-chain : tie.Need-mul-chain Inv-loop μ-loop
@@ -58,8 +58,8 @@ is-marked-requires : tie.Need-is-marked-requires Inv-loop μ-loop
 is-marked-requires c κs =
     c .before .before .before .before .pre .2
 
-sub-t28 : tie.Need-sub-t28 Inv-loop μ-loop
-sub-t28 c = search needs
+sub-t30 : tie.Need-sub-t30 Inv-loop μ-loop
+sub-t30 c = search needs
 
 returns : tie.Need-returns Inv-loop μ-loop
 returns c =
@@ -73,14 +73,15 @@ returns c =
     let r = gnu-known m t p (every p (walk m t (fuel m t) (a .word))) (a .word) (l .s) (l .left) (l .inv .3) (rw e at h) in
     (r .0, λ _ _. r .1)
 
-mul-table-off : tie.Need-mul-table-off Inv-loop μ-loop
-mul-table-off c = search needs
+mul-link-quick : tie.Need-mul-link-quick Inv-loop μ-loop
+mul-link-quick c = search needs
 
-add-table-off : tie.Need-add-table-off Inv-loop μ-loop
-add-table-off c = search needs
+add-link-quick : tie.Need-add-link-quick Inv-loop μ-loop
+add-link-quick c = search needs
 
-table-off-requires : tie.Need-table-off-requires Inv-loop μ-loop
-table-off-requires c κs = search needs
+link-quick-requires : tie.Need-link-quick-requires Inv-loop μ-loop
+link-quick-requires c κs =
+    λ h. c .before .before .before .before .before .before .pre .6 _ h
 
 returns-2 : tie.Need-returns-2 Inv-loop μ-loop
 unfolding chainOk
@@ -90,11 +91,11 @@ returns-2 c =
     let m = now (a .image) in
     let t = Gnu (a .at) (a .buckets) (a .first) (a .blooms) (a .shift) in
     let p = stepOk (isTable (a .b .span) (take (a .b .count) (a .b .segments))) m (a .symbols) (a .strings) t in
-    (gnu-fails m t p (every p (walk m t (fuel m t) (a .word))) (a .word) (l .s) (l .left) (l .inv .3) (c .before .before .before .before .loop-test .taken) (rw (sym (c .before .table-off .ensures) ∙ not-true _ (c .if2 .taken))), never)
+    (gnu-fails m t p (every p (walk m t (fuel m t) (a .word))) (a .word) (l .s) (l .left) (l .inv .3) (c .before .before .before .before .loop-test .taken) (rw (sym (c .before .link-quick .ensures) ∙ not-true _ (c .if2 .taken))), never)
 
-symbol-in-requires : tie.Need-symbol-in-requires Inv-loop μ-loop
-symbol-in-requires c κs =
-    (search needs, c .before .before .before .before .before .before .before .before .pre .3)
+symbol-quick-requires : tie.Need-symbol-quick-requires Inv-loop μ-loop
+symbol-quick-requires c κs =
+    (search needs, c .before .before .before .before .before .before .before .before .pre .3, c .before .before .before .before .before .before .before .before .pre .5)
 
 returns-3 : tie.Need-returns-3 Inv-loop μ-loop
 unfolding chainOk
@@ -104,7 +105,7 @@ returns-3 c =
     let m = now (a .image) in
     let t = Gnu (a .at) (a .buckets) (a .first) (a .blooms) (a .shift) in
     let p = stepOk (isTable (a .b .span) (take (a .b .count) (a .b .segments))) m (a .symbols) (a .strings) t in
-    (gnu-fails m t p (every p (walk m t (fuel m t) (a .word))) (a .word) (l .s) (l .left) (l .inv .3) (c .before .before .before .before .before .before .loop-test .taken) (rw (sym (c .before .before .before .table-off .ensures) ∙ not-false _ (c .before .before .if2 .left)) (sym (c .before .symbol-in .ensures) ∙ not-true _ (c .if3 .taken))), never)
+    (gnu-fails m t p (every p (walk m t (fuel m t) (a .word))) (a .word) (l .s) (l .left) (l .inv .3) (c .before .before .before .before .before .before .loop-test .taken) (rw (sym (c .before .before .before .link-quick .ensures) ∙ not-false _ (c .before .before .if2 .left)) (sym (c .before .symbol-quick .ensures) ∙ not-true _ (c .if3 .taken))), never)
 
 mul-u32-off : tie.Need-mul-u32-off Inv-loop μ-loop
 mul-u32-off c = search needs
@@ -115,11 +116,11 @@ add-u32-off c = search needs
 u32-off-requires : tie.Need-u32-off-requires Inv-loop μ-loop
 u32-off-requires c κs = search needs
 
-sub-t33 : tie.Need-sub-t33 Inv-loop μ-loop
-sub-t33 c = search needs
+sub-t35 : tie.Need-sub-t35 Inv-loop μ-loop
+sub-t35 c = search needs
 
-add-t34 : tie.Need-add-t34 Inv-loop μ-loop
-add-t34 c = search needs
+add-t36 : tie.Need-add-t36 Inv-loop μ-loop
+add-t36 c = search needs
 
 returns-4 : tie.Need-returns-4 Inv-loop μ-loop
 returns-4 c =
@@ -128,7 +129,7 @@ returns-4 c =
     let m = now (a .image) in
     let t = Gnu (a .at) (a .buckets) (a .first) (a .blooms) (a .shift) in
     let p = stepOk (isTable (a .b .span) (take (a .b .count) (a .b .segments))) m (a .symbols) (a .strings) t in
-    let st = gnu-step (isTable (a .b .span) (take (a .b .count) (a .b .segments))) m (a .symbols) (a .strings) (a .at) (a .buckets) (a .first) (a .blooms) (a .shift) (l .s) (c .before .before .before .before .before .table-off .result) (c .before .before .before .symbol-in .result) (c .before .before .before .before .before .table-off .ensures) (c .before .before .before .symbol-in .ensures) (c .before .before .before .before .if2 .left) (c .before .before .if3 .left) in
+    let st = gnu-step (isTable (a .b .span) (take (a .b .count) (a .b .segments))) m (a .symbols) (a .strings) (a .at) (a .buckets) (a .first) (a .blooms) (a .shift) (l .s) (c .before .before .before .before .before .link-quick .result) (c .before .before .before .symbol-quick .result) (c .before .before .before .before .before .link-quick .ensures) (c .before .before .before .symbol-quick .ensures) (c .before .before .before .before .if2 .left) (c .before .before .if3 .left) in
     let r = gnu-ends-at m t p (every p (walk m t (fuel m t) (a .word))) (a .word) (l .s) (l .left) (l .inv .3) (c .before .u32-off .result) (c .before .before .before .before .before .before .before .before .loop-test .taken) (c .before .u32-off .ensures) st (eq-eqb _ _ (c .if4 .taken)) in
     (r .0, λ _ _. r .1)
 
@@ -148,7 +149,7 @@ loop-again c =
     let m = now (a .image) in
     let t = Gnu (a .at) (a .buckets) (a .first) (a .blooms) (a .shift) in
     let p = stepOk (isTable (a .b .span) (take (a .b .count) (a .b .segments))) m (a .symbols) (a .strings) t in
-    let st = gnu-step (isTable (a .b .span) (take (a .b .count) (a .b .segments))) m (a .symbols) (a .strings) (a .at) (a .buckets) (a .first) (a .blooms) (a .shift) (l .s) (c .before .before .before .before .before .table-off .result) (c .before .before .before .symbol-in .result) (c .before .before .before .before .before .table-off .ensures) (c .before .before .before .symbol-in .ensures) (c .before .before .before .before .if2 .left) (c .before .before .if3 .left) in
+    let st = gnu-step (isTable (a .b .span) (take (a .b .count) (a .b .segments))) m (a .symbols) (a .strings) (a .at) (a .buckets) (a .first) (a .blooms) (a .shift) (l .s) (c .before .before .before .before .before .link-quick .result) (c .before .before .before .symbol-quick .result) (c .before .before .before .before .before .link-quick .ensures) (c .before .before .before .symbol-quick .ensures) (c .before .before .before .before .if2 .left) (c .before .before .if3 .left) in
     (omega arith, omega arith, (omega arith, omega arith), gnu-turn m t p (every p (walk m t (fuel m t) (a .word))) (a .word) (l .s) (l .left) (l .inv .3) (c .before .u32-off .result) (c .before .before .before .before .before .before .before .before .loop-test .taken) (c .before .u32-off .ensures) st (ne-eqb _ _ (c .if4 .left)))
 
 returns-5 : tie.Need-returns-5 Inv-loop μ-loop
@@ -174,19 +175,19 @@ gnu-walk-spec =
     loop-holds
     sub-d
     is-marked-requires
-    sub-t28
+    sub-t30
     returns
-    mul-table-off
-    add-table-off
-    table-off-requires
+    mul-link-quick
+    add-link-quick
+    link-quick-requires
     returns-2
-    symbol-in-requires
+    symbol-quick-requires
     returns-3
     mul-u32-off
     add-u32-off
     u32-off-requires
-    sub-t33
-    add-t34
+    sub-t35
+    add-t36
     returns-4
     add-s
     sub-left

@@ -16,13 +16,13 @@ use Rattle.object.proofs.check.gnu_walks.Statement.{statement}
 use Rattle.object.proofs.check.gnu_walks.Tie as tie
 
 abbrev Inv-loop : tie.InvT-loop
-Inv-loop image b zeros symbols strings at buckets first blooms shift seen₀ step n i₀ seen i =
+Inv-loop image b zeros f symbols strings at buckets first blooms shift links seen₀ step n i₀ seen i =
     (i ≤ n)
     × (below (walkOk (isTable (b .span) (take (b .count) (b .segments))) image symbols strings (Gnu at buckets first blooms shift)) i ≡ true)
     × Marked seen step (λ d. Passes image (Gnu at buckets first blooms shift) (stepOk (isTable (b .span) (take (b .count) (b .segments))) image symbols strings (Gnu at buckets first blooms shift)) (first + d))
 
 abbrev μ-loop : tie.MeasureT-loop
-μ-loop image b zeros symbols strings at buckets first blooms shift seen₀ step n i₀ seen i =
+μ-loop image b zeros f symbols strings at buckets first blooms shift links seen₀ step n i₀ seen i =
     n - i
 
 loop-holds : tie.Need-loop-holds Inv-loop μ-loop
@@ -32,7 +32,7 @@ loop-holds c =
 
 gnu-bucket-requires : tie.Need-gnu-bucket-requires Inv-loop μ-loop
 gnu-bucket-requires c κs =
-    (search needs, c .before .before .before .before .pre .0, c .before .before .before .before .pre .1, c .before .before .loop .inv .2)
+    (search needs, c .before .before .before .before .pre .0, c .before .before .before .before .pre .1, c .before .before .loop .inv .2, c .before .before .before .before .pre .3, c .before .before .before .before .pre .4)
 
 returns : tie.Need-returns Inv-loop μ-loop
 returns c =

@@ -37,7 +37,7 @@ cast-s c = search needs
 
 sysv-walk-requires : tie.Need-sysv-walk-requires
 sysv-walk-requires c κs =
-    (search needs, c .before .before .before .before .pre .2, c .before .before .before .before .pre .3)
+    (search needs, c .before .before .before .before .pre .2, c .before .before .before .before .pre .3, c .before .before .before .before .pre .4)
 
 returns-2 : tie.Need-returns-2
 returns-2 c =

@@ -16,12 +16,12 @@ use Rattle.object.proofs.check.sysv_walk.Statement.{statement}
 use Rattle.object.proofs.check.sysv_walk.Tie as tie
 
 abbrev Inv-loop : tie.InvT-loop
-Inv-loop image b zeros symbols strings at buckets chains seen total word n most s₀ left₀ s left =
+Inv-loop image b zeros f symbols strings at buckets chains seen total word n most s₀ left₀ s left =
     (s < 2 ^ 32)
     × SysvAt image (SysV at buckets chains) (stepOk (isTable (b .span) (take (b .count) (b .segments))) image symbols strings (SysV at buckets chains)) chains word s left
 
 abbrev μ-loop : tie.MeasureT-loop
-μ-loop image b zeros symbols strings at buckets chains seen total word n most s₀ left₀ s left =
+μ-loop image b zeros f symbols strings at buckets chains seen total word n most s₀ left₀ s left =
     left
 
 loop-holds : tie.Need-loop-holds Inv-loop μ-loop
@@ -44,8 +44,8 @@ returns c =
 is-marked-requires : tie.Need-is-marked-requires Inv-loop μ-loop
 is-marked-requires c κs = search needs
 
-sub-t20 : tie.Need-sub-t20 Inv-loop μ-loop
-sub-t20 c = search needs
+sub-t21 : tie.Need-sub-t21 Inv-loop μ-loop
+sub-t21 c = search needs
 
 returns-2 : tie.Need-returns-2 Inv-loop μ-loop
 returns-2 c =
@@ -57,9 +57,9 @@ returns-2 c =
     let h = marked-use 1 (λ x. within m t p x (a .total) ≡ true) (l .s) (now (a .seen)) (c .before .before .before .before .before .before .before .pre .2) (c .before .before .is-marked .ensures (c .before .if2 .taken)) in
     (sysv-known m t p (a .chains) (a .word) (l .s) (l .left) (l .inv .1) (a .total) h (c .if3 .taken), omega arith, λ e. sysv-count m t p (a .chains) (a .word) (l .s) (l .left) (l .inv .1) (a .total) h)
 
-symbol-in-requires : tie.Need-symbol-in-requires Inv-loop μ-loop
-symbol-in-requires c κs =
-    (search needs, c .before .before .before .before .before .before .pre .1)
+symbol-quick-requires : tie.Need-symbol-quick-requires Inv-loop μ-loop
+symbol-quick-requires c κs =
+    (search needs, c .before .before .before .before .before .before .pre .1, c .before .before .before .before .before .before .pre .3)
 
 returns-3 : tie.Need-returns-3 Inv-loop μ-loop
 unfolding chainOk
@@ -69,7 +69,7 @@ returns-3 c =
     let m = now (a .image) in
     let t = SysV (a .at) (a .buckets) (a .chains) in
     let p = stepOk (isTable (a .b .span) (take (a .b .count) (a .b .segments))) m (a .symbols) (a .strings) t in
-    (sysv-fails m t p (a .chains) (a .word) (l .s) (l .left) (l .inv .1) (rw (lt-ltb (l .s) (a .chains) (c .before .before .before .before .if1 .left)) (sym (c .before .symbol-in .ensures) ∙ not-true _ (c .if4 .taken))), omega arith, never)
+    (sysv-fails m t p (a .chains) (a .word) (l .s) (l .left) (l .inv .1) (rw (lt-ltb (l .s) (a .chains) (c .before .before .before .before .if1 .left)) (sym (c .before .symbol-quick .ensures) ∙ not-true _ (c .if4 .taken))), omega arith, never)
 
 mul-u32-off : tie.Need-mul-u32-off Inv-loop μ-loop
 mul-u32-off c = search needs
@@ -86,11 +86,11 @@ add-u32-off-2 c = search needs
 u32-off-requires : tie.Need-u32-off-requires Inv-loop μ-loop
 u32-off-requires c κs = search needs
 
-sub-t26 : tie.Need-sub-t26 Inv-loop μ-loop
-sub-t26 c = search needs
+sub-t27 : tie.Need-sub-t27 Inv-loop μ-loop
+sub-t27 c = search needs
 
-add-t27 : tie.Need-add-t27 Inv-loop μ-loop
-add-t27 c = search needs
+add-t28 : tie.Need-add-t28 Inv-loop μ-loop
+add-t28 c = search needs
 
 returns-4 : tie.Need-returns-4 Inv-loop μ-loop
 unfolding chainOk
@@ -100,7 +100,7 @@ returns-4 c =
     let m = now (a .image) in
     let t = SysV (a .at) (a .buckets) (a .chains) in
     let p = stepOk (isTable (a .b .span) (take (a .b .count) (a .b .segments))) m (a .symbols) (a .strings) t in
-    let e : p (l .s) ≡ true = rw (lt-ltb (l .s) (a .chains) (c .before .before .before .before .before .before .if1 .left)) (sym (c .before .before .before .symbol-in .ensures) ∙ not-false _ (c .before .before .if4 .left)) in
+    let e : p (l .s) ≡ true = rw (lt-ltb (l .s) (a .chains) (c .before .before .before .before .before .before .if1 .left)) (sym (c .before .before .before .symbol-quick .ensures) ∙ not-false _ (c .before .before .if4 .left)) in
     let r = sysv-ends-at m t p (a .chains) (a .word) (l .s) (l .left) (l .inv .1) (c .before .u32-off .result) (c .before .before .before .before .before .before .before .loop-test .taken) (c .before .u32-off .ensures) e (eq-eqb _ _ (c .if5 .taken)) (a .total) in
     (r .0, omega (arith, l .inv .1 .fits), λ _. r .1)
 
@@ -121,7 +121,7 @@ loop-again c =
     let m = now (a .image) in
     let t = SysV (a .at) (a .buckets) (a .chains) in
     let p = stepOk (isTable (a .b .span) (take (a .b .count) (a .b .segments))) m (a .symbols) (a .strings) t in
-    let e : p (l .s) ≡ true = rw (lt-ltb (l .s) (a .chains) (c .before .before .before .before .before .before .if1 .left)) (sym (c .before .before .before .symbol-in .ensures) ∙ not-false _ (c .before .before .if4 .left)) in
+    let e : p (l .s) ≡ true = rw (lt-ltb (l .s) (a .chains) (c .before .before .before .before .before .before .if1 .left)) (sym (c .before .before .before .symbol-quick .ensures) ∙ not-false _ (c .before .before .if4 .left)) in
     (search needs, sysv-turn m t p (a .chains) (a .word) (l .s) (l .left) (l .inv .1) (c .before .u32-off .result) (c .before .before .before .before .before .before .before .loop-test .taken) (c .before .u32-off .ensures) e (ne-eqb _ _ (c .if5 .left)))
 
 returns-5 : tie.Need-returns-5 Inv-loop μ-loop
@@ -142,17 +142,17 @@ sysv-walk-spec =
     loop-holds
     returns
     is-marked-requires
-    sub-t20
+    sub-t21
     returns-2
-    symbol-in-requires
+    symbol-quick-requires
     returns-3
     mul-u32-off
     add-u32-off
     mul-u32-off-2
     add-u32-off-2
     u32-off-requires
-    sub-t26
-    add-t27
+    sub-t27
+    add-t28
     returns-4
     cast-s
     sub-left

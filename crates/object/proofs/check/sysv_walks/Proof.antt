@@ -16,13 +16,13 @@ use Rattle.object.proofs.check.sysv_walks.Statement.{statement}
 use Rattle.object.proofs.check.sysv_walks.Tie as tie
 
 abbrev Inv-loop : tie.InvT-loop
-Inv-loop image b zeros symbols strings at buckets chains seen₀ n total₀ i₀ seen total i =
+Inv-loop image b zeros f symbols strings at buckets chains seen₀ n total₀ i₀ seen total i =
     (i ≤ n) × (total ≤ chains)
     × (below (walkOk (isTable (b .span) (take (b .count) (b .segments))) image symbols strings (SysV at buckets chains)) i ≡ true)
     × Marked seen 1 (λ s. within image (SysV at buckets chains) (stepOk (isTable (b .span) (take (b .count) (b .segments))) image symbols strings (SysV at buckets chains)) s total ≡ true)
 
 abbrev μ-loop : tie.MeasureT-loop
-μ-loop image b zeros symbols strings at buckets chains seen₀ n total₀ i₀ seen total i =
+μ-loop image b zeros f symbols strings at buckets chains seen₀ n total₀ i₀ seen total i =
     n - i
 
 loop-holds : tie.Need-loop-holds Inv-loop μ-loop
@@ -32,7 +32,7 @@ loop-holds c =
 
 sysv-bucket-requires : tie.Need-sysv-bucket-requires Inv-loop μ-loop
 sysv-bucket-requires c κs =
-    (search needs, search needs, c .before .before .before .before .pre .0, c .before .before .loop .inv .3)
+    (search needs, search needs, c .before .before .before .before .pre .0, c .before .before .loop .inv .3, c .before .before .before .before .pre .2)
 
 returns : tie.Need-returns Inv-loop μ-loop
 returns c =
