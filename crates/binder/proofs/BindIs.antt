@@ -6,7 +6,7 @@ use mathlib.Core.List.{List, [], _∷_, _++_, map}
 use Prim.Native.Nat.{ℕ, zero, suc, _+_, _-_, _^_, _≤_, _<_}
 use native.Mathlib.Omega.{arith}
 use borrow.Author.Tests.{eq-eqb, ne-eqb, eqb-true, eqb-false, lt-ltb, le-ltb, le-leb, leb-true, leb-false}
-use lib.Dec.{eqb, leb, ltb}
+use lib.Dec.{leb, ltb}
 use lib.ListN.{length, getD, take, replicate, length-map}
 use Rattle.words.specs.Memory.{mem, tab}
 use Rattle.words.proofs.Slices.{tab-mem}
@@ -16,7 +16,7 @@ use Rattle.model.specs.Layout.{objsOf}
 use Rattle.model.proofs.OrderLaws.{decide}
 use Rattle.sheet.specs.Sheet.{Input, noInput, sheetOk, setOf, arenaOk, twinOf}
 use Rattle.binder.specs.Instance.{File, objectAt}
-use Rattle.binder.specs.Verdict.{Verdict, noFile, passed, refused, first, verdict, loadVerdict, orderVerdict}
+use Rattle.binder.specs.Verdict.{Verdict, noFile, passed, refused, first, loadVerdict, orderVerdict}
 use Rattle.binder.specs.Report.{orderWords, firstUndefined}
 use Rattle.binder.specs.SetOrder.{setOrder}
 use Rattle.binder.specs.Bind.{filesOf, namesOf, objectsOf, unless, prepareVerdict, allows, relocateVerdict, Outcome, outcome, outcomeOf, bindIn, bindOf}
@@ -29,12 +29,13 @@ use Rattle.model.specs.Order.{OnceEach}
 use Rattle.binder.proofs.OrderIs.{order-is, names-length}
 use Rattle.binder.specs.declared.Policy.{Policy}
 use Rattle.binder.specs.declared.prepare.Met.{Met}
+use Rattle.binder.specs.declared.prepare.Met.the-variants.{Passed, Refused}
 use Rattle.binder.specs.declared.order.Order.{Order}
 use Rattle.binder.specs.declared.report.Progress.{Progress}
 use Rattle.binder.proofs.OutcomeLaws.{first-passed, unless-passed}
 use Rattle.binder.proofs.SoundLaws.{count-is}
 use Rattle.binder.proofs.QueryLaws.{placed-is}
-use Rattle.binder.proofs.QueryIs.{zero-at, passed-of}
+use Rattle.binder.proofs.QueryIs.{zero-at}
 use Rattle.binder.proofs.Steady.{LoadedSet}
 use Rattle.binder.proofs.RelocatedIs as relocated
 use Rattle.binder.proofs.ReportFill as fills
@@ -50,14 +51,9 @@ pub settled :
     (size words : ℕ) (m : Met) (arena report arena′ report′ : List ℕ) → length arena′ ≡ size → length report′ ≡ words
     → (metBy m ≡ passed → (arena′ ≡ arena) × (report′ ≡ report ++ replicate (words - length report) 0))
     → settledOf m arena′ report′ ≡ outcomeOf size words (metBy m) arena report
-unfolding settledOf outcomeOf verdict
-settled size words m arena report arena′ report′ la lr same =
-    ⊎-elim
-    (λ (t : eqb (m .number) 0 ≡ true).
-    let s = same (rw t) in
-    rw (t, s .0, s .1))
-    (λ (t : eqb (m .number) 0 ≡ false). rw (t, la, lr))
-    (decide (eqb (m .number) 0))
+unfolding settledOf outcomeOf
+settled size words Passed arena report arena′ report′ la lr same = let s = same refl in rw (s .0, s .1)
+settled size words (Refused n k) arena report arena′ report′ la lr same = rw (la, lr)
 
 -- the same where the refusal is known
 pub settled-by :
@@ -150,17 +146,17 @@ bytes-of (o ∷ ls) (suc j) l = bytes-of ls j (omega arith)
 -- refusals 4 to 12
 pub load-refused :
     (os : List Input) (size address : ℕ) (policy : Policy) (words : ℕ) (m : Met) (a report : List ℕ) → metBy m ≡ loadVerdict size 0 0 (filesOf os)
-    → (m .number ≡ 0 → ⊥) → length a ≡ size → length report ≡ words
+    → (n k : ℕ) → m ≡ Refused n k → length a ≡ size → length report ≡ words
     → settledOf m a report
     ≡ bindIn (loadVerdict size 0 0 (filesOf os)) (filesOf os) (setOrder (filesOf os) (namesOf os)) size address policy words
-unfolding bindIn settledOf outcomeOf verdict
-load-refused os size address policy words m a report e ne la lr = rw (← e, ne-eqb (m .number) 0 ne, la, lr)
+unfolding bindIn settledOf outcomeOf
+load-refused os size address policy words m a report e n k z la lr = rw (sym e ∙ ap metBy z, z, la, lr)
 
 -- a set that was loaded
 module _
     (address size : ℕ) (table : List ℕ) (h p : Input) (ls : List Input) (arena a : List ℕ) (r : Met)
     (ready : Ready (h ∷ (p ∷ ls)) (length ls + 2) arena address) (len : length arena ≡ size) (kept : length a ≡ length arena)
-    (made : Prepared (filesOf (h ∷ (p ∷ ls))) arena a table r) (z : r .number ≡ 0)
+    (made : Prepared (filesOf (h ∷ (p ∷ ls))) arena a table r) (z : r ≡ Passed)
   where
     abbrev fs : List File
     fs = map fileOf ls
@@ -189,7 +185,7 @@ module _
     loaded =
         record {
           others = λ k l g. not-host k l (omega (arith, many));
-          loads = subst (λ (n : ℕ). loadVerdict n 0 0 (hostFile h ∷ (fileOf p ∷ fs)) ≡ passed) len (sym (made .met) ∙ passed-of r z);
+          loads = subst (λ (n : ℕ). loadVerdict n 0 0 (hostFile h ∷ (fileOf p ∷ fs)) ≡ passed) len (sym (made .met) ∙ ap metBy z);
           seats = made .table z;
           end = omega (arith, ready .end);
           small = omega (arith, ready .small);
@@ -238,7 +234,7 @@ module _
 -- whatever objects the table of parts names
 pub bind-is :
     (os : List Input) (count : ℕ) (arena a table : List ℕ) (address : ℕ) (r : Met) → Ready os count arena address → length a ≡ length arena
-    → Prepared (filesOf os) arena a table r → r .number ≡ 0 → (order : Order) → Arranged os count a table order
+    → Prepared (filesOf os) arena a table r → r ≡ Passed → (order : Order) → Arranged os count a table order
     → (policy : Policy) (report : List ℕ) → report ≡ replicate (length report) 0
     → (q : Progress) (a′ report′ : List ℕ)
     → left q a′ report′ ≡ runOrder address table count os (take (order .count) (order .list)) (left started a report)
@@ -263,21 +259,21 @@ module _
   where
     pub call-one :
         sheetOk sheet (length bytes) ≡ false
-        → settledOf (record { number = 1; object = 0 }) a report ≡ bindOf sheet bytes size address policy words
+        → settledOf (Refused 1 0) a report ≡ bindOf sheet bytes size address policy words
     unfolding bindOf bindIn prepareVerdict unless outcomeOf settledOf
     call-one e = rw (e, la, lr)
 
     module _ (e : sheetOk sheet (length bytes) ≡ true) where
       pub call-two :
           arenaOk size address ≡ false
-          → settledOf (record { number = 2; object = 0 }) a report ≡ bindOf sheet bytes size address policy words
+          → settledOf (Refused 2 0) a report ≡ bindOf sheet bytes size address policy words
       unfolding bindOf bindIn prepareVerdict unless outcomeOf settledOf
       call-two g = rw (e, g, la, lr)
 
       module _ (g : arenaOk size address ≡ true) where
         pub call-three :
             (t : ℕ) → t ≡ twinOf (setOf sheet bytes) → (t ≡ 0 → ⊥)
-            → settledOf (record { number = 3; object = t }) a report ≡ bindOf sheet bytes size address policy words
+            → settledOf (Refused 3 t) a report ≡ bindOf sheet bytes size address policy words
         unfolding bindOf bindIn prepareVerdict unless outcomeOf settledOf
         call-three t q ne = rw (e, g, ← q, ne-eqb t 0 ne, la, lr)
 

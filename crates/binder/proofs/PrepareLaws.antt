@@ -1,5 +1,5 @@
 -- Loading the objects of a set, one after another: the turn of the loop and its ends. Assumes nothing.
-use mathlib.Core.Path.{_≡_, refl, sym, ap, _∙_}
+use mathlib.Core.Path.{_≡_, refl, sym, ap, _∙_, subst}
 use mathlib.Core.Bool.{Bool, true, false}
 use mathlib.Core.List.{List, [], _∷_, map}
 use Prim.Native.Nat.{ℕ, zero, suc, _+_, _-_, _*_, _≤_, _<_}
@@ -28,10 +28,13 @@ use Rattle.binder.specs.Instance.{File, recordOf}
 use Rattle.binder.specs.Verdict.{passed, refused, first, verdict, loadVerdict, noFile}
 use Rattle.binder.specs.Bind.{filesOf}
 use Rattle.scope.specs.Seats.{seatAt, Filtered}
-use Rattle.binder.specs.Prepared.{metBy, seatOf, placeFiles, Seated, LoadedAt, Prepared}
+use Rattle.binder.specs.Prepared.{metBy, seatOf, placeFiles, Seated, SeatedAt, LoadedAt, Prepared}
 use Rattle.scope.specs.declared.seats.Seat.{Seat}
 use Rattle.binder.specs.declared.prepare.Met.{Met}
-use Rattle.binder.specs.declared.prepare.Placed.{Placed}
+use Rattle.binder.specs.declared.prepare.Met.the-variants.{Passed, Refused}
+use Rattle.binder.specs.declared.prepare.Loaded.{Loaded}
+use Rattle.binder.specs.declared.prepare.Loaded as loads
+use Rattle.binder.proofs.OutcomeLaws.{refused-not}
 
 -- ---- one object
 
@@ -68,32 +71,37 @@ part-length : (a : List ℕ) (off : ℕ) → length (take (length a - off) (drop
 part-length a off = simp (length-take, length-drop) (omega arith)
 
 -- an object loaded into the part of the arena from `off` on
-pub loaded-at :
-    (host : Bool) (file : List ℕ) (off : ℕ) (a ys : List ℕ) (r : Read) (v : View) → off ≤ length a
-    → LoadedBy host file (take (length a - off) (drop off a)) ys r → v ≡ viewOf (heldBy (r .object))
-    → LoadedAt host file off a (putMid off (length a - off) a ys)
-    (record { refusal = r .refusal; seat = record { offset = off; span = r .object .span; view = v } })
-loaded-at host file off a ys r v l h e =
-    record {
-      refusal = h .refusal ∙ ap (λ (n : ℕ). objectRefusal host n file) (part-length a off);
-      seat = λ z. seat (h .object z);
-      arena = λ z.
-          ap mem (put-tail a off 0 (objectSpan host file) (objectBytes host file) l (loaded-part host file _ ys r h z))
-          ∙ (mem-patch a (off + 0) (objectSpan host file) (objectBytes host file) (omega (arith, room z))
-          ∙ ap (λ (n : ℕ). write (mem a) n (objectSpan host file) (objectBytes host file)) (add-zero off));
-      fits = λ z. omega (arith, room z);
-    }
+module _
+    (host : Bool) (file : List ℕ) (off : ℕ) (a ys : List ℕ) (r : Read) (h : LoadedBy host file (take (length a - off) (drop off a)) ys r)
   where
-    room : r .refusal ≡ 0 → objectSpan host file ≤ length a - off
-    room z = omega (arith, h .fits z, part-length a off)
+    pub refusal-at : r .refusal ≡ objectRefusal host (length a - off) file
+    refusal-at = h .refusal ∙ ap (λ (n : ℕ). objectRefusal host n file) (part-length a off)
 
-    seat :
-        heldBy (r .object) ≡ objectRecord host file
-        → _≡_ {A = Seat} (record { offset = off; span = r .object .span; view = v }) (seatOf (record { host = host; bytes = file }) off)
-    seat q =
-        let s : r .object .span ≡ objectSpan host file = ap (λ (x : Record). x .span) q ∙ record-span host file in
-        let w : v ≡ viewOf (objectRecord host file) = e ∙ ap viewOf q in
-        rw (s, w)
+    pub seated-at :
+        (v : View) → off ≤ length a → r .refusal ≡ 0 → v ≡ viewOf (heldBy (r .object))
+        → LoadedAt host file off a (putMid off (length a - off) a ys)
+        (loads.the-variants.At (record { offset = off; span = r .object .span; view = v }))
+    seated-at v l z e =
+        record {
+          refusal = sym refusal-at ∙ z;
+          seat = seat (h .object z);
+          arena =
+              ap mem (put-tail a off 0 (objectSpan host file) (objectBytes host file) l (loaded-part host file _ ys r h z))
+              ∙ (mem-patch a (off + 0) (objectSpan host file) (objectBytes host file) (omega (arith, room))
+              ∙ ap (λ (n : ℕ). write (mem a) n (objectSpan host file) (objectBytes host file)) (add-zero off));
+          fits = omega (arith, room);
+        }
+      where
+        room : objectSpan host file ≤ length a - off
+        room = omega (arith, h .fits z, part-length a off)
+
+        seat :
+            heldBy (r .object) ≡ objectRecord host file
+            → _≡_ {A = Seat} (record { offset = off; span = r .object .span; view = v }) (seatOf (record { host = host; bytes = file }) off)
+        seat q =
+            let s : r .object .span ≡ objectSpan host file = ap (λ (x : Record). x .span) q ∙ record-span host file in
+            let w : v ≡ viewOf (objectRecord host file) = e ∙ ap viewOf q in
+            rw (s, w)
 
 -- ---- the loop: what is left to load gives, after what was loaded, the whole
 
@@ -125,40 +133,49 @@ module _ (os : List Input) (a₀ a table : List ℕ) (off k : ℕ) (h : Loading 
         drop-cons (filesOf os) k noFile (omega (arith, files-length os))
         ∙ ap (λ (f : File). f ∷ drop (suc k) (filesOf os)) (file-at os k l)
 
-    module _ (a′ : List ℕ) (p : Placed) (r : LoadedAt (eqb k 0) (getD os k noInput .file) off a a′ p) where
-      pub load-fail : (p .refusal ≡ 0 → ⊥) → (t : List ℕ) → Prepared (filesOf os) a₀ a′ t (record { number = p .refusal; object = k })
+    module _ (a′ : List ℕ) (p : Loaded) (r : LoadedAt (eqb k 0) (getD os k noInput .file) off a a′ p) where
+      pub load-fail : (n : ℕ) → p ≡ loads.the-variants.Refused n → (t : List ℕ) → Prepared (filesOf os) a₀ a′ t (Refused n k)
       unfolding loadVerdict verdict
-      load-fail ne t =
+      load-fail n e t =
+          let g : (n ≡ objectRefusal (eqb k 0) (length a - off) (getD os k noInput .file)) × (n ≡ 0 → ⊥) =
+          subst (λ (x : Loaded). LoadedAt (eqb k 0) (getD os k noInput .file) off a a′ x) e r in
           record {
-            met =
-                rw (ne-eqb (p .refusal) 0 ne)
-                (sym (h .met ∙ rw (left, ← h .same, ← r .refusal, ne-eqb (p .refusal) 0 ne)));
-            arena = λ z. absurd (ne z);
-            table = λ z. absurd (ne z);
-            filtered = λ z. absurd (ne z);
+            met = sym (h .met ∙ rw (left, ← h .same, ← g .0, ne-eqb n 0 (g .1)));
+            arena = λ z. refused-not n k (ap metBy z);
+            table = λ z. refused-not n k (ap metBy z);
+            filtered = λ z. refused-not n k (ap metBy z);
           }
 
+      seated : (s : Seat) → p ≡ loads.the-variants.At s → SeatedAt (eqb k 0) (getD os k noInput .file) off a a′ s
+      seated s e = subst (λ (x : Loaded). LoadedAt (eqb k 0) (getD os k noInput .file) off a a′ x) e r
+
+      -- its span fits
+      pub load-fits : (s : Seat) → p ≡ loads.the-variants.At s → off + s .span ≤ length a
+      load-fits s e = let g = seated s e in omega (arith, g .fits, ap (λ (x : Seat). x .span) (g .seat))
+
       pub load-turn :
-          p .refusal ≡ 0 → length a′ ≡ length a → (t : List ℕ) → seatAt t k ≡ p .seat → ((j : ℕ) → (j ≡ k → ⊥) → seatAt t j ≡ seatAt table j)
-          → (Filtered table k → Filtered t (k + 1)) → Loading os a₀ a′ t (off + p .seat .span) (k + 1)
+          (s : Seat) → p ≡ loads.the-variants.At s → length a′ ≡ length a → (t : List ℕ) → seatAt t k ≡ s
+          → ((j : ℕ) → (j ≡ k → ⊥) → seatAt t j ≡ seatAt table j) → (Filtered table k → Filtered t (k + 1))
+          → Loading os a₀ a′ t (off + s .span) (k + 1)
       unfolding loadVerdict verdict placeFiles Seated
-      load-turn z len t here others filters =
-          let span : p .seat .span ≡ objectSpan (eqb k 0) (getD os k noInput .file) = ap (λ (s : Seat). s .span) (r .seat z) in
+      load-turn s e len t here others filters =
+          let g = seated s e in
+          let span : s .span ≡ objectSpan (eqb k 0) (getD os k noInput .file) = ap (λ (x : Seat). x .span) (g .seat) in
           let rest : drop (k + 1) (filesOf os) ≡ drop (suc k) (filesOf os) = ap (λ (n : ℕ). drop n (filesOf os)) (add-one k) in
           record {
             same = len ∙ h .same;
-            offset = omega (arith, r .fits z);
+            offset = omega (arith, g .fits);
             number = omega arith;
-            met = h .met ∙ rw (left, ← h .same, ← r .refusal, z, ← span, add-one k);
-            placed = h .placed ∙ rw (left, r .arena z, span, add-one k);
-            seated = λ u same s.
-                h .seated u (λ j g. same j (omega arith) ∙ others j (λ e. omega arith))
-                (rw left (same k (omega arith) ∙ (here ∙ r .seat z), rw (rest, span) at s));
+            met = h .met ∙ rw (left, ← h .same, g .refusal, ← span, add-one k);
+            placed = h .placed ∙ rw (left, g .arena, span, add-one k);
+            seated = λ u same q.
+                h .seated u (λ j i. same j (omega arith) ∙ others j (λ e. omega arith))
+                (rw left (same k (omega arith) ∙ (here ∙ g .seat), rw (rest, span) at q));
             filtered = filters (h .filtered);
           }
 
-  pub load-finish : k ≡ length os → Prepared (filesOf os) a₀ a table (record { number = 0; object = 0 })
-  unfolding loadVerdict verdict placeFiles Seated
+  pub load-finish : k ≡ length os → Prepared (filesOf os) a₀ a table Passed
+  unfolding loadVerdict placeFiles Seated
   load-finish e =
       let n : drop k (filesOf os) ≡ [] = rw (e, ← files-length os) (drop-length (filesOf os)) in
       record {
@@ -170,6 +187,6 @@ module _ (os : List Input) (a₀ a table : List ℕ) (off k : ℕ) (h : Loading 
 
 -- the words of every filter of a set that was loaded
 pub all-filtered :
-    (os : List Input) (count : ℕ) (before after table : List ℕ) (r : Met) → Prepared (filesOf os) before after table r → r .number ≡ 0
+    (os : List Input) (count : ℕ) (before after table : List ℕ) (r : Met) → Prepared (filesOf os) before after table r → r ≡ Passed
     → length os ≡ count → Filtered table count
 all-filtered os count before after table r made z many = λ k l. made .filtered z k (omega (arith, files-length os))

@@ -18,7 +18,7 @@ use Rattle.model.specs.Layout.{objsOf}
 use Rattle.sheet.specs.Sheet.{Input, sheetOk, setOf, arenaOk, twinOf}
 use Rattle.sheet.specs.Sheet as sheets
 use Rattle.binder.specs.Instance.{File, objectAt}
-use Rattle.binder.specs.Verdict.{passed, refused, first, verdict, loadVerdict}
+use Rattle.binder.specs.Verdict.{passed, refused, first, loadVerdict}
 use Rattle.binder.specs.Bind.{filesOf, objectsOf, unless, prepareVerdict, replied, replyOf, repliedOf, queryOf}
 use Rattle.scope.specs.ScopeCode.{resolveSeats}
 use Rattle.binder.specs.ScopeModel.{scopedOf}
@@ -27,7 +27,9 @@ use Rattle.binder.specs.Asked.{askOf, Ready}
 use Rattle.binder.specs.declared.Reply.{Reply}
 use Rattle.binder.specs.declared.Reply.the-variants.{Refused}
 use Rattle.scope.specs.declared.scope.Scoped.{Scoped}
+use Rattle.binder.specs.declared.prepare.Met as mets
 use Rattle.binder.specs.declared.prepare.Met.{Met}
+use Rattle.binder.specs.declared.prepare.Met.the-variants.{Passed}
 use Rattle.binder.proofs.SoundLaws.{count-is}
 use Rattle.binder.proofs.ScopeIs.{resolve-is}
 use Rattle.binder.proofs.QueryLaws.{placed-is, seated-for}
@@ -42,32 +44,28 @@ zero-at (suc n) (suc i) = zero-at n i
 
 module _ (os : List Input) (size address requester : ℕ) (name : List ℕ) where
   pub ask-refused :
-      (r : Met) → metBy r ≡ loadVerdict size 0 0 (filesOf os) → (r .number ≡ 0 → ⊥)
-      → askOf os size address requester name ≡ replied (Refused (r .number) (r .object)) (replicate size 0)
-  unfolding askOf repliedOf verdict
-  ask-refused r e ne = rw (← e, ne-eqb (r .number) 0 ne)
+      (r : Met) → metBy r ≡ loadVerdict size 0 0 (filesOf os) → (n k : ℕ) → r ≡ mets.the-variants.Refused n k
+      → askOf os size address requester name ≡ replied (Refused n k) (replicate size 0)
+  unfolding askOf repliedOf
+  ask-refused r e n k z = rw (sym e ∙ ap metBy z)
 
   pub ask-thirteen :
-      (r : Met) → metBy r ≡ loadVerdict size 0 0 (filesOf os) → r .number ≡ 0 → length os ≤ requester
+      (r : Met) → metBy r ≡ loadVerdict size 0 0 (filesOf os) → r ≡ Passed → length os ≤ requester
       → askOf os size address requester name ≡ replied (Refused 13 0) (replicate size 0)
-  unfolding askOf repliedOf verdict unless
-  ask-thirteen r e z l = rw (← e, eq-eqb (r .number) 0 z, le-ltb requester (length os) l)
+  unfolding askOf repliedOf unless
+  ask-thirteen r e z l = rw (sym e ∙ ap metBy z, le-ltb requester (length os) l)
 
   pub ask-found :
-      (r : Met) → metBy r ≡ loadVerdict size 0 0 (filesOf os) → r .number ≡ 0 → requester < length os
+      (r : Met) → metBy r ≡ loadVerdict size 0 0 (filesOf os) → r ≡ Passed → requester < length os
       → askOf os size address requester name
       ≡ replied (replyOf (resolve (objectsOf address (filesOf os)) requester name)) (tab size (placed (objectsOf address (filesOf os))))
-  unfolding askOf repliedOf verdict unless
-  ask-found r e z l = rw (← e, eq-eqb (r .number) 0 z, lt-ltb requester (length os) l)
-
-pub passed-of : (r : Met) → r .number ≡ 0 → metBy r ≡ passed
-unfolding verdict
-passed-of r z = rw (eq-eqb (r .number) 0 z)
+  unfolding askOf repliedOf unless
+  ask-found r e z l = rw (sym e ∙ ap metBy z, lt-ltb requester (length os) l)
 
 -- the objects that were loaded answer as the model says
 pub asked :
     (os : List Input) (count : ℕ) (arena arena′ table : List ℕ) (address requester : ℕ) (name : List ℕ) (r : Met)
-    → Ready os count arena address → Prepared (filesOf os) arena arena′ table r → r .number ≡ 0 → requester < count
+    → Ready os count arena address → Prepared (filesOf os) arena arena′ table r → r ≡ Passed → requester < count
     → length arena′ ≡ length arena
     → (x : Reply) → x ≡ replyOf (scopedOf (resolveSeats address arena′ table count requester name (gnuHash name) (elfHash name)))
     → replied x arena′ ≡ askOf os (length arena) address requester name
@@ -110,7 +108,7 @@ asked (h ∷ (p ∷ ls)) count arena arena′ table address requester name r rea
         let n : length fs ≡ length ls = length-map ls (λ (o : Input). record { host = false; bytes = o .file }) in
         let c : count ≡ objects.count S = omega (arith, count-is address (length arena) hf pf fs, ready .many) in
         resolve-is address arena′ table name S count c
-        (seated-for address (length arena) table hf pf fs arena′ (mem arena) len (omega (arith, ready .end)) (sym (made .met) ∙ passed-of r z)
+        (seated-for address (length arena) table hf pf fs arena′ (mem arena) len (omega (arith, ready .end)) (sym (made .met) ∙ ap metBy z)
         (made .table z) (made .arena z))
         requester l
 

@@ -1,26 +1,27 @@
 -- Loading the objects of a set, one after another: what the loop does, in its own order. Document 01, "Placed bytes": "Host at arena offset 0,
 -- then each object at the next free offset". `Bind` has what it comes to. Assumes nothing.
-use mathlib.Core.Bool.{Bool, true, false}
+use mathlib.Core.Bool.{Bool}
 use mathlib.Core.List.{List, [], _∷_}
 use mathlib.Core.Path.{_≡_}
 use Prim.Native.Nat.{ℕ, _+_, _-_, _≤_}
-use lib.Dec.{eqb}
-use lib.ListN.{length, getD}
-use Rattle.words.specs.Choice.{pick}
+use lib.ListN.{length}
 use Rattle.words.specs.Memory.{Mem, mem, write}
 use Rattle.object.specs.Placed.{objectSpan, objectBytes}
 use Rattle.object.specs.Record.{viewOf}
 use Rattle.object.specs.Loaded.{objectRefusal}
 use Rattle.binder.specs.Instance.{File, recordOf}
-use Rattle.binder.specs.Verdict.{Verdict, loadVerdict, verdict}
+use Rattle.binder.specs.Verdict.{Verdict, passed, refused, loadVerdict}
 use Rattle.scope.specs.Seats.{seatAt, Filtered}
 use Rattle.scope.specs.declared.seats.Seat.{Seat}
 use Rattle.binder.specs.declared.prepare.Met.{Met}
-use Rattle.binder.specs.declared.prepare.Placed.{Placed}
+use Rattle.binder.specs.declared.prepare.Met.the-variants.{Passed, Refused}
+use Rattle.binder.specs.declared.prepare.Loaded.{Loaded}
+use Rattle.binder.specs.declared.prepare.Loaded as loads
 
--- the refusal that the code met; number 0 is none
+-- the refusal that the code met, or none
 abbrev pub metBy : Met → Verdict
-metBy r = verdict (r .number) (r .object)
+metBy Passed = passed
+metBy (Refused n k) = refused n k
 
 -- the seat of a file at an offset
 abbrev pub seatOf : File → ℕ → Seat
@@ -37,16 +38,21 @@ unfoldable pub Seated : List ℕ → ℕ → ℕ → List File → Type 0
 Seated table k off [] = Unit {0}
 Seated table k off (f ∷ fs) = (seatAt table k ≡ seatOf f off) × Seated table (k + 1) (off + objectSpan (f .host) (f .bytes)) fs
 
+-- a file of which no refusal was met, placed at an offset: its seat, and what it leaves
+pub record SeatedAt (host : Bool) (file : List ℕ) (off : ℕ) (before after : List ℕ) (s : Seat) : Type 0 where
+  pub refusal : objectRefusal host (length before - off) file ≡ 0
+  pub seat : s ≡ seatOf (record { host = host; bytes = file }) off
+  pub arena : mem after ≡ write (mem before) off (objectSpan host file) (objectBytes host file)
+  pub fits : off + objectSpan host file ≤ length before
+
 -- what loading a file at an offset answers and leaves
-pub record LoadedAt (host : Bool) (file : List ℕ) (off : ℕ) (before after : List ℕ) (r : Placed) : Type 0 where
-  pub refusal : r .refusal ≡ objectRefusal host (length before - off) file
-  pub seat : r .refusal ≡ 0 → r .seat ≡ seatOf (record { host = host; bytes = file }) off
-  pub arena : r .refusal ≡ 0 → mem after ≡ write (mem before) off (objectSpan host file) (objectBytes host file)
-  pub fits : r .refusal ≡ 0 → off + objectSpan host file ≤ length before
+abbrev pub LoadedAt : Bool → List ℕ → ℕ → List ℕ → List ℕ → Loaded → Type 0
+LoadedAt host file off before after (loads.the-variants.Refused n) = (n ≡ objectRefusal host (length before - off) file) × (n ≡ 0 → ⊥)
+LoadedAt host file off before after (loads.the-variants.At s) = SeatedAt host file off before after s
 
 -- what loading a list of files leaves
 pub record Prepared (files : List File) (before after seats : List ℕ) (r : Met) : Type 0 where
   pub met : metBy r ≡ loadVerdict (length before) 0 0 files
-  pub arena : r .number ≡ 0 → mem after ≡ placeFiles files 0 (mem before)
-  pub table : r .number ≡ 0 → Seated seats 0 0 files
-  pub filtered : r .number ≡ 0 → Filtered seats (length files)
+  pub arena : r ≡ Passed → mem after ≡ placeFiles files 0 (mem before)
+  pub table : r ≡ Passed → Seated seats 0 0 files
+  pub filtered : r ≡ Passed → Filtered seats (length files)

@@ -4,9 +4,7 @@ use mathlib.Core.Bool.{Bool, true, false, not}
 use mathlib.Core.List.{List, _++_}
 use mathlib.Core.Path.{_≡_}
 use Prim.Native.Nat.{ℕ, _-_}
-use lib.Dec.{eqb}
 use lib.ListN.{length, replicate}
-use Rattle.words.specs.Choice.{pick}
 use Rattle.words.specs.Memory.{tab}
 use Rattle.model.specs.Relocation.{bound}
 use Rattle.sheet.specs.Sheet.{Input, setOf}
@@ -18,6 +16,7 @@ use Rattle.binder.specs.Prepared.{metBy}
 use Rattle.binder.specs.declared.Policy.{Policy}
 use Rattle.binder.specs.declared.Answer as answers
 use Rattle.binder.specs.declared.prepare.Met.{Met}
+use Rattle.binder.specs.declared.prepare.Met.the-variants.{Passed, Refused}
 use Rattle.binder.specs.declared.report.Progress.{Progress}
 
 -- 14 to 18, then 19, then 20
@@ -28,9 +27,9 @@ endsBy policy p =
 
 -- the answer; a refusal leaves zeros
 unfoldable pub settledOf : Met → List ℕ → List ℕ → Outcome
-settledOf m arena report =
-    pick (eqb (m .number) 0) (outcome answers.the-variants.Bound arena report)
-    (outcome (answers.the-variants.Refused (m .number) (m .object)) (replicate (length arena) 0) (replicate (length report) 0))
+settledOf Passed arena report = outcome answers.the-variants.Bound arena report
+settledOf (Refused n k) arena report =
+    outcome (answers.the-variants.Refused n k) (replicate (length arena) 0) (replicate (length report) 0)
 
 -- what is left of a set that passed refusals 1 to 3: settled, it is `bindIn`
 abbrev pub BoundSet : List Input → List ℕ → ℕ → Policy → List ℕ → List ℕ → List ℕ → Met → Type 0

@@ -38,27 +38,24 @@ fn end(p: Progress, policy: Policy) -> Met
     ensures { λ r. ⌜ metBy r ≡ endsBy policy p ⌝ }
 {
     if p.refusal != 0 {
-        return Met {
+        return Met::Refused {
             number: p.refusal,
             object: p.object,
         };
     }
     if !allows_undefined(policy, p.undefined) {
-        return Met {
+        return Met::Refused {
             number: 19,
             object: p.undefined,
         };
     }
     if p.full {
-        return Met {
+        return Met::Refused {
             number: 20,
             object: 0,
         };
     }
-    Met {
-        number: 0,
-        object: 0,
-    }
+    Met::Passed
 }
 
 // Refusals 4 to 20 of the objects that the table of parts names, in an arena and a report of zeros.
@@ -75,9 +72,9 @@ fn bind_set(
 {
     let mut table = [0u64; 1024];
     let m = crate::prepare::load_all(bytes, parts, arena, &mut table);
-    if m.number != 0 {
+    let Met::Passed = m else {
         return m;
-    }
+    };
     let order = crate::needs::order_of(bytes, parts, arena, &table);
     let p = crate::relocate::run_order(bytes, parts, arena, report, &table, address, order);
     end(p, policy)
@@ -97,13 +94,13 @@ fn try_bind(
 {
     let n = bytes.len();
     if !sheet::sheet::sheet_ok(sheet, n) {
-        return Met {
+        return Met::Refused {
             number: 1,
             object: 0,
         };
     }
     if !sheet::sheet::arena_ok(arena.len(), address) {
-        return Met {
+        return Met::Refused {
             number: 2,
             object: 0,
         };
@@ -111,7 +108,7 @@ fn try_bind(
     let parts = sheet::sheet::parts_of(sheet, n);
     let t = sheet::sheet::twin(bytes, parts);
     if t != 0 {
-        return Met {
+        return Met::Refused {
             number: 3,
             object: t as u32,
         };
@@ -123,14 +120,14 @@ fn try_bind(
 fn settle(m: Met, arena: &mut [u8], report: &mut [u32]) -> Answer
     ensures { λ r. ⌜ outcome r (now (arena .exit)) (now (report .exit)) ≡ settledOf m (now (arena .entry)) (now (report .entry)) ⌝ }
 {
-    if m.number == 0 {
+    let Met::Refused { number, object } = m else {
         return Answer::Bound;
-    }
+    };
     sheet::wipe::clear(arena);
     sheet::wipe::clear_words(report);
     Answer::Refused {
-        number: m.number,
-        object: m.object,
+        number: number,
+        object: object,
     }
 }
 

@@ -8,24 +8,28 @@ ghost use Rattle.binder.specs.Prepared.{LoadedAt, Prepared};
 use scope::seats::Seat;
 use sheet::sheet::Parts;
 
-// A refusal that was met, with its object; number 0 is none.
-pub struct Met {
-    pub number: u32,
-    pub object: u32,
+// The checks of a set: passed, or the first refusal with its object.
+pub enum Met {
+    Passed,
+    Refused { number: u32, object: u32 },
 }
 
-// One object: its refusal, or 0 with its seat.
-pub struct Placed {
-    pub refusal: u32,
-    pub seat: Seat,
+// One object: its refusal, or its seat.
+pub enum Loaded {
+    Refused(u32),
+    At(Seat),
 }
 
 // Loads an object at the offset `off`, in the part of the arena from there to its end.
-fn load_at(arena: &mut [u8], off: usize, file: &[u8], host: bool) -> Placed
+fn load_at(arena: &mut [u8], off: usize, file: &[u8], host: bool) -> Loaded
     requires { ⌜ off ≤ length (now arena) ⌝ }
     ensures { λ r. ⌜ LoadedAt host (now (file .entry)) off (now (arena .entry)) (now (arena .exit)) r ⌝ }
 {
     let r = object::object_data::load(&mut arena[off..], file, host);
+    let number = r.refusal;
+    if number != 0 {
+        return Loaded::Refused(number);
+    }
     let o = r.object;
     let view = object::dynamic_fields::view_of(o);
     let seat = Seat {
@@ -33,10 +37,7 @@ fn load_at(arena: &mut [u8], off: usize, file: &[u8], host: bool) -> Placed
         span: o.span,
         view: view,
     };
-    Placed {
-        refusal: r.refusal,
-        seat: seat,
-    }
+    Loaded::At(seat)
 }
 
 // Loads the objects that the table of parts names, one after another, and fills the table of seats.
@@ -50,20 +51,19 @@ pub(crate) fn load_all(bytes: &[u8], parts: Parts, arena: &mut [u8], table: &mut
     while k < count {
         let file = sheet::sheet::file_of(bytes, parts, k);
         let p = load_at(arena, off, file, k == 0);
-        let number = p.refusal;
-        if number != 0 {
-            return Met {
-                number: number,
-                object: k as u32,
-            };
+        match p {
+            Loaded::Refused(number) => {
+                return Met::Refused {
+                    number: number,
+                    object: k as u32,
+                };
+            }
+            Loaded::At(s) => {
+                scope::seats::put_seat(table, k, s);
+                off += s.span;
+                k += 1;
+            }
         }
-        let s = p.seat;
-        scope::seats::put_seat(table, k, s);
-        off += s.span;
-        k += 1;
     }
-    Met {
-        number: 0,
-        object: 0,
-    }
+    Met::Passed
 }

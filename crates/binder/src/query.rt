@@ -7,6 +7,7 @@ ghost use Rattle.binder.specs.ScopeModel.{scopedOf};
 ghost use Rattle.binder.specs.Bind.{replied, replyOf, queryOf};
 ghost use Rattle.binder.specs.Asked.{askOf, Ready};
 use crate::Reply;
+use crate::prepare::Met;
 use scope::scope::Scoped;
 use sheet::sheet::Parts;
 
@@ -44,9 +45,7 @@ fn ask_set(
     let count = parts.count;
     let mut table = [0u64; 1024];
     let m = crate::prepare::load_all(bytes, parts, arena, &mut table);
-    let number = m.number;
-    let object = m.object;
-    if number != 0 {
+    if let Met::Refused { number, object } = m {
         sheet::wipe::clear(arena);
         return Reply::Refused {
             number: number,

@@ -1,18 +1,13 @@
 -- `binder::prepare::load_all` meets its contract. Assumes nothing.
-use Rattle.scope.specs.declared.seats.Seat.{Seat}
-use Prim.Native.Nat.{_^_}
-use Rattle.binder.proofs.LoopLaws.{counts-down}
-use borrow.Author.Needs.{needs}
-use Rattle.binder.proofs.PrepareLaws.{Loading, load-begin, load-fail, load-turn, load-finish}
-use Rattle.binder.specs.Prepared.{LoadedAt}
-use Rattle.sheet.specs.Parts.{inputsIn}
-use Rattle.sheet.specs.Sheet.{noInput}
-use lib.ListN.{length, getD}
-use lib.Dec.{eqb}
-use denote.Ref.{now}
+use mathlib.Core.Path.{_≡_, refl, sym, _∙_}
+use Prim.Native.Nat.{_+_, _-_, _^_, _≤_, _<_}
 use native.Mathlib.Omega.{arith}
-use Prim.Native.Nat.{ℕ, _+_, _-_, _≤_, _<_}
-use mathlib.Core.Path.{_≡_, refl, sym, ap, _∙_, subst}
+use denote.Ref.{now}
+use lib.ListN.{length}
+use Rattle.sheet.specs.Parts.{inputsIn}
+use Rattle.binder.proofs.PrepareLaws.{Loading, load-begin, load-fail, load-fits, load-turn, load-finish}
+use borrow.Author.Needs.{needs}
+use Rattle.binder.proofs.LoopLaws.{counts-down}
 use Rattle.binder.proofs.prepare.load_all.Statement.{statement}
 use Rattle.binder.proofs.prepare.load_all.Tie as tie
 use Rattle.binder.proofs.prepare.load_all.Reads as reads
@@ -40,6 +35,9 @@ load-at-requires : tie.Need-load-at-requires Inv-loop μ-loop
 load-at-requires c κs =
     c .before .before .before .loop .inv .2 .offset
 
+enum-known-p : tie.Need-enum-known-p Inv-loop μ-loop
+enum-known-p c = search needs
+
 cast-t15 : tie.Need-cast-t15 Inv-loop μ-loop
 cast-t15 c = search needs
 
@@ -47,45 +45,61 @@ same-length : tie.Need-same-length Inv-loop μ-loop
 same-length c = search needs
 
 same-length-2 : tie.Need-same-length-2 Inv-loop μ-loop
-same-length-2 c = c .before .before .before .before .before .before .before .loop .inv .0
+same-length-2 c = search needs
 
 returns : tie.Need-returns Inv-loop μ-loop
 returns c =
-    load-fail (inputsIn (now (c .before .before .before .before .before .before .before .before .before .before .before .args .bytes)) (c .before .before .before .before .before .before .before .before .before .before .before .args .parts)) (now (c .before .before .before .before .before .before .before .before .before .before .before .args .arena)) (c .before .before .before .before .before .before .before .loop .arena) (c .before .before .before .before .before .before .before .loop .table) (c .before .before .before .before .before .before .before .loop .off) (c .before .before .before .before .before .before .before .loop .k) (c .before .before .before .before .before .before .before .loop .inv .2) (omega (arith, c .before .before .before .before .before .before .before .loop .inv .1)) (c .before .before .before .load-at .last .0) (c .before .before .before .load-at .result)
-    (rw (c .before .before .before .before .before .file-of .ensures) at (c .before .before .before .load-at .ensures)) (c .if1 .taken) _
+    let a = c .before .before .before .before .before .before .before .before .before .before .before .before .before .args in
+    load-fail (inputsIn (now (a .bytes)) (a .parts)) (now (a .arena)) (c .before .before .before .before .before .before .before .before .before .loop .arena) (c .before .before .before .before .before .before .before .before .before .loop .table) (c .before .before .before .before .before .before .before .before .before .loop .off) (c .before .before .before .before .before .before .before .before .before .loop .k) (c .before .before .before .before .before .before .before .before .before .loop .inv .2) (omega (arith, c .before .before .before .before .before .before .before .before .before .loop .inv .1)) (c .before .before .before .before .before .load-at .last .0) (c .before .before .before .before .before .load-at .result)
+    (rw (c .before .before .before .before .before .before .before .file-of .ensures) at (c .before .before .before .before .before .load-at .ensures)) _ (c .before .p .given .1) _
+
+enum-known-p-2 : tie.Need-enum-known-p-2 Inv-loop μ-loop
+enum-known-p-2 c = search needs
 
 put-seat-requires : tie.Need-put-seat-requires Inv-loop μ-loop
 put-seat-requires c κs = search needs
 
 add-off : tie.Need-add-off Inv-loop μ-loop
 add-off c =
-    let h : c .before .before .before .before .before .before .before .before .before .before .before .before .before .loop .off + c .before .before .before .before .before .before .before .before .before .load-at .result .seat .span < 2 ^ 64 =
-    omega (arith, c .before .before .before .before .before .before .before .before .before .load-at .ensures .fits (c .before .before .before .before .before .before .if1 .left), ap (λ (s : Seat). s .span) (c .before .before .before .before .before .before .before .before .before .load-at .ensures .seat (c .before .before .before .before .before .before .if1 .left)), c .before .before .before .before .before .before .before .before .before .before .before .before .before .loop .inv .2 .same, c .before .before .before .before .before .before .before .before .before .before .before .before .before .before .before .before .before .good) in
+    let a = c .before .before .before .before .before .before .before .before .before .before .before .before .before .before .before .before .before .before .args in
+    let h : c .before .before .before .before .before .before .before .before .before .before .before .before .before .before .loop .off + c .before .before .before .before .before .before .p2 .given .0 .0 .span < 2 ^ 64 = omega (
+      arith,
+      c .before .before .before .before .before .before .before .before .before .before .before .before .before .before .before .before .before .before .good,
+      c .before .before .before .before .before .before .before .before .before .before .before .before .before .before .loop .inv .2 .same,
+      load-fits (inputsIn (now (a .bytes)) (a .parts)) (now (a .arena)) (c .before .before .before .before .before .before .before .before .before .before .before .before .before .before .loop .arena) (c .before .before .before .before .before .before .before .before .before .before .before .before .before .before .loop .table) (c .before .before .before .before .before .before .before .before .before .before .before .before .before .before .loop .off) (c .before .before .before .before .before .before .before .before .before .before .before .before .before .before .loop .k) (c .before .before .before .before .before .before .before .before .before .before .before .before .before .before .loop .inv .2) (omega (arith, c .before .before .before .before .before .before .before .before .before .before .before .before .before .before .loop .inv .1)) (c .before .before .before .before .before .before .before .before .before .before .load-at .last .0) (c .before .before .before .before .before .before .before .before .before .before .load-at .result)
+          (rw (c .before .before .before .before .before .before .before .before .before .before .before .before .file-of .ensures) at (c .before .before .before .before .before .before .before .before .before .before .load-at .ensures)) (c .before .before .before .before .before .before .p2 .given .0 .0) (c .before .before .before .before .before .before .p2 .given .1),
+    ) in
     record { fits = h }
 
 add-k : tie.Need-add-k Inv-loop μ-loop
 add-k c = search needs
 
 loop-less : tie.Need-loop-less Inv-loop μ-loop
-loop-less c = counts-down (c .before .before .before .before .before .before .before .before .before .before .before .before .loop-test .taken)
+loop-less c =
+    counts-down (c .before .before .before .before .before .before .before .before .before .before .before .before .before .loop-test .taken)
 
 loop-again : tie.Need-loop-again Inv-loop μ-loop
-loop-again c = (
-  c .before .before .before .put-seat .kept .0 ∙ c .before .before .before .before .before .before .before .before .before .before .before .before .before .loop .inv .0,
-  c .before .before .before .before .before .before .before .before .before .before .before .before .before .loop .inv .1,
-  load-turn (inputsIn (now (c .before .before .before .before .before .before .before .before .before .before .before .before .before .before .before .before .before .args .bytes)) (c .before .before .before .before .before .before .before .before .before .before .before .before .before .before .before .before .before .args .parts)) (now (c .before .before .before .before .before .before .before .before .before .before .before .before .before .before .before .before .before .args .arena)) (c .before .before .before .before .before .before .before .before .before .before .before .before .before .loop .arena) (c .before .before .before .before .before .before .before .before .before .before .before .before .before .loop .table) (c .before .before .before .before .before .before .before .before .before .before .before .before .before .loop .off) (c .before .before .before .before .before .before .before .before .before .before .before .before .before .loop .k) (c .before .before .before .before .before .before .before .before .before .before .before .before .before .loop .inv .2) (omega (arith, c .before .before .before .before .before .before .before .before .before .before .before .before .before .loop .inv .1)) (c .before .before .before .before .before .before .before .before .before .load-at .last .0) (c .before .before .before .before .before .before .before .before .before .load-at .result)
-      (rw (c .before .before .before .before .before .before .before .before .before .before .before .file-of .ensures) at (c .before .before .before .before .before .before .before .before .before .load-at .ensures)) (c .before .before .before .before .before .before .if1 .left) (c .before .before .before .before .before .before .before .before .before .load-at .kept .0) _ (c .before .before .before .put-seat .ensures .1 .0 (omega (arith, c .before .before .before .before .before .before .before .before .before .before .before .before .before .before .before .before .before .pre .0, c .before .before .before .before .before .before .before .before .before .before .before .before .before .before .before .before .before .pre .2, c .before .before .before .before .before .before .before .before .before .before .before .before .before .loop .inv .0))) (c .before .before .before .put-seat .ensures .1 .1 .0) (c .before .before .before .put-seat .ensures .1 .1 .1 (omega (arith, c .before .before .before .before .before .before .before .before .before .before .before .before .before .before .before .before .before .pre .0, c .before .before .before .before .before .before .before .before .before .before .before .before .before .before .before .before .before .pre .2, c .before .before .before .before .before .before .before .before .before .before .before .before .before .loop .inv .0))),
-)
+loop-again c =
+    let a = c .before .before .before .before .before .before .before .before .before .before .before .before .before .before .before .before .before .before .args in
+    let room : 1024 ≤ length (c .before .before .before .before .before .before .before .before .before .before .before .before .before .before .loop .table) = omega (arith, c .before .before .before .before .before .before .before .before .before .before .before .before .before .before .before .before .before .before .pre .2, c .before .before .before .before .before .before .before .before .before .before .before .before .before .before .loop .inv .0) in (
+      c .before .before .before .put-seat .kept .0 ∙ c .before .before .before .before .before .before .before .before .before .before .before .before .before .before .loop .inv .0,
+      c .before .before .before .before .before .before .before .before .before .before .before .before .before .before .loop .inv .1,
+      load-turn (inputsIn (now (a .bytes)) (a .parts)) (now (a .arena)) (c .before .before .before .before .before .before .before .before .before .before .before .before .before .before .loop .arena) (c .before .before .before .before .before .before .before .before .before .before .before .before .before .before .loop .table) (c .before .before .before .before .before .before .before .before .before .before .before .before .before .before .loop .off) (c .before .before .before .before .before .before .before .before .before .before .before .before .before .before .loop .k) (c .before .before .before .before .before .before .before .before .before .before .before .before .before .before .loop .inv .2) (omega (arith, c .before .before .before .before .before .before .before .before .before .before .before .before .before .before .loop .inv .1)) (c .before .before .before .before .before .before .before .before .before .before .load-at .last .0) (c .before .before .before .before .before .before .before .before .before .before .load-at .result)
+          (rw (c .before .before .before .before .before .before .before .before .before .before .before .before .file-of .ensures) at (c .before .before .before .before .before .before .before .before .before .before .load-at .ensures)) (c .before .before .before .before .before .before .p2 .given .0 .0) (c .before .before .before .before .before .before .p2 .given .1) (c .before .before .before .before .before .before .before .before .before .before .load-at .kept .0) _
+          (c .before .before .before .put-seat .ensures .1 .0 (omega (arith, c .before .before .before .before .before .before .before .before .before .before .before .before .before .before .before .before .before .before .pre .0, room))) (c .before .before .before .put-seat .ensures .1 .1 .0) (c .before .before .before .put-seat .ensures .1 .1 .1 (omega (arith, c .before .before .before .before .before .before .before .before .before .before .before .before .before .before .before .before .before .before .pre .0, room))),
+    )
 
 same-length-3 : tie.Need-same-length-3 Inv-loop μ-loop
 same-length-3 c = search needs
 
 same-length-4 : tie.Need-same-length-4 Inv-loop μ-loop
-same-length-4 c = c .before .loop .inv .0
+same-length-4 c =
+    c .before .loop .inv .0
 
 returns-2 : tie.Need-returns-2 Inv-loop μ-loop
 returns-2 c =
-    load-finish (inputsIn (now (c .before .before .before .before .before .args .bytes)) (c .before .before .before .before .before .args .parts)) (now (c .before .before .before .before .before .args .arena)) (c .before .loop .arena) (c .before .loop .table) (c .before .loop .off) (c .before .loop .k) (c .before .loop .inv .2) (omega (arith, c .before .loop .inv .1, c .before .loop .inv .2 .number))
+    let a = c .before .before .before .before .before .args in
+    load-finish (inputsIn (now (a .bytes)) (a .parts)) (now (a .arena)) (c .before .loop .arena) (c .before .loop .table) (c .before .loop .off) (c .before .loop .k) (c .before .loop .inv .2) (omega (arith, c .before .loop .inv .1, c .before .loop .inv .2 .number))
 
 pub load-all-spec : {M : Type 1} → statement M
 load-all-spec =
@@ -96,10 +110,12 @@ load-all-spec =
     loop-holds
     file-of-requires
     load-at-requires
+    enum-known-p
     cast-t15
     same-length
     same-length-2
     returns
+    enum-known-p-2
     put-seat-requires
     add-off
     add-k

@@ -1,6 +1,6 @@
 -- `binder::prepare::load_at` meets its contract. Assumes nothing.
-use Rattle.binder.proofs.PrepareLaws.{loaded-at}
 use denote.Ref.{now}
+use Rattle.binder.proofs.PrepareLaws.{refusal-at, seated-at}
 use borrow.Author.Needs.{needs}
 use Rattle.binder.proofs.prepare.load_at.Statement.{statement}
 use Rattle.binder.proofs.prepare.load_at.Tie as tie
@@ -21,16 +21,24 @@ part-load-end c = search needs
 load-requires : tie.Need-load-requires
 load-requires c κs = search needs
 
-view-of-requires : tie.Need-view-of-requires
-view-of-requires c κs = search needs
-
 same-length : tie.Need-same-length
 same-length c = search needs
 
 returns : tie.Need-returns
 returns c =
-    let a = c .before .before .before .before .before .before .before .before .args in
-    loaded-at (a .host) (now (a .file)) (a .off) (now (a .arena)) (c .before .before .before .before .load .last .0) (c .before .before .before .before .load .result) (c .view-of .result) (c .before .before .before .before .before .before .before .before .pre) (c .before .before .before .before .load .ensures) (c .view-of .ensures)
+    let a = c .before .before .before .before .before .before .before .args in
+    (refusal-at (a .host) (now (a .file)) (a .off) (now (a .arena)) (c .before .before .before .load .last .0) (c .before .before .before .load .result) (c .before .before .before .load .ensures), c .if1 .taken)
+
+view-of-requires : tie.Need-view-of-requires
+view-of-requires c κs = search needs
+
+same-length-2 : tie.Need-same-length-2
+same-length-2 c = search needs
+
+returns-2 : tie.Need-returns-2
+returns-2 c =
+    let a = c .before .before .before .before .before .before .before .before .before .args in
+    seated-at (a .host) (now (a .file)) (a .off) (now (a .arena)) (c .before .before .before .before .before .load .last .0) (c .before .before .before .before .before .load .result) (c .before .before .before .before .before .load .ensures) (c .view-of .result) (c .before .before .before .before .before .before .before .before .before .pre) (c .before .before .if1 .left) (c .view-of .ensures)
 
 pub load-at-spec : {M : Type 1} → statement M
 load-at-spec =
@@ -40,6 +48,8 @@ load-at-spec =
     part-load-start
     part-load-end
     load-requires
-    view-of-requires
     same-length
-    returns)
+    returns
+    view-of-requires
+    same-length-2
+    returns-2)
