@@ -81,7 +81,7 @@ fn search_copy(
     scope::scope::resolve_copy(arena, table, count, address, wanted, gnu)
 }
 
-// Types 6 and 7, of the entry with number `i` and the symbol `y`: what was found, or 0 and a word of the report.
+// Types 6 and 7, of the entry with number `i` and the symbol `y`: what was found, which is kept, or 0 and a word of the report.
 fn write_found(
     arena: &mut [u8],
     report: &mut [u32],
@@ -104,7 +104,7 @@ fn write_found(
         return crate::report::unresolved(report, p, y, t.number, i);
     };
     crate::turn::write_word(arena, t.offset, e.place, address);
-    p
+    crate::report::keep(p, e.symbol as u64 + 1, address)
 }
 
 // Refusal 14 or 15, or 0.
@@ -138,6 +138,10 @@ fn symbolic(
     let b = object::dynamic_fields::bounds_of(o);
     if !object::table_bytes::in_writable(b, e.place, 8) {
         return crate::report::refused(p, t, 17);
+    }
+    if p.last == e.symbol as u64 + 1 {
+        crate::turn::write_word(arena, t.offset, e.place, p.address);
+        return p;
     }
     let s = search(arena, table, count, address, t, o.strings, y.name);
     write_found(arena, report, p, t, i, e, y, s)
@@ -357,7 +361,7 @@ fn run_tables(
     )
 }
 
-// The word of the report, RELR, RELA, PLT.
+// The word of the report, RELR, RELA, PLT. No answer is kept before: a symbol's index is the object's own.
 fn run_object(
     arena: &mut [u8],
     report: &mut [u32],
@@ -370,7 +374,8 @@ fn run_object(
 ) -> Progress
     ensures { λ r. ⌜ left r (now (arena .exit)) (now (report .exit)) ≡ runObject address (now (table .entry)) count t (heldBy o) p (now (arena .entry)) (now (report .entry)) ⌝ }
 {
-    let q = crate::report::note(report, p, std::num::wrapping_add_u32(0x5000_0000, t.number));
+    let z = crate::report::keep(p, 0, 0);
+    let q = crate::report::note(report, z, std::num::wrapping_add_u32(0x5000_0000, t.number));
     let number = crate::relr::add_relrs(arena, t, o);
     if number != 0 {
         return crate::report::refused(q, t, number);
@@ -429,6 +434,8 @@ pub(crate) fn run_order(
         words: 0,
         full: false,
         undefined: 0,
+        last: 0,
+        address: 0,
     };
     let mut i = 0;
     while i < n {
