@@ -88,10 +88,35 @@ module _ (m : List ℕ) (isT : ℕ → Bool) (p end : ℕ) (le : p ≤ end) wher
 
 -- ---- the run from `p`, by the segments before the `i`th
 
+-- of the bytes before `end` the segments from the `i`th on decide
+abbrev pub RestAt : ℕ → ℕ → List Segment → ℕ → ℕ → ℕ → Type 0
+RestAt span c l i p end =
+    (q : ℕ) → p ≤ q → q < end → isTable span (take c l) q ≡ every (λ s. spares s q) (drop i (take c l))
+
+-- what a segment leaves of a run is no more than it, and starts where it did
+pub nearer-within : (s : Segment) (p end low z end′ low′ : ℕ) → p ≤ end → Nearer s p end low z end′ low′ → (p ≤ end′) × (end′ ≤ end)
+nearer-within s p end low z end′ low′ h (n, inl (e, f)) = (omega arith, omega arith)
+nearer-within s p end low z end′ low′ h (n, inr (inl (e, f, t))) = (omega arith, omega arith)
+nearer-within s p end low z end′ low′ h (n, inr (inr (e, f, a, b, t))) = (omega arith, omega arith)
+
+module _ (span c : ℕ) (l : List Segment) (p : ℕ) where
+  pub rest-start : RestAt span c l 0 p span
+  unfolding isTable
+  rest-start q a u = rw (lt-ltb q span u)
+
+  pub rest-end : (i end : ℕ) → RestAt span c l i p end → length (take c l) ≤ i → (q : ℕ) → p ≤ q → q < end → isTable span (take c l) q ≡ true
+  unfolding every
+  rest-end i end r e q a u = r q a u ∙ rw (drop-of-length-le (take c l) e)
+
+  pub rest-turn : (i end end′ : ℕ) (d : Segment) → i < c → i < length l → RestAt span c l i p end → end′ ≤ end
+      → ((q : ℕ) → p ≤ q → q < end′ → spoils (getD l i d) q ≡ false) → RestAt span c l (i + 1) p end′
+  rest-turn i end end′ d h h′ r le n q a u =
+      r q a (omega arith) ∙ every-turn l c i d h h′ (λ s. spares s q) true (ap not (n q a u))
+
 pub record RunAt (m : List ℕ) (span c : ℕ) (l : List Segment) (i p end low : ℕ) : Type 0 where
   pub within : p ≤ end
   pub inside : end ≤ span
-  pub rest : (q : ℕ) → p ≤ q → q < end → isTable span (take c l) q ≡ every (λ s. spares s q) (drop i (take c l))
+  pub rest : RestAt span c l i p end
   pub stop : isTable span (take c l) end ≡ false
   pub zero : p < low → (low ≤ end) × (mem m (low - 1) ≡ 0)
   pub none : (q : ℕ) → p ≤ q → low ≤ q → q < end → mem m q ≡ 0 → ⊥
@@ -102,7 +127,7 @@ module _ (m : List ℕ) (span c : ℕ) (l : List Segment) (p : ℕ) where
   run-start h low z = record {
     within = omega arith;
     inside = omega arith;
-    rest = λ q a u. rw (lt-ltb q span u);
+    rest = rest-start span c l p;
     stop = rw (le-ltb span span (omega arith));
     zero = λ u. (z .within, z .zero (omega arith));
     none = λ q a b u. z .none q b u;
@@ -110,8 +135,7 @@ module _ (m : List ℕ) (span c : ℕ) (l : List Segment) (p : ℕ) where
 
   module _ (i end low : ℕ) (r : RunAt m span c l i p end low) where
     pub run-end : length (take c l) ≤ i → (q : ℕ) → p ≤ q → q < end → isTable span (take c l) q ≡ true
-    unfolding every
-    run-end e q a u = r .rest q a u ∙ rw (drop-of-length-le (take c l) e)
+    run-end e = rest-end span c l p i end (r .rest) e
 
     module _ (d : Segment) (h : i < c) (h′ : i < length l) where
       spoiled : (q : ℕ) → spoils (getD l i d) q ≡ true → isTable span (take c l) q ≡ false
@@ -129,9 +153,8 @@ module _ (m : List ℕ) (span c : ℕ) (l : List Segment) (p : ℕ) where
           → Nearer (getD l i d) p end low z₀ end′ low′ → RunAt m span c l (i + 1) p end′ low′
       run-turn z₀ end′ low′ z n = go (n .1)
         where
-          on : (q : ℕ) → end′ ≤ end → p ≤ q → q < end′ → isTable span (take c l) q ≡ every (λ s. spares s q) (drop (i + 1) (take c l))
-          on q le a u =
-              r .rest q a (omega arith) ∙ every-turn l c i d h h′ (λ s. spares s q) true (ap not (n .0 q a u))
+          on : RestAt span c l (i + 1) p end′
+          on = rest-turn span c l p i end end′ d h h′ (r .rest) (nearer-within (getD l i d) p end low z₀ end′ low′ (r .within) n .1) (n .0)
 
           go : ((end′ ≡ end) × (low′ ≡ low))
               ⊎ (((end′ ≡ p) × (low′ ≡ 0) × (spoils (getD l i d) p ≡ true))
@@ -140,7 +163,7 @@ module _ (m : List ℕ) (span c : ℕ) (l : List Segment) (p : ℕ) where
           go (inl (e, f)) = record {
             within = omega (arith, r .within);
             inside = omega (arith, r .inside);
-            rest = λ q a u. on q (omega arith) a u;
+            rest = on;
             stop = rw e (r .stop);
             zero = λ u. rw (e, f) (r .zero (omega arith));
             none = λ q a b u. r .none q a (omega arith) (omega arith);
@@ -148,7 +171,7 @@ module _ (m : List ℕ) (span c : ℕ) (l : List Segment) (p : ℕ) where
           go (inr (inl (e, f, s))) = record {
             within = omega arith;
             inside = omega (arith, r .within, r .inside);
-            rest = λ q a u. on q (omega (arith, r .within)) a u;
+            rest = on;
             stop = rw e (spoiled p s);
             zero = λ u. absurd (omega arith);
             none = λ q a b u. absurd (omega arith);
@@ -158,7 +181,7 @@ module _ (m : List ℕ) (span c : ℕ) (l : List Segment) (p : ℕ) where
               let z′ : LastZero (mem m) end′ low′ = rw (f, ← k) z in record {
                 within = omega arith;
                 inside = omega (arith, r .inside);
-                rest = λ q a u. on q (omega arith) a u;
+                rest = on;
                 stop = rw e (spoiled (getD l i d .vaddr) s);
                 zero = λ u. (z′ .within, z′ .zero (omega arith));
                 none = λ q a b u. z′ .none q b u;

@@ -18,3 +18,4 @@ pub mod MarkLaws
 pub mod CountLaws
 pub mod LookupSame
 pub mod ReadingsSame
+pub mod FineLaws

@@ -33,7 +33,7 @@ module _ (isT : ℕ → Bool) (m m′ : List ℕ) (agree : Agree isT m m′) whe
 
   -- ---- a symbol and its name are in table bytes in both images or in neither
 
-  name-ok-same : (at : ℕ) → tableName isT m′ at ≡ tableName isT m at
+  pub name-ok-same : (at : ℕ) → tableName isT m′ at ≡ tableName isT m at
   unfolding tableName
   name-ok-same at = go (tableName isT m at) (tableName isT m′ at) refl refl
     where

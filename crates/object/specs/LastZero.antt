@@ -36,3 +36,10 @@ Nearer s p end low z end′ low′ =
     × (((end′ ≡ end) × (low′ ≡ low))
     ⊎ (((end′ ≡ p) × (low′ ≡ 0) × (spoils s p ≡ true))
     ⊎ ((end′ ≡ s .vaddr) × (low′ ≡ z) × (p < s .vaddr) × (s .vaddr < end) × (spoils s (s .vaddr) ≡ true))))
+
+-- the bytes from `p` to `end` are table bytes, and `low` is one past the last zero byte before the end
+pub record RunOf (isT : ℕ → Bool) (m : Mem) (span p end low : ℕ) : Type 0 where
+  pub within : p ≤ end
+  pub inside : end ≤ span
+  pub bytes : (q : ℕ) → p ≤ q → q < end → isT q ≡ true
+  pub last : LastZero m end low

@@ -16,6 +16,7 @@ pub mod HashCheck
 pub mod SymbolCount
 pub mod Marks
 pub mod Record
+pub mod FineRange
 pub mod Loaded
 pub mod Entries
 pub mod Invariant

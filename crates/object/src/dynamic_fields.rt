@@ -1,10 +1,12 @@
 // The object record and refusals 9 to 12: port of dynamic_fields.rs.
 ghost use mathlib.Core.Path.{_≡_};
-ghost use Prim.Native.Nat.{_*_, _^_, _≤_, _<_};
+ghost use mathlib.Core.Bool.{true};
+ghost use Prim.Native.Nat.{ℕ, _*_, _^_, _≤_, _<_};
 ghost use lib.Dec.{ltb};
 ghost use lib.ListN.{take};
 ghost use Rattle.object.specs.DynamicFields.{needsOf, Needed};
 ghost use Rattle.object.specs.LoadTable.{segmentsIn};
+ghost use Rattle.object.specs.FineRange.{FineOf};
 ghost use Rattle.object.specs.Record.{heldBy, viewOf, entryCount, tableIn, recordIn, fieldsRefusal, fieldIs, needsOk, relocationsOk, tablesOk, BoundsOf, RelocationCounts, ReadBy, indexOk, checkedSymbol};
 use crate::dynamic_array::DynamicFields;
 use crate::dynamic_array::Field;
@@ -330,4 +332,42 @@ pub fn checked_symbol(image: &[u8], o: ObjectData, index: u32) -> CheckedSymbol
         return CheckedSymbol::Refused(15);
     }
     CheckedSymbol::Checked(crate::symbol::symbol_at(image, o.symbols, index))
+}
+
+// What needs no further test of refusals 14 and 15: the first `fits` symbols, and a name at one of the first `ends` places of the strings.
+pub struct Fine {
+    pub fits: usize,
+    pub ends: usize,
+}
+
+// How many of the first `n` symbols are below a known count.
+fn known_of(known: SymbolCount, n: usize) -> usize
+    ensures { λ r. ⌜ (r ≤ n) × ((s : ℕ) → s < r → indexOk known s ≡ true) ⌝ }
+{
+    match known {
+        SymbolCount::Unknown => n,
+        SymbolCount::Known(count) => words::bytes::smaller(n, count),
+    }
+}
+
+// Which symbols and names of the object need no further test.
+pub fn fine_in(image: &[u8], o: ObjectData) -> Fine
+    ensures { λ r. ⌜ FineOf (now (image .entry)) (heldBy o) (r .fits) (r .ends) ⌝ }
+{
+    let symbols = o.symbols;
+    let strings = o.strings;
+    let known = o.known;
+    let b = bounds_of(o);
+    if b.span <= symbols {
+        return Fine { fits: 0, ends: 0 };
+    }
+    if b.span <= strings {
+        return Fine { fits: 0, ends: 0 };
+    }
+    let one = crate::table_bytes::run_from(image, b, symbols);
+    let two = crate::table_bytes::run_from(image, b, strings);
+    Fine {
+        fits: known_of(known, (one.end - symbols) / 24),
+        ends: words::bytes::monus(two.low, strings),
+    }
 }

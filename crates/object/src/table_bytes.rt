@@ -7,7 +7,7 @@ ghost use Rattle.words.specs.Choice.{both, below};
 ghost use Rattle.words.specs.Memory.{mem};
 ghost use Rattle.object.specs.TableBytes.{isWritable, holdsRange, isTable, tableBytes, tableName, inWritable};
 ghost use Rattle.object.specs.WritableRange.{WritableRange};
-ghost use Rattle.object.specs.LastZero.{LastZero, LastZeros, Nearer};
+ghost use Rattle.object.specs.LastZero.{LastZero, LastZeros, Nearer, RunOf};
 
 // An object's span, and its load segments: the first `count` of them. The host has none.
 pub struct Bounds {
@@ -132,9 +132,9 @@ pub fn last_zeros(image: &[u8], b: Bounds, zeros: &mut [usize; 17])
 }
 
 // Where a run of table bytes ends, and one past the last zero byte before that.
-struct Run {
-    end: usize,
-    low: usize,
+pub struct Run {
+    pub end: usize,
+    pub low: usize,
 }
 
 // What a segment leaves of the run from `p` to `end`; `zero` is one past the last zero byte before the segment.
@@ -159,6 +159,27 @@ fn nearer(s: crate::program_header::Segment, p: usize, end: usize, low: usize, z
     Run {
         end: s.vaddr,
         low: zero,
+    }
+}
+
+// The run of table bytes from `p`.
+pub(crate) fn run_from(image: &[u8], b: Bounds, p: usize) -> Run
+    requires { ⌜ p < b .span ⌝ }
+    ensures { λ r. ⌜ RunOf (isTable (b .span) (take (b .count) (b .segments))) (mem (now (image .entry))) (b .span) p (r .end) (r .low) ⌝ }
+{
+    let span = b.span;
+    let n = words::bytes::smaller(b.count, 16);
+    let mut end = span;
+    let mut i = 0;
+    while i < n {
+        let s = b.segments[i];
+        let one = nearer(s, p, end, 0, 0);
+        end = one.end;
+        i += 1;
+    }
+    Run {
+        end: end,
+        low: last_zero(image, end),
     }
 }
 
