@@ -1,8 +1,8 @@
 -- The words of a bitmap, one bit after the other. Assumes nothing.
-use mathlib.Core.Path.{_≡_, refl}
+use mathlib.Core.Path.{_≡_, refl, ap, _∙_}
 use mathlib.Core.Bool.{true, false}
 use mathlib.Core.List.{List}
-use Prim.Native.Nat.{ℕ, zero, suc, _+_, _-_, _/_, _%_, _≤_, _<_}
+use Prim.Native.Nat.{ℕ, zero, suc, _+_, _-_, _*_, _/_, _%_, _^_, _≤_, _<_}
 use native.Mathlib.Omega.{arith}
 use borrow.Author.Tests.{eq-eqb, ne-eqb}
 use Rattle.object.specs.TableBytes.{inWritable}
@@ -37,3 +37,18 @@ module _ (t : Turn) (ss : List Segment) where
   unfolding addBits
   none zero p bits a h = refl
   none (suc n) p bits a h = absurd (omega arith)
+
+  power-some : (n : ℕ) → 0 < 2 ^ n
+  power-some zero = omega arith
+  power-some (suc n) = omega (arith, power-some n)
+
+  -- the lowest of `n` bits that are all set
+  pub bit-of-all :
+      (n p : ℕ) (a : List ℕ) → 0 < n → inWritable ss p 8 ≡ true
+      → addBits t ss n p (2 ^ n - 1) a ≡ addBits t ss (n - 1) (p + 8) (2 ^ (n - 1) - 1) (wordAdded t p a)
+  bit-of-all zero p a h w = absurd (omega arith)
+  bit-of-all (suc n) p a h w =
+      let z : suc n - 1 ≡ n = omega arith in
+      let odd : (2 ^ suc n - 1) % 2 ≡ 1 = omega (arith, power-some n) in
+      let half : (2 ^ suc n - 1) / 2 ≡ 2 ^ (suc n - 1) - 1 = rw z (omega (arith, power-some n)) in
+      bit-1 (suc n) p (2 ^ suc n - 1) a h odd w ∙ ap (λ (bits : ℕ). addBits t ss (suc n - 1) (p + 8) bits (wordAdded t p a)) half

@@ -35,7 +35,7 @@ use Rattle.binder.specs.Verdict.{Verdict, passed, verdict, writtenRefusa
 use Rattle.binder.specs.Report.{reportWord, unresolved, undefinedBy, isPassed}
 use Rattle.scope.specs.Seats.{seatAt}
 use Rattle.binder.specs.ScopeModel.{scopedOf}
-use Rattle.binder.specs.Relocating.{Left, left, wrote, Noted, noted, withArena, withReport, refusedBy, imageIn, reportSum, noteOf, markUndefined, unresolvedOf, relativeOf, foundOf, copyFits, copyBytes, copyOf, turnOf, soughtFor, soughtForCopy, symbolicOf, copyingOf, runAction}
+use Rattle.binder.specs.Relocating.{Left, left, wrote, Noted, noted, withArena, withReport, refusedBy, imageIn, reportSum, noteOf, markUndefined, unresolvedOf, relativeOf, foundOf, copyFits, copyBytes, copyOf, turnOf, soughtFor, soughtForCopy, keeps, answeredOf, symbolicOf, copyingOf, runAction}
 use Rattle.scope.specs.declared.seats.Seat.{Seat}
 use Rattle.binder.specs.declared.turn.Turn.{Turn}
 use Rattle.scope.specs.declared.scope.Scoped.{Scoped}
@@ -44,7 +44,7 @@ use Rattle.binder.specs.declared.report.Progress.{Progress}
 use Rattle.binder.proofs.InsideLaws.{name-is}
 use Rattle.binder.proofs.Steady.{set, fileAt, LoadedSet, Steady, Written}
 use Rattle.binder.proofs.SteadyLaws.{lies, readings, searches, copy-searches, writable-inside, writes, copy-tests}
-use Rattle.binder.proofs.ReportFill.{Going, NotedGoing, earlier, earlier-none, going-length, word-going, marked-going}
+use Rattle.binder.proofs.ReportFill.{Going, NotedGoing, KeptAs, earlier, earlier-none, going-length, word-going, marked-going, keeps-going, note-kept, unresolved-kept}
 use Rattle.binder.proofs.Runs.{Ran, verdict-none, ran-refused, ran-passed}
 
 -- ---- symbols
@@ -104,11 +104,28 @@ module _ (address size : ℕ) (table : List ℕ) (h pr : File) (fs : List File) 
     abbrev image : List ℕ
     image = imageOf f
 
-    -- while the object `k` is relocated: the words of the report, the memory, and the other objects' bytes as in `a₀`
+    -- the kept answer is the one that the definitions have for its symbol
+    abbrev pub RightlyKept : Progress → Type 0
+    RightlyKept p =
+        (index : ℕ) → p .last ≡ index + 1
+        → (o : ℕ) × (z : Sym) × (resolve S k (symbolName image (r .symbols) (r .strings) index) ≡ answer o z (p .address))
+
+    -- none is
+    pub none-kept : (p : Progress) → p .last ≡ 0 → RightlyKept p
+    none-kept p e index f = absurd (omega arith)
+
+    -- the same is
+    same-kept : (p p′ : Progress) → (p′ .last ≡ p .last) × (p′ .address ≡ p .address) → RightlyKept p → RightlyKept p′
+    same-kept p p′ e x index f =
+        let y = x index (sym (e .0) ∙ f) in
+        (y .0, y .1, y .2 ∙ ap (answer (y .0) (y .1)) (sym (e .1)))
+
+    -- while the object `k` is relocated: the words of the report, the memory, the other objects' bytes as in `a₀`, and the kept answer
     pub record Doing (ws : List ℕ) (u : ℕ) (m : Mem) (p : Progress) (a report : List ℕ) : Type 0 where
       pub going : Going ws u n p report
       pub memory : mem a ≡ m
       pub written : Written address size table h pr fs a₀ a k
+      pub kept : RightlyKept p
 
     seat-offset : (d : ℕ) → d < count S → seatAt table d .offset ≡ (obj S d) .offset
     seat-offset d l = ap (λ (s : Seat). s .offset) ((lies address size table h pr fs L d l) .seat)
@@ -139,16 +156,31 @@ module _ (address size : ℕ) (table : List ℕ) (h pr : File) (fs : List File) 
       plain v m′ a′ e w same =
           ran-passed size n v (Doing (ws ++ []) (earlier u 0) m′) p a′ report e (d .going .refusal) (w .steady .size-is)
           (going-length ws u n p report (d .going))
-          record { going = rw (append-nil ws, earlier-none u) (d .going); memory = same; written = w }
+          record { going = rw (append-nil ws, earlier-none u) (d .going); memory = same; written = w; kept = d .kept }
 
       -- no refusal, and what was noted
       with-words :
           (v : Verdict) (vs : List ℕ) (u′ : ℕ) (m′ : Mem) (a′ : List ℕ) (q : Noted) → v ≡ passed → NotedGoing vs u′ n q
-          → Written address size table h pr fs a₀ a′ k → mem a′ ≡ m′
+          → KeptAs (p .last) (p .address) q → Written address size table h pr fs a₀ a′ k → mem a′ ≡ m′
           → Ran size n v (Doing vs u′ m′) (withArena a′ q)
-      with-words v vs u′ m′ a′ (noted p′ report′) e g w same =
+      with-words v vs u′ m′ a′ (noted p′ report′) e g z w same =
           ran-passed size n v (Doing vs u′ m′) p′ a′ report′ e (g .refusal) (w .steady .size-is) (going-length vs u′ n p′ report′ g)
-          record { going = g; memory = same; written = w }
+          record { going = g; memory = same; written = w; kept = same-kept p p′ z (d .kept) }
+
+      -- no refusal, no word, and an answer is kept
+      with-answer :
+          (v : Verdict) (last found : ℕ) (m′ : Mem) (a′ : List ℕ) → v ≡ passed → RightlyKept (keeps last found p)
+          → Written address size table h pr fs a₀ a′ k → mem a′ ≡ m′
+          → Ran size n v (Doing (ws ++ []) (earlier u 0) m′) (left (keeps last found p) a′ report)
+      with-answer v last found m′ a′ e z w same =
+          ran-passed size n v (Doing (ws ++ []) (earlier u 0) m′) (keeps last found p) a′ report e (d .going .refusal) (w .steady .size-is)
+          (going-length ws u n p report (d .going))
+          record {
+            going = rw (append-nil ws, earlier-none u) (keeps-going ws u n last found p report (d .going));
+            memory = same;
+            written = w;
+            kept = z;
+          }
 
       -- a refusal
       stopped :
@@ -228,55 +260,83 @@ module _ (address size : ℕ) (table : List ℕ) (h pr : File) (fs : List File) 
         abbrev y : Symbol
         y = symbolAt image (r .symbols) (e .symbol)
 
+        abbrev name : List ℕ
+        name = symbolName image (r .symbols) (r .strings) (e .symbol)
+
         -- the words and the mark of an entry whose search has the answer
         abbrev After : Answer → Mem → Progress → List ℕ → List ℕ → Type 0
         After x m′ =
             Doing (ws ++ pick (unresolved image r e x) (reportWord 6 i ∷ []) []) (earlier u (pick (unresolved image r e x) k 0)) m′
 
-        found-ran :
-            (x : Answer) (s : Scoped) → scopedOf s ≡ x → inWritable (r .segments) (e .place) 8 ≡ true
-            → Ran size n (verdict 0 k) (After x (write m ((obj S k) .offset + e .place) 8 (byteOf (addressOr0 x)))) (foundOf t e i y s p a report)
+        -- what an entry of type 6 or 7 leaves
+        abbrev Written6 : Answer → Left → Type 0
+        Written6 x st = Ran size n (verdict 0 k) (After x (write m ((obj S k) .offset + e .place) 8 (byteOf (addressOr0 x)))) st
+
+        kept-now : (o : ℕ) (z : Sym) (v : ℕ) → answer o z v ≡ resolve S k name → RightlyKept (keeps (e .symbol + 1) v p)
+        kept-now o z v is index f =
+            let same : e .symbol ≡ index = omega arith in
+            (o, z, sym (ap (λ (s : ℕ). resolve S k (symbolName image (r .symbols) (r .strings) s)) same) ∙ sym is)
+
+        found-ran : (s : Scoped) → scopedOf s ≡ resolve S k name → inWritable (r .segments) (e .place) 8 ≡ true → Written6 (resolve S k name) (foundOf t e i y s p a report)
         unfolding scopedOf foundOf addressOr0
-        found-ran x Absent eq w =
+        found-ran Absent eq w =
             let z = wrote-to (e .place) 8 (byteOf 0) w in
             subst
-            (λ (x : Answer).
-            Ran size n (verdict 0 k) (After x (write m ((obj S k) .offset + e .place) 8 (byteOf (addressOr0 x)))) (foundOf t e i y Absent p a report))
+            (λ (x : Answer). Written6 x (foundOf t e i y Absent p a report))
             eq
             (with-words (verdict 0 k) (ws ++ pick (not (eqb (bindingOf y) 2)) (reportWord 6 i ∷ []) []) (earlier u (pick (not (eqb (bindingOf y) 2)) k 0))
             (write m ((obj S k) .offset + e .place) 8 (byteOf 0)) (patch a (t .offset + e .place) 8 (byteOf 0)) (unresolvedOf y k i p report)
-            (verdict-none 0 k refl) (unresolved-going i l y) (z .0) (z .1))
-        found-ran x (Found d s v) eq w =
+            (verdict-none 0 k refl) (unresolved-going i l y) (unresolved-kept y k i p report) (z .0) (z .1))
+        found-ran (Found d s v) eq w =
             let z = wrote-to (e .place) 8 (byteOf v) w in
             subst
-            (λ (x : Answer).
-            Ran size n (verdict 0 k) (After x (write m ((obj S k) .offset + e .place) 8 (byteOf (addressOr0 x)))) (foundOf t e i y (Found d s v) p a report))
+            (λ (x : Answer). Written6 x (foundOf t e i y (Found d s v) p a report))
             eq
-            (plain (verdict 0 k) (write m ((obj S k) .offset + e .place) 8 (byteOf v)) (patch a (t .offset + e .place) 8 (byteOf v))
+            (with-answer (verdict 0 k) (e .symbol + 1) v (write m ((obj S k) .offset + e .place) 8 (byteOf v)) (patch a (t .offset + e .place) 8 (byteOf v))
+            (verdict-none 0 k refl) (kept-now d (symOf s) v eq) (z .0) (z .1))
+
+        kept-ran :
+            p .last ≡ e .symbol + 1 → inWritable (r .segments) (e .place) 8 ≡ true
+            → Written6 (resolve S k name) (left p (patch a (t .offset + e .place) 8 (byteOf (p .address))) report)
+        unfolding addressOr0
+        kept-ran same w =
+            let x = d .kept (e .symbol) same in
+            let z = wrote-to (e .place) 8 (byteOf (p .address)) w in
+            subst
+            (λ (x : Answer). Written6 x (left p (patch a (t .offset + e .place) 8 (byteOf (p .address))) report))
+            (sym (x .2))
+            (plain (verdict 0 k) (write m ((obj S k) .offset + e .place) 8 (byteOf (p .address))) (patch a (t .offset + e .place) 8 (byteOf (p .address)))
             (verdict-none 0 k refl) (z .0) (z .1))
 
-        symbolic-by :
-            (x : Answer) (s : Scoped) → scopedOf s ≡ x → (b : Bool) → inWritable (r .segments) (e .place) 8 ≡ b
-            → Ran size n (verdict (require b 17 0) k) (After x (write m ((obj S k) .offset + e .place) 8 (byteOf (addressOr0 x))))
-            (pick b (foundOf t e i y s p a report) (left (refusedBy t 17 p) a report))
-        unfolding require
-        symbolic-by x s eq true w = found-ran x s eq w
-        symbolic-by x s eq false w = stopped 17 _ (λ e. omega arith)
+        answered-ran :
+            (s : Scoped) → scopedOf s ≡ resolve S k name → inWritable (r .segments) (e .place) 8 ≡ true → (b : Bool) → eqb (p .last) (e .symbol + 1) ≡ b
+            → Written6 (resolve S k name)
+            (pick b (left p (patch a (t .offset + e .place) 8 (byteOf (p .address))) report) (foundOf t e i y s p a report))
+        answered-ran s eq w true f = kept-ran (eqb-true (p .last) (e .symbol + 1) f) w
+        answered-ran s eq w false f = found-ran s eq w
 
-        abbrev name : List ℕ
-        name = symbolName image (r .symbols) (r .strings) (e .symbol)
+        symbolic-by :
+            (s : Scoped) → scopedOf s ≡ resolve S k name → (b : Bool) → inWritable (r .segments) (e .place) 8 ≡ b
+            → Ran size n (verdict (require b 17 0) k)
+            (After (resolve S k name) (write m ((obj S k) .offset + e .place) 8 (byteOf (addressOr0 (resolve S k name)))))
+            (pick b
+            (pick (eqb (p .last) (e .symbol + 1)) (left p (patch a (t .offset + e .place) 8 (byteOf (p .address))) report) (foundOf t e i y s p a report))
+            (left (refusedBy t 17 p) a report))
+        unfolding require
+        symbolic-by s eq true w = answered-ran s eq w (eqb (p .last) (e .symbol + 1)) refl
+        symbolic-by s eq false w = stopped 17 _ (λ e. omega arith)
 
         symbolic-ran :
             Ran size n (verdict (symbolThen (checkedSymbol image r (e .symbol)) (λ y. writtenRefusal r (e .place) 8)) k)
             (After (resolve S k name) (write m ((obj S k) .offset + e .place) 8 (byteOf (addressOr0 (resolve S k name)))))
             (symbolicOf address table (count S) t r e i (checkedSymbol (imageIn a t) r (e .symbol)) p a report)
-        unfolding symbolicOf
+        unfolding symbolicOf answeredOf
         symbolic-ran =
             symbol-step (e .symbol) (λ y. writtenRefusal r (e .place) 8)
             (After (resolve S k name) (write m ((obj S k) .offset + e .place) 8 (byteOf (addressOr0 (resolve S k name)))))
             (λ c. symbolicOf address table (count S) t r e i c p a report) (λ z. refl)
             (λ ok same.
-            symbolic-by (resolve S k name) (soughtFor address table (count S) t a (nameOf (imageIn a t) r y))
+            symbolic-by (soughtFor address table (count S) t a (nameOf (imageIn a t) r y))
             (ap (λ (x : List ℕ). scopedOf (soughtFor address table (count S) t a x)) (name-same (e .symbol) ok same)
             ∙ searches address size table h pr fs L a steady k hi name)
             (inWritable (r .segments) (e .place) 8) refl)
@@ -362,7 +422,8 @@ module _ (address size : ℕ) (table : List ℕ) (h pr : File) (fs : List File) 
             (After x (copied S ((obj S k) .offset + e .place) (y .size) x m)) (copyOf table t (r .segments) e i y Absent p a report))
             eq
             (with-words (verdict 0 k) (ws ++ pick (not (eqb (bindingOf y) 2)) (reportWord 6 i ∷ []) []) (earlier u (pick (not (eqb (bindingOf y) 2)) k 0))
-            m a (unresolvedOf y k i p report) (verdict-none 0 k refl) (unresolved-going i l y) (d .written) (d .memory))
+            m a (unresolvedOf y k i p report) (verdict-none 0 k refl) (unresolved-going i l y) (unresolved-kept y k i p report) (d .written)
+            (d .memory))
         copy-by x (Found o z v) eq range =
             subst
             (λ (x : Answer).
@@ -406,7 +467,7 @@ module _ (address size : ℕ) (table : List ℕ) (h pr : File) (fs : List File) 
         entry-ran Ignored = plain (verdict 0 k) m a (verdict-none 0 k refl) (d .written) (d .memory)
         entry-ran Passed =
             with-words (verdict 0 k) (ws ++ (reportWord 7 i ∷ [])) (earlier u 0) m a (noteOf (reportSum 7 i) p report) (verdict-none 0 k refl)
-            (rw (earlier-none u) (word-going ws u n p report (d .going) 7 i (omega arith)))
+            (rw (earlier-none u) (word-going ws u n p report (d .going) 7 i (omega arith))) (note-kept (reportSum 7 i) p report)
             (d .written) (d .memory)
         entry-ran Irelative = stopped 16 _ (λ e. omega arith)
         entry-ran Relative = relative-ran e (inWritable (r .segments) (e .place) 8) refl

@@ -25,6 +25,8 @@ pub mod ObjectCount
 pub mod RelocatedIs
 pub mod LoopLaws
 pub mod RunLaws
+pub mod KeptLaws
 pub mod RelativeLaws
+pub mod SymbolicLaws
 pub mod BitLaws
 pub mod BindIs

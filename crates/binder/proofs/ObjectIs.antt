@@ -16,14 +16,14 @@ use Rattle.object.specs.Record.{Record}
 use Rattle.binder.specs.Instance.{File, imageOf, recordOf, placesOf, wordsOf, relasOf, entryOf, objectAt}
 use Rattle.binder.specs.Verdict.{Verdict, first, entriesVerdict, objectVerdict}
 use Rattle.binder.specs.Report.{reportWord, entryWords, objectWords, hasUndefined}
-use Rattle.binder.specs.Relocating.{left, Noted, noted, Summed, summed, refusedBy, reportSum, noteOf, far, cutTo32, addRelrs, turnOf, imageIn, againRefusal, runTables, thenTables, runObject, runAt}
+use Rattle.binder.specs.Relocating.{left, Noted, noted, Summed, summed, refusedBy, keeps, reportSum, noteOf, far, cutTo32, addRelrs, turnOf, imageIn, againRefusal, runTables, thenTables, runObject, runAt}
 use Rattle.binder.specs.declared.turn.Turn.{Turn}
 use Rattle.binder.specs.declared.report.Progress.{Progress}
 use Rattle.binder.proofs.Steady.{set, fileAt, LoadedSet, PlacedAt, Steady}
 use Rattle.binder.proofs.SteadyLaws.{lies, again}
-use Rattle.binder.proofs.ReportFill.{Going, NotedGoing, earlier, going-length, word-going}
+use Rattle.binder.proofs.ReportFill.{Going, NotedGoing, KeptAs, earlier, going-length, word-going, keeps-going, note-kept}
 use Rattle.binder.proofs.Runs.{Ran, verdict-none, first-met, ran-refused, ran-weaker}
-use Rattle.binder.proofs.EntryIs.{Doing}
+use Rattle.binder.proofs.EntryIs.{none-kept, Doing}
 use Rattle.binder.proofs.TableIs.{Entered, tables-ran}
 use Rattle.binder.proofs.RelrIs.{RelrEnded, relr-is}
 
@@ -95,9 +95,9 @@ module _ (address size : ℕ) (table : List ℕ) (h pr : File) (fs : List File) 
 
     after-relr :
         (z : ℕ) (b : List ℕ) (q : Noted) → RelrEnded address size table h pr fs k z a b → NotedGoing (ws ++ (reportWord 5 k ∷ [])) u n q
-        → Ran size n (objectVerdict S k f) Turned (thenTables address table (count S) t r (summed z b) q)
+        → KeptAs 0 0 q → Ran size n (objectVerdict S k f) Turned (thenTables address table (count S) t r (summed z b) q)
     unfolding objectVerdict
-    after-relr z b (noted p′ report′) w g′ =
+    after-relr z b (noted p′ report′) w g′ none =
         subst
         (λ (v : Verdict).
         Ran size n (first v (entriesVerdict S k image r (relasOf image r))) Turned
@@ -112,7 +112,12 @@ module _ (address size : ℕ) (table : List ℕ) (h pr : File) (fs : List File) 
         Turned entered-turned (runTables address table (count S) t r (left p′ b report′))
         (tables-ran address size table h pr fs L k lo hi n a (ws ++ (reportWord 5 k ∷ [])) u
         (addWords (obj S k) (placesOf (wordsOf image r)) (mem a)) p′ b report′
-        record { going = g′; memory = w .done (eqb-true z 0 c) .0; written = w .done (eqb-true z 0 c) .1 })))
+        record {
+          going = g′;
+          memory = w .done (eqb-true z 0 c) .0;
+          written = w .done (eqb-true z 0 c) .1;
+          kept = none-kept address size table h pr fs L k lo hi n a p′ (none .0);
+        })))
         (λ (c : eqb z 0 ≡ false).
         rw (c, first-met z k (entriesVerdict S k image r (relasOf image r)) (eqb-false z 0 c))
         (ran-refused size n z k Turned (refusedBy t z p′) b report′ (eqb-false z 0 c) refl refl (w .length-is)
@@ -127,10 +132,10 @@ module _ (address size : ℕ) (table : List ℕ) (h pr : File) (fs : List File) 
       where
         go :
             (x : Summed) → x ≡ addRelrs t r (cutTo32 (r .relrs)) 0 far a
-            → Ran size n (objectVerdict S k f) Turned (thenTables address table (count S) t r x (noteOf (reportSum 5 k) p report))
+            → Ran size n (objectVerdict S k f) Turned (thenTables address table (count S) t r x (noteOf (reportSum 5 k) (keeps 0 0 p) report))
         go (summed z b) e =
-            after-relr z b (noteOf (reportSum 5 k) p report) (relr-is address size table h pr fs L k lo hi a s z b e)
-            (word-going ws u n p report g 5 k small)
+            after-relr z b (noteOf (reportSum 5 k) (keeps 0 0 p) report) (relr-is address size table h pr fs L k lo hi a s z b e)
+            (word-going ws u n (keeps 0 0 p) report (keeps-going ws u n 0 0 p report g) 5 k small) (note-kept (reportSum 5 k) (keeps 0 0 p) report)
 
     -- with the record that is read again
     pub turn-ran :

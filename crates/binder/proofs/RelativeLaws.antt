@@ -19,9 +19,10 @@ use Rattle.binder.specs.declared.turn.Turn.{Turn}
 use Rattle.binder.specs.Relocating.{left, imageIn, relativeOf, runAction, runTable}
 use Rattle.binder.specs.RunSteps.{EntriesPassed}
 use Rattle.binder.proofs.RunLaws.{entry-goes}
+use Rattle.binder.proofs.KeptLaws.{kept-then, entry-kept}
 
 -- a number in the object's part of the arena
-number-in :
+pub number-in :
     (t : Turn) (a : List ℕ) (m x y : ℕ) {v : ℕ} → x + m ≤ t .span → y ≡ t .offset + x → v ≡ leAt m (mem a) y → leAt m (mem (imageIn a t)) x ≡ v
 number-in t a m x y fits e g = leAt-part m (t .span) (t .offset) a x fits ∙ rw (g, e)
 
@@ -71,5 +72,8 @@ module _
     pub relative-turn :
         (start : ℕ) (a₀ : List ℕ) → EntriesPassed t at n low high start a₀ i a → EntriesPassed t at n low high start a₀ (i + 1) b
     relative-turn start a₀ passed address table count r first p report wr fine =
-        entry-goes address table count t r at first n i p a report {b = b} {noted = report} some refl acts refl
-        (ran address table count r ((first + i) % 2 ^ 32) p report wr) (passed address table count r first p report wr fine) (fine (omega arith))
+        let so-far = passed address table count r first p report wr fine in
+        let run = ran address table count r ((first + i) % 2 ^ 32) p report wr in (
+          entry-goes address table count t r at first n i p a report {b = b} {noted = report} some refl acts refl run (so-far .0) (fine (omega arith)),
+          kept-then t r a₀ a b (so-far .1) (entry-kept t r address table count ((first + i) % 2 ^ 32) (relaAt (imageIn a t) at i) p a report Relative p b report run),
+        )

@@ -12,8 +12,10 @@ use lib.ListN.{length, set, take, replicate, length-append, length-replicate}
 use lib.Seq.{length-take-le, take-append-le}
 use Rattle.words.specs.Choice.{pick, either}
 use Rattle.model.proofs.OrderLaws.{decide}
+use Rattle.object.specs.Symbol.{bindingOf}
+use Rattle.object.specs.declared.symbol.Symbol.{Symbol}
 use Rattle.binder.specs.Report.{reportWord}
-use Rattle.binder.specs.Relocating.{Noted, noted, reportSum, noteOf, markUndefined, undefinedIn}
+use Rattle.binder.specs.Relocating.{Noted, noted, keeps, reportSum, noteOf, markUndefined, undefinedIn, unresolvedOf}
 use Rattle.binder.specs.declared.report.Progress.{Progress}
 
 -- a report of n words that has these words, then zeros; what does not fit is dropped
@@ -133,6 +135,34 @@ module _ (ws : List ℕ) (u n : ℕ) (p : Progress) (report : List ℕ) (g : Goi
 
 pub marked-going : (ws : List ℕ) (u n k : ℕ) (q : Noted) → NotedGoing ws u n q → NotedGoing ws (earlier u k) n (markUndefined k q)
 marked-going ws u n k (noted p report) g = mark-going ws u n p report g k
+
+-- ---- the kept answer
+
+-- an answer is kept, or none
+pub keeps-going : (ws : List ℕ) (u n last address : ℕ) (p : Progress) (report : List ℕ) → Going ws u n p report → Going ws u n (keeps last address p) report
+keeps-going ws u n last address p report g =
+    record { refusal = g .refusal; words = g .words; full = g .full; undefined = g .undefined; report-is = g .report-is }
+
+-- words of the report leave it
+abbrev pub KeptAs : ℕ → ℕ → Noted → Type 0
+KeptAs last address (noted p report) = (p .last ≡ last) × (p .address ≡ address)
+
+pub note-kept : (w : ℕ) (p : Progress) (report : List ℕ) → KeptAs (p .last) (p .address) (noteOf w p report)
+unfolding noteOf
+note-kept w p report =
+    ⊎-elim (λ (t : ltb (p .words) (length report) ≡ true). rw t (refl, refl)) (λ (t : ltb (p .words) (length report) ≡ false). rw t (refl, refl))
+    (decide (ltb (p .words) (length report)))
+
+marked-kept : (last address k : ℕ) (q : Noted) → KeptAs last address q → KeptAs last address (markUndefined k q)
+marked-kept last address k (noted p report) h = h
+
+pub unresolved-kept : (y : Symbol) (k i : ℕ) (p : Progress) (report : List ℕ) → KeptAs (p .last) (p .address) (unresolvedOf y k i p report)
+unfolding unresolvedOf
+unresolved-kept y k i p report =
+    ⊎-elim (λ (t : eqb (bindingOf y) 2 ≡ true). rw t (refl, refl))
+    (λ (t : eqb (bindingOf y) 2 ≡ false).
+    rw t (marked-kept (p .last) (p .address) k (noteOf (reportSum 6 i) p report) (note-kept (reportSum 6 i) p report)))
+    (decide (eqb (bindingOf y) 2))
 
 -- ---- the first object that has an undefined entry
 

@@ -9,6 +9,8 @@ use native.Mathlib.Numerals.{add-one}
 use borrow.Author.Tests.{eq-eqb, ne-eqb, le-leb, lt-leb}
 use lib.ListN.{length, getD, take, drop, length-take, drop-of-length-le}
 use lib.Seq.{drop-cons, getD-take}
+use Rattle.words.specs.Memory.{patch}
+use Rattle.words.specs.Words.{byteOf}
 use Rattle.object.specs.LoadTable.{Loaded, segmentsIn}
 use Rattle.object.specs.ProgramHeader.{loadsOf, dynamicOf}
 use Rattle.object.specs.Entries.{relaAt, actionOf}
@@ -27,7 +29,7 @@ use Rattle.sheet.specs.Sheet.{Input, noInput}
 use Rattle.binder.specs.declared.report.Progress.{Progress}
 use Rattle.scope.specs.declared.scope.Scoped.{Scoped}
 use Rattle.binder.specs.declared.turn.Turn.{Turn}
-use Rattle.binder.specs.Relocating.{Left, left, noted, summed, unlessRefused, refusedBy, imageIn, turnOf, againRefusal, againRecord, symbolRefusal, soughtFor, soughtForCopy, foundOf, copyOf, symbolicOf, copyingOf, runAction, runTable, far, cutTo32, reportSum, noteOf, addRelrs, runTables, runObject, runAt, runOrder}
+use Rattle.binder.specs.Relocating.{Left, left, noted, summed, unlessRefused, refusedBy, imageIn, turnOf, againRefusal, againRecord, symbolRefusal, soughtFor, soughtForCopy, keeps, foundOf, copyOf, answeredOf, symbolicOf, copyingOf, runAction, runTable, far, cutTo32, reportSum, noteOf, addRelrs, runTables, runObject, runAt, runOrder}
 
 -- ---- the entries of a symbol
 
@@ -48,10 +50,14 @@ module _ (address : ℕ) (table : List ℕ) (count : ℕ) (t : Turn) (r : Record
     unfolding symbolicOf
     symbolic-outside hb f hq = rw (hq, ← hx, hy, ← hs, ← hb, f)
 
-    -- it is
-    pub symbolic-inside : {b : Bool} {s : Scoped} {out : Left} → b ≡ inWritable segments (e .place) 8 → b ≡ true → s ≡ soughtFor address table count t a (nameOf (imageIn a t) r y) → out ≡ foundOf t e i y s p a report → out ≡ symbolicOf address table count t r e i (checkedSymbol (imageIn a t) r (e .symbol)) p a report
-    unfolding symbolicOf
-    symbolic-inside hb f hf run = rw (← hx, hy, ← hs, ← hb, f, ← hf) run
+    -- it is: the kept answer is the symbol's, or it is not
+    pub symbolic-kept : {b : Bool} {out : Left} → b ≡ inWritable segments (e .place) 8 → b ≡ true → p .last ≡ e .symbol + 1 → out ≡ left p (patch a (t .offset + e .place) 8 (byteOf (p .address))) report → out ≡ symbolicOf address table count t r e i (checkedSymbol (imageIn a t) r (e .symbol)) p a report
+    unfolding symbolicOf answeredOf
+    symbolic-kept hb f same run = rw (← hx, hy, ← hs, ← hb, f, eq-eqb _ _ same) run
+
+    pub symbolic-inside : {b : Bool} {s : Scoped} {out : Left} → b ≡ inWritable segments (e .place) 8 → b ≡ true → (p .last ≡ e .symbol + 1 → ⊥) → s ≡ soughtFor address table count t a (nameOf (imageIn a t) r y) → out ≡ foundOf t e i y s p a report → out ≡ symbolicOf address table count t r e i (checkedSymbol (imageIn a t) r (e .symbol)) p a report
+    unfolding symbolicOf answeredOf
+    symbolic-inside hb f other hf run = rw (← hx, hy, ← hs, ← hb, f, ne-eqb _ _ other, ← hf) run
 
     pub copying-sought : {s : Scoped} {out : Left} → s ≡ soughtForCopy address table count a (nameOf (imageIn a t) r y) → out ≡ copyOf table t segments e i y s p a report → out ≡ copyingOf address table count t r e i (checkedSymbol (imageIn a t) r (e .symbol)) p a report
     unfolding copyingOf
@@ -101,14 +107,14 @@ module _ (address : ℕ) (table : List ℕ) (count : ℕ) (t : Turn) (r : Record
     tables-go h hm next = rw (← hn, ← run, eq-eqb _ _ h, ← hm) next
 
   -- the report word and RELR, then the tables
-  module _ {w z : ℕ} (hw : w ≡ reportSum 5 (t .number)) (hq : noted q marks ≡ noteOf w p report) (hz : summed z b ≡ addRelrs t r (cutTo32 (r .relrs)) 0 far a) where
+  module _ {w z : ℕ} {fresh : Progress} (hf : fresh ≡ keeps 0 0 p) (hw : w ≡ reportSum 5 (t .number)) (hq : noted q marks ≡ noteOf w fresh report) (hz : summed z b ≡ addRelrs t r (cutTo32 (r .relrs)) 0 far a) where
     pub relr-stops : {q′ : Progress} → (z ≡ 0 → ⊥) → q′ ≡ refusedBy t z q → left q′ b marks ≡ runObject address table count t r p a report
     unfolding runObject
-    relr-stops h hr = rw (hr, ← hw, ← hq, ← hz, ne-eqb _ _ h)
+    relr-stops h hr = rw (hr, ← hf, ← hw, ← hq, ← hz, ne-eqb _ _ h)
 
     pub relr-goes : {out : Left} → z ≡ 0 → out ≡ runTables address table count t r (left q b marks) → out ≡ runObject address table count t r p a report
     unfolding runObject
-    relr-goes h next = rw (← hw, ← hq, ← hz, eq-eqb _ _ h) next
+    relr-goes h next = rw (← hf, ← hw, ← hq, ← hz, eq-eqb _ _ h) next
 
 -- ---- the objects of an order
 

@@ -71,7 +71,7 @@ writable-no-table (s ∷ ss) q n i e t w =
     (λ (x : some (λ s. both (isWritable s) (holdsRange s q n)) ss ≡ true). writable-no-table ss q n i x (c .1) w)
     (either-true (both (isWritable s) (holdsRange s q n)) (some (λ s. both (isWritable s) (holdsRange s q n)) ss) e)
 
-table-out : (span : ℕ) (ss : List Segment) (q n i : ℕ) → inWritable ss q n ≡ true → isTable span ss i ≡ true → In q n i → ⊥
+pub table-out : (span : ℕ) (ss : List Segment) (q n i : ℕ) → inWritable ss q n ≡ true → isTable span ss i ≡ true → In q n i → ⊥
 unfolding tables.isTable
 table-out span ss q n i e t w = writable-no-table ss q n i e (both-true (ltb i span) (every (λ s. spares s i) ss) t .1) w
 

@@ -57,11 +57,33 @@ withArena a (noted p report) = left p a report
 
 -- before any object's turn
 abbrev pub started : Progress
-started = record { refusal = 0; object = 0; words = 0; full = false; undefined = 0 }
+started = record { refusal = 0; object = 0; words = 0; full = false; undefined = 0; last = 0; address = 0 }
 
 -- the object whose turn it is meets a refusal
 abbrev pub refusedBy : Turn → ℕ → Progress → Progress
-refusedBy t n p = record { refusal = n; object = t .number; words = p .words; full = p .full; undefined = p .undefined }
+refusedBy t n p =
+    record {
+      refusal = n;
+      object = t .number;
+      words = p .words;
+      full = p .full;
+      undefined = p .undefined;
+      last = p .last;
+      address = p .address;
+    }
+
+-- the answer of a search is kept: `last` is its symbol's index + 1, and 0 is none
+abbrev pub keeps : ℕ → ℕ → Progress → Progress
+keeps last address p =
+    record {
+      refusal = p .refusal;
+      object = p .object;
+      words = p .words;
+      full = p .full;
+      undefined = p .undefined;
+      last = last;
+      address = address;
+    }
 
 -- the next step, unless a refusal was met
 abbrev pub unlessRefused : (Left → Left) → Left → Left
@@ -82,9 +104,27 @@ unfoldable pub noteOf : ℕ → Progress → List ℕ → Noted
 noteOf w p report =
     pick (ltb (p .words) (length report))
     (noted
-    (record { refusal = p .refusal; object = p .object; words = p .words + 1; full = p .full; undefined = p .undefined })
+    (record {
+      refusal = p .refusal;
+      object = p .object;
+      words = p .words + 1;
+      full = p .full;
+      undefined = p .undefined;
+      last = p .last;
+      address = p .address;
+    })
     (set report (p .words) w))
-    (noted (record { refusal = p .refusal; object = p .object; words = p .words; full = true; undefined = p .undefined }) report)
+    (noted
+    (record {
+      refusal = p .refusal;
+      object = p .object;
+      words = p .words;
+      full = true;
+      undefined = p .undefined;
+      last = p .last;
+      address = p .address;
+    })
+    report)
 
 -- the first object that has an undefined entry
 abbrev pub undefinedIn : ℕ → Progress → Progress
@@ -95,6 +135,8 @@ undefinedIn k p =
       words = p .words;
       full = p .full;
       undefined = pick (eqb (p .undefined) 0) k (p .undefined);
+      last = p .last;
+      address = p .address;
     }
 
 abbrev pub markUndefined : ℕ → Noted → Noted
@@ -166,10 +208,10 @@ abbrev pub symbolRefusal : CheckedSymbol → ℕ
 symbolRefusal (Refused n) = n
 symbolRefusal (Checked y) = 0
 
--- 6 and 7: the address that was found, or 0 and a report word
+-- 6 and 7: the address that was found, which is kept, or 0 and a report word
 unfoldable pub foundOf : Turn → Rela → ℕ → Symbol → Scoped → Progress → List ℕ → List ℕ → Left
 foundOf t e i y Absent p a report = withArena (patch a (t .offset + e .place) 8 (byteOf 0)) (unresolvedOf y (t .number) i p report)
-foundOf t e i y (Found k d x) p a report = left p (patch a (t .offset + e .place) 8 (byteOf x)) report
+foundOf t e i y (Found k d x) p a report = left (keeps (e .symbol + 1) x p) (patch a (t .offset + e .place) 8 (byteOf x)) report
 
 -- the `n` bytes of the definition `d`, in the object at the seat `s`, may be copied to the place `to` of the object whose turn it is: the
 -- tests of refusal 18, and both ranges end inside an arena of `size` bytes
@@ -224,11 +266,16 @@ module _ (address : ℕ) (table : List ℕ) (count : ℕ) where
   abbrev pub soughtForCopy : List ℕ → List ℕ → Scoped
   soughtForCopy a name = resolveCopySeats address a table count name (gnuHash name) (elfHash name)
 
+  -- the kept answer, where it is the symbol's, or a search
+  unfoldable pub answeredOf : Turn → Record → Rela → ℕ → Symbol → Progress → List ℕ → List ℕ → Left
+  answeredOf t r e i y p a report =
+      pick (eqb (p .last) (e .symbol + 1)) (left p (patch a (t .offset + e .place) 8 (byteOf (p .address))) report)
+      (foundOf t e i y (soughtFor t a (nameOf (imageIn a t) r y)) p a report)
+
   unfoldable pub symbolicOf : Turn → Record → Rela → ℕ → CheckedSymbol → Progress → List ℕ → List ℕ → Left
   symbolicOf t r e i (Refused n) p a report = left (refusedBy t n p) a report
   symbolicOf t r e i (Checked y) p a report =
-      pick (inWritable (r .segments) (e .place) 8) (foundOf t e i y (soughtFor t a (nameOf (imageIn a t) r y)) p a report)
-      (left (refusedBy t 17 p) a report)
+      pick (inWritable (r .segments) (e .place) 8) (answeredOf t r e i y p a report) (left (refusedBy t 17 p) a report)
 
   unfoldable pub copyingOf : Turn → Record → Rela → ℕ → CheckedSymbol → Progress → List ℕ → List ℕ → Left
   copyingOf t r e i (Refused n) p a report = left (refusedBy t n p) a report
@@ -260,9 +307,10 @@ module _ (address : ℕ) (table : List ℕ) (count : ℕ) where
   abbrev pub thenTables : Turn → Record → Summed → Noted → Left
   thenTables t r (summed z a) (noted p report) = pick (eqb z 0) (runTables t r (left p a report)) (left (refusedBy t z p) a report)
 
-  -- the report word of the object, RELR, RELA, PLT
+  -- the report word of the object, RELR, RELA, PLT; no answer is kept before, since a symbol's index is the object's own
   unfoldable pub runObject : Turn → Record → Progress → List ℕ → List ℕ → Left
-  runObject t r p a report = thenTables t r (addRelrs t r (cutTo32 (r .relrs)) 0 far a) (noteOf (reportSum 5 (t .number)) p report)
+  runObject t r p a report =
+      thenTables t r (addRelrs t r (cutTo32 (r .relrs)) 0 far a) (noteOf (reportSum 5 (t .number)) (keeps 0 0 p) report)
 
   -- ---- the objects
 

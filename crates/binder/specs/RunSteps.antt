@@ -1,14 +1,28 @@
--- What the loops without tests leave, each against the steps of Relocating: entries of type 8 one after another, and the words of a bitmap,
--- where all places lie in one writable segment. Nothing that is stated of `bind` and `query` rests on it. Assumes nothing.
+-- What the loops without tests leave, each against the steps of Relocating: entries of types 8, 6 and 7 one after another, and the words of a
+-- bitmap, where all places lie in one writable segment. Nothing that is stated of `bind` and `query` rests on it. Assumes nothing.
 use mathlib.Core.List.{List}
 use mathlib.Core.Path.{_≡_}
 use Prim.Native.Nat.{ℕ, _+_, _-_, _<_}
+use lib.ListN.{length}
+use Rattle.object.specs.TableBytes.{Agree}
 use Rattle.object.specs.WritableRange.{WritableRange}
-use Rattle.object.specs.Record.{Record}
+use Rattle.object.specs.FineRange.{FineOf}
+use Rattle.object.specs.Record.{Record, isTableOf}
 use Rattle.object.specs.declared.program_header.Segment.{Segment}
+use Rattle.scope.specs.declared.scope.Scoped.{Scoped}
+use Rattle.scope.specs.declared.scope.Scoped.the-variants.{Absent, Found}
 use Rattle.binder.specs.declared.report.Progress.{Progress}
 use Rattle.binder.specs.declared.turn.Turn.{Turn}
-use Rattle.binder.specs.Relocating.{left, summed, addBits, runTable}
+use Rattle.binder.specs.declared.relocate.Symbols.{Symbols}
+use Rattle.binder.specs.declared.relocate.Run.{Run}
+use Rattle.binder.specs.declared.relocate.Address.{Address}
+use Rattle.binder.specs.declared.relocate.Address.the-variants.{Nowhere, At}
+use Rattle.binder.specs.Relocating.{left, keeps, imageIn, summed, addBits, runTable}
+
+-- the table bytes of an object at its turn are in the arena `b` as they were in `a`
+pub record TablesKept (t : Turn) (r : Record) (a b : List ℕ) : Type 0 where
+  pub long : length b ≡ length a
+  pub bytes : Agree (isTableOf r) (imageIn a t) (imageIn b t)
 
 -- of the table of `n` entries at `at`, what is left from entry `i` on over the arena `a` is what is left from entry `j` on over `b`, for an
 -- object in which low .. high is writable, and where no refusal was met
@@ -17,7 +31,30 @@ EntriesPassed t at n low high i a j b =
     (address : ℕ) (table : List ℕ) (count : ℕ) (r : Record) (first : ℕ) (p : Progress) (report : List ℕ)
     → WritableRange (r .segments) low high
     → (0 < high → p .refusal ≡ 0)
-    → runTable address table count t r at first (n - j) j (left p b report) ≡ runTable address table count t r at first (n - i) i (left p a report)
+    → (runTable address table count t r at first (n - j) j (left p b report) ≡ runTable address table count t r at first (n - i) i (left p a report))
+    × TablesKept t r a b
+
+-- the object's symbols
+pub record SymbolsOf (t : Turn) (r : Record) (y : Symbols) (a : List ℕ) : Type 0 where
+  pub symbols : r .symbols ≡ y .symbols
+  pub strings : r .strings ≡ y .strings
+  pub fine : FineOf (imageIn a t) r (y .fits) (y .ends)
+
+-- what a search found
+abbrev pub addressIn : Scoped → Address
+addressIn Absent = Nowhere
+addressIn (Found k d x) = At x
+
+-- as EntriesPassed, with the answers that are kept: `s` before, `s′` after
+abbrev pub SymbolsPassed : ℕ → List ℕ → ℕ → Turn → Symbols → ℕ → ℕ → ℕ → ℕ → Run → List ℕ → Run → List ℕ → Type 0
+SymbolsPassed address table count t y at n low high s a s′ b =
+    (r : Record) (first : ℕ) (p : Progress) (report : List ℕ)
+    → WritableRange (r .segments) low high
+    → SymbolsOf t r y a
+    → (0 < high → p .refusal ≡ 0)
+    → (runTable address table count t r at first (n - s′ .next) (s′ .next) (left (keeps (s′ .last) (s′ .address) p) b report)
+    ≡ runTable address table count t r at first (n - s .next) (s .next) (left (keeps (s .last) (s .address) p) a report))
+    × TablesKept t r a b
 
 -- the words of a bitmap are added: `a` becomes `b`, where the 63 words from `location` on are writable
 abbrev pub BitsPassed : Turn → ℕ → ℕ → List ℕ → List ℕ → Type 0

@@ -1,15 +1,20 @@
 // Relocation: port of strategies/relocate.rs. The objects one after another: RELR, RELA, PLT; refusals 14 to 18, entry by entry.
 ghost use mathlib.Core.Path.{_≡_};
-ghost use Prim.Native.Nat.{_+_, _≤_};
+ghost use mathlib.Core.Bool.{true};
+ghost use Prim.Native.Nat.{_+_, _*_, _≤_};
+ghost use lib.Dec.{eqb};
 ghost use lib.ListN.{take};
+ghost use Rattle.words.specs.Choice.{pick};
 ghost use Rattle.words.specs.Names.{nameAt};
-ghost use Rattle.object.specs.Entries.{relaAt};
+ghost use Rattle.object.specs.Entries.{relaAt, actionOf};
+ghost use Rattle.object.specs.declared.relocate.Action.the-variants as actions;
 ghost use Rattle.object.specs.Record.{heldBy, checkedSymbol};
 ghost use Rattle.object.specs.WritableRange.{WritableRange};
 ghost use Rattle.sheet.specs.Parts.{inputsIn};
 ghost use Rattle.scope.specs.Seats.{Filtered};
 ghost use Rattle.binder.specs.Relocating.{left, wrote, started, imageIn, relativeOf, symbolRefusal, foundOf, soughtFor, soughtForCopy, symbolicOf, copyingOf, runAction, runTable, runTables, runObject, runAt, runOrder};
-ghost use Rattle.binder.specs.RunSteps.{EntriesPassed};
+ghost use Rattle.binder.specs.RunSteps.{EntriesPassed, SymbolsOf, addressIn, SymbolsPassed};
+ghost use Rattle.binder.specs.declared.relocate.Address.the-variants.{At};
 use crate::order::Order;
 use crate::report::Progress;
 use crate::turn::Turn;
@@ -84,7 +89,7 @@ fn search_copy(
     scope::scope::resolve_copy(arena, table, count, address, wanted, gnu)
 }
 
-// Types 6 and 7, of the entry with number `i` and the symbol `y`: what was found, or 0 and a word of the report.
+// Types 6 and 7, of the entry with number `i` and the symbol `y`: what was found, which is kept, or 0 and a word of the report.
 fn write_found(
     arena: &mut [u8],
     report: &mut [u32],
@@ -107,7 +112,7 @@ fn write_found(
         return crate::report::unresolved(report, p, y, t.number, i);
     };
     crate::turn::write_word(arena, t.offset, e.place, address);
-    p
+    crate::report::keep(p, e.symbol as u64 + 1, address)
 }
 
 // Refusal 14 or 15, or 0.
@@ -142,6 +147,10 @@ fn symbolic(
     let b = object::dynamic_fields::bounds_of(o);
     if !object::table_bytes::in_writable(b, e.place, 8) {
         return crate::report::refused(p, t, 17);
+    }
+    if p.last == e.symbol as u64 + 1 {
+        crate::turn::write_word(arena, t.offset, e.place, p.address);
+        return p;
     }
     let s = search(arena, table, count, address, t, o.strings, y.name);
     write_found(arena, report, p, t, i, e, y, s)
@@ -266,12 +275,180 @@ fn relatives(
     i
 }
 
-// The range to be used after an entry: after one of type 8, the segment of its place.
+// The symbols of an object: where they and their names are, and which of them need no further test of refusals 14 and 15.
+pub struct Symbols {
+    pub symbols: usize,
+    pub strings: usize,
+    pub fits: usize,
+    pub ends: usize,
+}
+
+// How far a run of entries came: the next entry, and the answer that is kept.
+pub struct Run {
+    pub next: u32,
+    pub last: u64,
+    pub address: u64,
+}
+
+// What was found of a symbol.
+pub enum Address {
+    Nowhere,
+    At(u64),
+}
+
+fn symbols_of(arena: &[u8], t: Turn, o: ObjectData) -> Symbols
+    ensures { λ r. ⌜ SymbolsOf t (heldBy o) r (now (arena .entry)) ⌝ }
+{
+    let f = object::dynamic_fields::fine_in(crate::turn::image_of(arena, t), o);
+    Symbols {
+        symbols: o.symbols,
+        strings: o.strings,
+        fits: f.fits,
+        ends: f.ends,
+    }
+}
+
+fn is_symbolic(kind: u32) -> bool
+    ensures { λ r. ⌜ (r ≡ true → actionOf kind ≡ actions.Symbolic) ⌝ }
+{
+    if kind == 6 {
+        return true;
+    }
+    if kind == 7 {
+        return true;
+    }
+    false
+}
+
+// The kept address, where it is that of the symbol with this number, or what a search finds.
+fn address_of(
+    arena: &[u8],
+    table: &[u64],
+    count: usize,
+    address: u64,
+    t: Turn,
+    strings: usize,
+    name: u32,
+    number: u64,
+    last: u64,
+    kept: u64,
+) -> Address
+    ensures { λ r. ⌜ r ≡ pick (eqb last number) (At kept) (addressIn (soughtFor address (now (table .entry)) count t (now (arena .entry)) (nameAt (imageIn (now (arena .entry)) t) (strings + name)))) ⌝ }
+{
+    if last == number {
+        return Address::At(kept);
+    }
+    let s = search(arena, table, count, address, t, strings, name);
+    match s {
+        Scoped::Absent => Address::Nowhere,
+        Scoped::Found {
+            object: _,
+            definition: _,
+            address: found,
+        } => Address::At(found),
+    }
+}
+
+// As `relatives`, for entries of types 6 and 7 whose symbols need no further test and are found: the address. The first entry that is not of
+// this kind, and the answer that is kept then.
+fn symbolics(
+    arena: &mut [u8],
+    table: &[u64],
+    count: usize,
+    address: u64,
+    t: Turn,
+    y: Symbols,
+    at: usize,
+    s: Run,
+    n: u32,
+    low: usize,
+    high: usize,
+) -> Run
+    requires { ⌜ s .next ≤ n ⌝ }
+    ensures { λ r. ⌜ (s .next ≤ r .next) × (r .next ≤ n) × SymbolsPassed address (now (table .entry)) count t y at n low high s (now (arena .entry)) r (now (arena .exit)) ⌝ }
+{
+    if high < 8 {
+        return s;
+    }
+    if t.span < high {
+        return s;
+    }
+    if arena.len() < t.offset {
+        return s;
+    }
+    if arena.len() - t.offset < t.span {
+        return s;
+    }
+    if t.span < at {
+        return s;
+    }
+    if (t.span - at) / 24 < n as usize {
+        return s;
+    }
+    if t.span < y.symbols {
+        return s;
+    }
+    if (t.span - y.symbols) / 24 < y.fits {
+        return s;
+    }
+    let end = high - 8;
+    let mut p = s;
+    let mut k = t.offset + at + 24 * (s.next as usize);
+    while p.next < n {
+        if !is_symbolic(words::bytes::u32_in(arena, k + 8)) {
+            return p;
+        }
+        let place = words::bytes::u64_in(arena, k) as usize;
+        if place < low {
+            return p;
+        }
+        if end < place {
+            return p;
+        }
+        let index = words::bytes::u32_in(arena, k + 12);
+        if y.fits <= index as usize {
+            return p;
+        }
+        let name = words::bytes::u32_in(arena, t.offset + y.symbols + 24 * (index as usize));
+        if y.ends <= name as usize {
+            return p;
+        }
+        let number = index as u64 + 1;
+        let a = address_of(
+            arena,
+            table,
+            count,
+            address,
+            t,
+            y.strings,
+            name,
+            number,
+            p.last,
+            p.address,
+        );
+        let Address::At(found) = a else {
+            return p;
+        };
+        words::bytes::store_in(arena, t.offset + place, found);
+        p = Run {
+            next: p.next + 1,
+            last: number,
+            address: found,
+        };
+        k += 24;
+    }
+    p
+}
+
+// The range to be used after an entry: after one of types 6, 7 and 8, the segment of its place.
 fn range_after(w: Writable, b: Bounds, kind: u32, place: usize) -> Writable
     requires { ⌜ WritableRange (take (b .count) (b .segments)) (w .low) (w .high) ⌝ }
     ensures { λ r. ⌜ WritableRange (take (b .count) (b .segments)) (r .low) (r .high) ⌝ }
 {
-    if kind != 8 {
+    if kind < 6 {
+        return w;
+    }
+    if 8 < kind {
         return w;
     }
     object::table_bytes::writable_at(b, place, 8)
@@ -295,11 +472,19 @@ fn run_table(
     ensures { λ r. ⌜ left r (now (arena .exit)) (now (report .exit)) ≡ runTable address (now (table .entry)) count t (heldBy o) at first n 0 (left p (now (arena .entry)) (now (report .entry))) ⌝ }
 {
     let b = object::dynamic_fields::bounds_of(o);
+    let y = symbols_of(arena, t, o);
     let mut w = Writable { low: 0, high: 0 };
     let mut q = p;
     let mut i = 0u32;
     while i < n {
-        let j = relatives(arena, t, at, i, n, w.low, w.high);
+        let s = Run {
+            next: relatives(arena, t, at, i, n, w.low, w.high),
+            last: q.last,
+            address: q.address,
+        };
+        let r = symbolics(arena, table, count, address, t, y, at, s, n, w.low, w.high);
+        q = crate::report::keep(q, r.last, r.address);
+        let j = r.next;
         if n <= j {
             return q;
         }
@@ -365,7 +550,7 @@ fn run_tables(
     )
 }
 
-// The word of the report, RELR, RELA, PLT.
+// The word of the report, RELR, RELA, PLT. No answer is kept before: a symbol's index is the object's own.
 fn run_object(
     arena: &mut [u8],
     report: &mut [u32],
@@ -379,7 +564,8 @@ fn run_object(
     requires { ⌜ Filtered (now table) count ⌝ }
     ensures { λ r. ⌜ left r (now (arena .exit)) (now (report .exit)) ≡ runObject address (now (table .entry)) count t (heldBy o) p (now (arena .entry)) (now (report .entry)) ⌝ }
 {
-    let q = crate::report::note(report, p, std::num::wrapping_add_u32(0x5000_0000, t.number));
+    let z = crate::report::keep(p, 0, 0);
+    let q = crate::report::note(report, z, std::num::wrapping_add_u32(0x5000_0000, t.number));
     let number = crate::relr::add_relrs(arena, t, o);
     if number != 0 {
         return crate::report::refused(q, t, number);
@@ -439,6 +625,8 @@ pub(crate) fn run_order(
         words: 0,
         full: false,
         undefined: 0,
+        last: 0,
+        address: 0,
     };
     let mut i = 0;
     while i < n {

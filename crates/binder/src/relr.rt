@@ -1,6 +1,6 @@
 // RELR: an even entry names a word, which gains the base; an odd one has a bit for each of the 63 words after the last.
 ghost use mathlib.Core.Path.{_≡_};
-ghost use Prim.Native.Nat.{_+_, _≤_};
+ghost use Prim.Native.Nat.{_+_, _-_, _^_, _≤_};
 ghost use lib.ListN.{length, take};
 ghost use Rattle.object.specs.Entries.{relrAt};
 ghost use Rattle.object.specs.Record.{heldBy};
@@ -75,6 +75,20 @@ fn add_bits_in(arena: &mut [u8], t: Turn, location: usize, bits: u64)
     }
 }
 
+// The same, where all 63 bits are set.
+fn add_all_in(arena: &mut [u8], t: Turn, location: usize)
+    requires { ⌜ t .offset + location + 504 ≤ length (now arena) ⌝ }
+    ensures { λ _. ⌜ BitsPassed t location (2 ^ 63 - 1) (now (arena .entry)) (now (arena .exit)) ⌝ }
+{
+    let mut p = location;
+    let mut n = 63u32;
+    while 0 < n {
+        add_word_in(arena, t, p);
+        p += 8;
+        n -= 1;
+    }
+}
+
 // The words of any bitmap.
 pub(crate) fn add_bitmap(arena: &mut [u8], t: Turn, b: Bounds, location: usize, bits: u64) -> u32
     requires { ⌜ location ≤ far ⌝ }
@@ -86,6 +100,10 @@ pub(crate) fn add_bitmap(arena: &mut [u8], t: Turn, b: Bounds, location: usize, 
         if 504 <= size - off {
             if location <= size - off - 504 {
                 if object::table_bytes::in_writable(b, location, 504) {
+                    if bits == 0x7fff_ffff_ffff_ffff {
+                        add_all_in(arena, t, location);
+                        return 0;
+                    }
                     add_bits_in(arena, t, location, bits);
                     return 0;
                 }

@@ -1,6 +1,6 @@
 // How far binding has come, and the words of the report.
 ghost use mathlib.Core.Path.{_≡_};
-ghost use Rattle.binder.specs.Relocating.{noted, refusedBy, noteOf, undefinedIn, unresolvedOf};
+ghost use Rattle.binder.specs.Relocating.{noted, refusedBy, keeps, noteOf, undefinedIn, unresolvedOf};
 use crate::turn::Turn;
 use object::symbol::Symbol;
 
@@ -14,6 +14,9 @@ pub struct Progress {
     pub full: bool,
     // the first object that has an undefined entry, or 0
     pub undefined: u32,
+    // the symbol of the object whose answer is kept, its index + 1, or 0; and the address that was found
+    pub last: u64,
+    pub address: u64,
 }
 
 pub(crate) fn refused(p: Progress, t: Turn, number: u32) -> Progress
@@ -25,6 +28,23 @@ pub(crate) fn refused(p: Progress, t: Turn, number: u32) -> Progress
         words: p.words,
         full: p.full,
         undefined: p.undefined,
+        last: p.last,
+        address: p.address,
+    }
+}
+
+// The answer of a search is kept: `last` is its symbol's index + 1; 0 keeps none.
+pub(crate) fn keep(p: Progress, last: u64, address: u64) -> Progress
+    ensures { λ r. ⌜ r ≡ keeps last address p ⌝ }
+{
+    Progress {
+        refusal: p.refusal,
+        object: p.object,
+        words: p.words,
+        full: p.full,
+        undefined: p.undefined,
+        last: last,
+        address: address,
     }
 }
 
@@ -41,6 +61,8 @@ pub(crate) fn note(report: &mut [u32], p: Progress, w: u32) -> Progress
             words: at + 1,
             full: p.full,
             undefined: p.undefined,
+            last: p.last,
+            address: p.address,
         };
     }
     Progress {
@@ -49,6 +71,8 @@ pub(crate) fn note(report: &mut [u32], p: Progress, w: u32) -> Progress
         words: at,
         full: true,
         undefined: p.undefined,
+        last: p.last,
+        address: p.address,
     }
 }
 
@@ -65,6 +89,8 @@ pub(crate) fn mark_undefined(p: Progress, k: u32) -> Progress
         words: p.words,
         full: p.full,
         undefined: k,
+        last: p.last,
+        address: p.address,
     }
 }
 

@@ -7,6 +7,7 @@ use denote.Ref.{now}
 use lib.ListN.{length}
 use Rattle.binder.specs.RunSteps.{EntriesPassed}
 use Rattle.binder.specs.declared.turn.Turn.{Turn}
+use Rattle.binder.proofs.KeptLaws.{kept-none}
 use Rattle.binder.proofs.RelativeLaws.{relative-turn}
 use Rattle.binder.proofs.LoopLaws.{counts-down}
 use borrow.Author.Needs.{needs}
@@ -48,17 +49,17 @@ relatives-spec =
     (tie.spec
     Inv-loop
     μ-loop
-    (λ c. (omega arith, c .before .before .pre, λ _ _ _ _ _ _ _ _ _. refl))
-    (λ c. (omega arith, c .before .before .before .pre, λ _ _ _ _ _ _ _ _ _. refl))
-    (λ c. (omega arith, c .before .before .before .before .pre, λ _ _ _ _ _ _ _ _ _. refl))
+    (λ c. (omega arith, c .before .before .pre, λ _ _ _ r _ _ _ _ _. (refl, kept-none _ r _)))
+    (λ c. (omega arith, c .before .before .before .pre, λ _ _ _ r _ _ _ _ _. (refl, kept-none _ r _)))
+    (λ c. (omega arith, c .before .before .before .before .pre, λ _ _ _ r _ _ _ _ _. (refl, kept-none _ r _)))
     (λ c. search needs)
-    (λ c. (omega arith, c .before .before .before .before .before .pre, λ _ _ _ _ _ _ _ _ _. refl))
-    (λ c. (omega arith, c .before .before .before .before .before .before .pre, λ _ _ _ _ _ _ _ _ _. refl))
-    (λ c. (omega arith, c .before .before .before .before .before .before .before .pre, λ _ _ _ _ _ _ _ _ _. refl))
+    (λ c. (omega arith, c .before .before .before .before .before .pre, λ _ _ _ r _ _ _ _ _. (refl, kept-none _ r _)))
+    (λ c. (omega arith, c .before .before .before .before .before .before .pre, λ _ _ _ r _ _ _ _ _. (refl, kept-none _ r _)))
+    (λ c. (omega arith, c .before .before .before .before .before .before .before .pre, λ _ _ _ r _ _ _ _ _. (refl, kept-none _ r _)))
     (λ c. search needs)
     (λ c. search needs)
     (λ c. search needs)
-    (λ c. (refl, omega arith, c .before .before .before .before .before .before .before .pre, refl, omega arith, omega arith, omega arith, omega arith, λ _ _ _ _ _ _ _ _ _ _ _ _ _. refl))
+    (λ c. (refl, omega arith, c .before .before .before .before .before .before .before .pre, refl, omega arith, omega arith, omega arith, omega arith, λ t _ _ _ _ _ _ r _ _ _ _ _. (refl, kept-none t r _)))
     (λ c. search needs)
     (λ c κs. search needs)
     (λ c. c .before .before .before .before .loop .inv .0)

@@ -1,9 +1,10 @@
 -- `binder::relocate::symbolic` meets its contract. Assumes nothing.
-use mathlib.Core.Path.{refl}
+use mathlib.Core.Path.{refl, ap}
 use borrow.Author.Tests.{not-true, not-false}
 use denote.Ref.{now}
 use Rattle.object.specs.Record.{heldBy}
-use Rattle.binder.proofs.RunLaws.{symbolic-refused, symbolic-outside, symbolic-inside}
+use Rattle.binder.specs.Relocating.{left}
+use Rattle.binder.proofs.RunLaws.{symbolic-refused, symbolic-outside, symbolic-kept, symbolic-inside}
 use borrow.Author.Needs.{needs}
 use Rattle.binder.proofs.relocate.symbolic.Statement.{statement}
 use Rattle.binder.proofs.relocate.symbolic.Tie as tie
@@ -20,8 +21,13 @@ returns-2 c =
 
 returns-3 : tie.Need-returns-3
 returns-3 c =
-    let a = c .before .before .before .before .before .before .before .before .before .before .before .before .before .before .before .before .before .before .before .before .args in
-    symbolic-inside (a .address) (now (a .table)) (a .count) (a .t) (heldBy (a .o)) (a .e) (a .i) (a .p) (now (a .arena)) (now (a .report)) (c .before .before .before .before .before .before .before .before .before .before .before .before .before .before .before .symbol-of .ensures) (c .before .before .before .before .before .before .before .before .before .before .before .before .before .c .given .1) (c .before .before .before .before .before .before .before .before .before .before .before .bounds-of .ensures .segments) (c .before .before .before .before .before .before .before .before .before .before .in-writable .ensures) (not-false _ (c .before .before .before .before .before .before .before .before .before .if1 .left)) (c .before .before .before .before .before .before .before .search .ensures) (c .before .before .before .before .write-found .ensures)
+    let a = c .before .before .before .before .before .before .before .before .before .before .before .before .before .before .before .before .before .before .args in
+    symbolic-kept (a .address) (now (a .table)) (a .count) (a .t) (heldBy (a .o)) (a .e) (a .i) (a .p) (now (a .arena)) (now (a .report)) (c .before .before .before .before .before .before .before .before .before .before .before .before .before .symbol-of .ensures) (c .before .before .before .before .before .before .before .before .before .before .before .c .given .1) (c .before .before .before .before .before .before .before .before .before .bounds-of .ensures .segments) (c .before .before .before .before .before .before .before .before .in-writable .ensures) (not-false _ (c .before .before .before .before .before .before .before .if1 .left)) (c .before .before .before .before .if2 .taken) (rw (c .before .before .write-word .ensures) refl)
+
+returns-4 : tie.Need-returns-4
+returns-4 c =
+    let a = c .before .before .before .before .before .before .before .before .before .before .before .before .before .before .before .before .before .before .before .before .before .before .before .args in
+    symbolic-inside (a .address) (now (a .table)) (a .count) (a .t) (heldBy (a .o)) (a .e) (a .i) (a .p) (now (a .arena)) (now (a .report)) (c .before .before .before .before .before .before .before .before .before .before .before .before .before .before .before .before .before .before .symbol-of .ensures) (c .before .before .before .before .before .before .before .before .before .before .before .before .before .before .before .before .c .given .1) (c .before .before .before .before .before .before .before .before .before .before .before .before .before .before .bounds-of .ensures .segments) (c .before .before .before .before .before .before .before .before .before .before .before .before .before .in-writable .ensures) (not-false _ (c .before .before .before .before .before .before .before .before .before .before .before .before .if1 .left)) (c .before .before .before .before .before .before .before .before .before .if2 .left) (c .before .before .before .before .before .before .before .search .ensures) (c .before .before .before .before .write-found .ensures)
 
 pub symbolic-spec : {M : Type 1} → statement M
 symbolic-spec =
@@ -39,8 +45,13 @@ symbolic-spec =
     (λ c κs. search needs)
     (λ c. refl)
     returns-2
+    (λ c. search needs)
+    (λ c. search needs)
+    (λ c κs. search needs)
+    (λ c. c .before .before .write-word .kept .0)
+    returns-3
     (λ c κs. search needs)
     (λ c κs. search needs)
     (λ c. c .before .before .before .before .write-found .kept .0)
     (λ c. c .before .before .before .before .write-found .kept .1 .0)
-    returns-3)
+    returns-4)

@@ -13,7 +13,7 @@ returns c =
 returns-2 : tie.Need-returns-2
 unfolding foundOf
 returns-2 c =
-    rw (c .before .before .before .before .before .s .given .1, c .before .before .write-word2 .ensures)
+    rw (c .before .before .before .before .before .before .before .s .given .1, c .before .before .before .before .write-word2 .ensures, c .keep .ensures)
 
 pub write-found-spec : {M : Type 1} → statement M
 write-found-spec =
@@ -27,5 +27,8 @@ write-found-spec =
     (λ c. c .before .before .unresolved .kept .0)
     returns
     (λ c κs. search needs)
-    (λ c. c .before .before .write-word2 .kept .0)
+    (λ c. search needs)
+    (λ c. search needs)
+    (λ c κs. search needs)
+    (λ c. c .before .before .before .before .write-word2 .kept .0)
     returns-2)

@@ -1,0 +1,161 @@
+-- No entry of RELA or PLT writes to the table bytes of its object: specs/RunSteps.antt. Assumes nothing.
+use mathlib.Core.Path.{_≡_, refl, sym, ap, subst, _∙_}
+use mathlib.Core.Bool.{Bool, true, false}
+use mathlib.Core.Logic.{_⊎_, inl, inr, ⊎-elim}
+use mathlib.Core.List.{List}
+use Prim.Native.Nat.{ℕ, _+_, _≤_, _<_, min}
+use native.Mathlib.Omega.{arith}
+use native.Mathlib.Decide.{decLt}
+use lib.Dec.{eqb}
+use lib.ListN.{length, take, drop, length-take, length-drop}
+use Rattle.words.specs.Choice.{pick}
+use Rattle.words.specs.Memory.{mem, In, write, patch, from}
+use Rattle.words.specs.Words.{byteOf, sum64}
+use Rattle.words.proofs.Memory.{Out, in-or-out, write-out}
+use Rattle.words.proofs.Slices.{mem-past, mem-part, mem-patch-at, length-patch}
+use Rattle.object.specs.TableBytes.{inWritable}
+use Rattle.object.specs.Record.{Record, isTableOf, checkedSymbol, nameOf}
+use Rattle.object.proofs.FineLaws.{fine-same}
+use Rattle.object.specs.declared.program_header.Segment.{Segment}
+use Rattle.object.specs.declared.symbol.Symbol.{Symbol}
+use Rattle.object.specs.declared.hash_tables.Definition.{Definition}
+use Rattle.object.specs.declared.relocate.Rela.{Rela}
+use Rattle.object.specs.declared.relocate.Action.{Action}
+use Rattle.object.specs.declared.relocate.Action.the-variants.{Ignored, Passed, Relative, Symbolic, Copy, Irelative}
+use Rattle.object.specs.declared.dynamic_fields.CheckedSymbol.{CheckedSymbol}
+use Rattle.object.specs.declared.dynamic_fields.CheckedSymbol.the-variants.{Refused, Checked}
+use Rattle.scope.specs.Seats.{seatAt}
+use Rattle.scope.specs.declared.seats.Seat.{Seat}
+use Rattle.scope.specs.declared.scope.Scoped.{Scoped}
+use Rattle.scope.specs.declared.scope.Scoped.the-variants.{Absent, Found}
+use Rattle.binder.specs.declared.report.Progress.{Progress}
+use Rattle.binder.specs.declared.turn.Turn.{Turn}
+use Rattle.binder.specs.declared.relocate.Symbols.{Symbols}
+use Rattle.binder.specs.Relocating.{Left, left, Wrote, wrote, Noted, noted, withArena, withReport, refusedBy, imageIn, reportSum, noteOf, unresolvedOf, relativeOf, foundOf, copyFits, copyBytes, copyOf, soughtFor, soughtForCopy, answeredOf, symbolicOf, copyingOf, runAction}
+use Rattle.binder.specs.RunSteps.{TablesKept, SymbolsOf}
+use Rattle.binder.proofs.SteadyLaws.{table-out}
+
+-- a byte that a write leaves
+patch-out : (xs : List ℕ) (at n : ℕ) (f : ℕ → ℕ) (i : ℕ) → Out at n i → mem (patch xs at n f) i ≡ mem xs i
+patch-out xs at n f i out = go (decLt i (length xs))
+  where
+    go : Dec (i < length xs) → mem (patch xs at n f) i ≡ mem xs i
+    go (yes h) = mem-patch-at xs at n f i h ∙ write-out (mem xs) at n f i out
+    go (no h) = mem-past (patch xs at n f) i (omega (arith, length-patch xs at n f)) ∙ sym (mem-past xs i (omega arith))
+
+module _ (t : Turn) (r : Record) where
+  pub kept-none : (a : List ℕ) → TablesKept t r a a
+  kept-none a = record { long = refl; bytes = λ i h. refl }
+
+  pub kept-then : (a b c : List ℕ) → TablesKept t r a b → TablesKept t r b c → TablesKept t r a c
+  kept-then a b c x y = record { long = y .long ∙ x .long; bytes = λ i h. y .bytes i h ∙ x .bytes i h }
+
+  -- a write to a writable segment
+  pub kept-write : (a : List ℕ) (q n : ℕ) (g : ℕ → ℕ) → inWritable (r .segments) q n ≡ true → TablesKept t r a (patch a (t .offset + q) n g)
+  kept-write a q n g w = record { long = length-patch a (t .offset + q) n g; bytes = λ i h. go i h (decLt i (t .span)) }
+    where
+      out : (i : ℕ) → isTableOf r i ≡ true → In (t .offset + q) n (t .offset + i) ⊎ Out (t .offset + q) n (t .offset + i) → Out (t .offset + q) n (t .offset + i)
+      out i h (inl x) = absurd (table-out (r .span) (r .segments) q n i w h (omega arith))
+      out i h (inr x) = x
+
+      past : (b : List ℕ) (i : ℕ) → t .span ≤ i → length (imageIn b t) ≤ i
+      past b i h = simp length-take (omega arith)
+
+      go : (i : ℕ) → isTableOf r i ≡ true → Dec (i < t .span) → mem (imageIn (patch a (t .offset + q) n g) t) i ≡ mem (imageIn a t) i
+      go i h (yes l) =
+          mem-part (t .span) (t .offset) (patch a (t .offset + q) n g) i l
+          ∙ (patch-out a (t .offset + q) n g (t .offset + i) (out i h (in-or-out (t .offset + q) n (t .offset + i)))
+          ∙ sym (mem-part (t .span) (t .offset) a i l))
+      go i h (no l) =
+          mem-past (imageIn (patch a (t .offset + q) n g) t) i (past (patch a (t .offset + q) n g) i (omega arith))
+          ∙ sym (mem-past (imageIn a t) i (past a i (omega arith)))
+
+  -- the object's symbols stay
+  pub kept-symbols : (y : Symbols) (a b : List ℕ) → TablesKept t r a b → SymbolsOf t r y a → SymbolsOf t r y b
+  kept-symbols y a b x s =
+      record {
+        symbols = s .symbols;
+        strings = s .strings;
+        fine = fine-same (imageIn a t) (imageIn b t) r (y .fits) (y .ends) (s .fine) long (x .bytes);
+      }
+    where
+      long : length (imageIn b t) ≡ length (imageIn a t)
+      long = simp (length-take, length-drop, x .long)
+
+  -- ---- an entry
+
+  abbrev pub Keeps : List ℕ → Left → Type 0
+  Keeps a (left p b report) = TablesKept t r a b
+
+  module _ (a : List ℕ) where
+    noted-keeps : (b : List ℕ) (x : Noted) → TablesKept t r a b → Keeps a (withArena b x)
+    noted-keeps b (noted p report) k = k
+
+  module _ (address : ℕ) (table : List ℕ) (count : ℕ) (i : ℕ) (e : Rela) (p : Progress) (a report : List ℕ) where
+    relative-keeps : Keeps a (withReport report (relativeOf t (r .segments) e p a))
+    unfolding relativeOf
+    relative-keeps = go (inWritable (r .segments) (e .place) 8) refl
+      where
+        go : (b : Bool) → inWritable (r .segments) (e .place) 8 ≡ b
+            → Keeps a (withReport report (pick b (wrote p (patch a (t .offset + e .place) 8 (byteOf (sum64 (t .base) (e .addend))))) (wrote (refusedBy t 17 p) a)))
+        go true w = kept-write a (e .place) 8 _ w
+        go false w = kept-none a
+
+    found-keeps : (y : Symbol) (s : Scoped) → inWritable (r .segments) (e .place) 8 ≡ true → Keeps a (foundOf t e i y s p a report)
+    unfolding foundOf
+    found-keeps y Absent w =
+        noted-keeps a (patch a (t .offset + e .place) 8 (byteOf 0)) (unresolvedOf y (t .number) i p report) (kept-write a (e .place) 8 (byteOf 0) w)
+    found-keeps y (Found k d x) w = kept-write a (e .place) 8 (byteOf x) w
+
+    symbolic-keeps : (c : CheckedSymbol) → Keeps a (symbolicOf address table count t r e i c p a report)
+    unfolding symbolicOf answeredOf
+    symbolic-keeps (Refused n) = kept-none a
+    symbolic-keeps (Checked y) = go (inWritable (r .segments) (e .place) 8) refl (eqb (p .last) (e .symbol + 1))
+      where
+        go : (b : Bool) → inWritable (r .segments) (e .place) 8 ≡ b → (c : Bool)
+            → Keeps a
+            (pick b
+            (pick c (left p (patch a (t .offset + e .place) 8 (byteOf (p .address))) report)
+            (foundOf t e i y (soughtFor address table count t a (nameOf (imageIn a t) r y)) p a report))
+            (left (refusedBy t 17 p) a report))
+        go true w true = kept-write a (e .place) 8 (byteOf (p .address)) w
+        go true w false = found-keeps y (soughtFor address table count t a (nameOf (imageIn a t) r y)) w
+        go false w c = kept-none a
+
+    copied-keeps : (s : Seat) (d : Definition) (n : ℕ) → Keeps a (withReport report (copyBytes t (r .segments) (e .place) s d n p a))
+    unfolding copyBytes
+    copied-keeps s d n = go (eqb n 0) (inWritable (r .segments) (e .place) n) refl (copyFits (length a) t (e .place) s d n)
+      where
+        go : (z b : Bool) → inWritable (r .segments) (e .place) n ≡ b → (c : Bool)
+            → Keeps a
+            (withReport report
+            (pick z (wrote p a)
+            (pick b
+            (pick c (wrote p (patch a (t .offset + e .place) n (from (s .offset + d .value) (mem a)))) (wrote (refusedBy t 18 p) a))
+            (wrote (refusedBy t 17 p) a))))
+        go true b w c = kept-none a
+        go false true w true = kept-write a (e .place) n (from (s .offset + d .value) (mem a)) w
+        go false true w false = kept-none a
+        go false false w c = kept-none a
+
+    copy-keeps : (y : Symbol) (s : Scoped) → Keeps a (copyOf table t (r .segments) e i y s p a report)
+    unfolding copyOf
+    copy-keeps y Absent = noted-keeps a a (unresolvedOf y (t .number) i p report) (kept-none a)
+    copy-keeps y (Found k d x) = copied-keeps (seatAt table k) d (min (y .size) (d .size))
+
+    copying-keeps : (c : CheckedSymbol) → Keeps a (copyingOf address table count t r e i c p a report)
+    unfolding copyingOf
+    copying-keeps (Refused n) = kept-none a
+    copying-keeps (Checked y) = copy-keeps y (soughtForCopy address table count a (nameOf (imageIn a t) r y))
+
+    entry-keeps : (act : Action) → Keeps a (runAction address table count t r i e act p a report)
+    unfolding runAction
+    entry-keeps Ignored = kept-none a
+    entry-keeps Passed = noted-keeps a a (noteOf (reportSum 7 i) p report) (kept-none a)
+    entry-keeps Irelative = kept-none a
+    entry-keeps Relative = relative-keeps
+    entry-keeps Symbolic = symbolic-keeps (checkedSymbol (imageIn a t) r (e .symbol))
+    entry-keeps Copy = copying-keeps (checkedSymbol (imageIn a t) r (e .symbol))
+
+    pub entry-kept : (act : Action) (q : Progress) (b words : List ℕ) → left q b words ≡ runAction address table count t r i e act p a report → TablesKept t r a b
+    entry-kept act q b words h = subst (Keeps a) (sym h) (entry-keeps act)

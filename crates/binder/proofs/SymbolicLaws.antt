@@ -1,0 +1,165 @@
+-- One turn of a run of entries of types 6 and 7 whose places lie in one writable segment, and whose symbols need no further test:
+-- specs/RunSteps.antt. Assumes nothing.
+use mathlib.Core.Path.{_≡_, refl, sym, ap, subst, _∙_}
+use mathlib.Core.Bool.{Bool, true, false}
+use mathlib.Core.Logic.{⊎-elim}
+use mathlib.Core.List.{List}
+use Prim.Native.Nat.{ℕ, _+_, _-_, _*_, _%_, _^_, _≤_, _<_}
+use native.Mathlib.Omega.{arith}
+use native.Mathlib.Nat.{add-zero}
+use borrow.Author.Tests.{eqb-true}
+use lib.Dec.{eqb}
+use Rattle.words.specs.Choice.{pick}
+use Rattle.words.specs.Memory.{mem, patch}
+use Rattle.words.specs.Words.{leAt, byteOf}
+use Rattle.words.specs.Names.{nameAt}
+use Rattle.model.proofs.OrderLaws.{decide}
+use Rattle.object.specs.Entries as entries
+use Rattle.object.specs.Entries.{relaAt, actionOf}
+use Rattle.object.specs.Symbol as symbols
+use Rattle.object.specs.Symbol.{symbolAt}
+use Rattle.object.specs.Record.{Record, checkedSymbol}
+use Rattle.object.specs.TableBytes.{inWritable}
+use Rattle.object.specs.WritableRange.{WritableRange}
+use Rattle.object.specs.declared.symbol.Symbol.{Symbol}
+use Rattle.object.specs.declared.relocate.Rela.{Rela}
+use Rattle.object.specs.declared.relocate.Action.the-variants.{Symbolic}
+use Rattle.object.specs.declared.dynamic_fields.CheckedSymbol.the-variants.{Checked}
+use Rattle.object.proofs.FineLaws.{fine-checked}
+use Rattle.scope.specs.declared.scope.Scoped.{Scoped}
+use Rattle.scope.specs.declared.scope.Scoped.the-variants.{Absent, Found}
+use Rattle.binder.specs.declared.report.Progress.{Progress}
+use Rattle.binder.specs.declared.turn.Turn.{Turn}
+use Rattle.binder.specs.declared.relocate.Symbols.{Symbols}
+use Rattle.binder.specs.declared.relocate.Run.{Run}
+use Rattle.binder.specs.declared.relocate.Address.{Address}
+use Rattle.binder.specs.declared.relocate.Address.the-variants.{Nowhere, At}
+use Rattle.binder.specs.Relocating.{Left, left, keeps, imageIn, foundOf, soughtFor, answeredOf, symbolicOf, runAction, runTable}
+use Rattle.binder.specs.RunSteps.{TablesKept, EntriesPassed, SymbolsOf, addressIn, SymbolsPassed}
+use Rattle.binder.proofs.RunLaws.{entriesLeft, entry-goes}
+use Rattle.binder.proofs.RelativeLaws.{number-in}
+use Rattle.binder.proofs.KeptLaws.{kept-then, kept-symbols, entry-kept}
+
+at-same : (x y : ℕ) → At x ≡ At y → x ≡ y
+at-same x y e = cc
+
+at-nowhere : {P : Type 0} (x : ℕ) → At x ≡ Nowhere → P
+at-nowhere x e = let z : _≡_ {A = ℕ} 0 1 = cc in absurd (omega arith)
+
+-- entry `s .next`, which stands at `k` of the arena, is of type 6 or 7, its place is in low .. high, its symbol needs no test and has the
+-- address `found`, which was written
+module _
+    (address : ℕ)
+    (table : List ℕ)
+    (count : ℕ)
+    (t : Turn)
+    (y : Symbols)
+    (at n low high : ℕ)
+    (s : Run)
+    (a : List ℕ)
+    {k kind place index name number found : ℕ}
+    {b : List ℕ}
+    (some : s .next < n)
+    (fits : at + 24 * n ≤ t .span)
+    (inside : y .symbols + 24 * y .fits ≤ t .span)
+    (stands : k ≡ t .offset + at + 24 * s .next)
+    (kind-is : kind ≡ leAt 4 (mem a) (k + 8))
+    (acts-so : actionOf kind ≡ Symbolic)
+    (place-is : place ≡ leAt 8 (mem a) k)
+    (above : low ≤ place)
+    (below : place + 8 ≤ high)
+    (index-is : index ≡ leAt 4 (mem a) (k + 12))
+    (few : index < y .fits)
+    (name-is : name ≡ leAt 4 (mem a) (t .offset + y .symbols + 24 * index))
+    (named : name < y .ends)
+    (number-is : number ≡ index + 1)
+    (found-is : At found
+    ≡ pick (eqb (s .last) number) (At (s .address)) (addressIn (soughtFor address table count t a (nameAt (imageIn a t) (y .strings + name)))))
+    (written : b ≡ patch a (t .offset + place) 8 (byteOf found))
+  where
+    abbrev e : Rela
+    e = relaAt (imageIn a t) at (s .next)
+
+    kind-here : e .kind ≡ kind
+    unfolding entries.relaAt
+    kind-here = number-in t a 4 (at + (24 * s .next + 8)) (k + 8) (omega arith) (omega arith) kind-is
+
+    place-here : e .place ≡ place
+    unfolding entries.relaAt
+    place-here = number-in t a 8 (at + 24 * s .next) k (omega arith) (omega arith) place-is
+
+    index-here : e .symbol ≡ index
+    unfolding entries.relaAt
+    index-here = number-in t a 4 (at + (24 * s .next + 12)) (k + 12) (omega arith) (omega arith) index-is
+
+    acts : Symbolic ≡ actionOf (e .kind)
+    acts = sym (ap actionOf kind-here ∙ acts-so)
+
+    module _ (r : Record) (of : SymbolsOf t r y a) where
+      abbrev y-here : Symbol
+      y-here = symbolAt (imageIn a t) (r .symbols) (e .symbol)
+
+      name-here : y-here .name ≡ name
+      unfolding symbols.symbolFrom
+      name-here =
+          rw (of .symbols, index-here)
+          (number-in t a 4 (y .symbols + 24 * index + 0) (t .offset + y .symbols + 24 * index) (omega arith) (omega arith) name-is)
+
+      checked : checkedSymbol (imageIn a t) r (e .symbol) ≡ Checked y-here
+      checked = fine-checked (imageIn a t) r (y .fits) (y .ends) (of .fine) (e .symbol) (omega (arith, index-here)) (omega (arith, name-here))
+
+      module _ (p : Progress) (report : List ℕ) (i : ℕ) where
+        abbrev q : Progress
+        q = keeps (s .last) (s .address) p
+
+        -- the search found it
+        sought : (x : Scoped) → At found ≡ addressIn x → left (keeps (e .symbol + 1) found p) b report ≡ foundOf t e i y-here x q a report
+        unfolding foundOf
+        sought Absent h = at-nowhere found h
+        sought (Found o d v) h = rw (written, place-here, at-same found v h)
+
+        answered : (c : Bool) → eqb (s .last) (e .symbol + 1) ≡ c → (x : Scoped) → At found ≡ pick c (At (s .address)) (addressIn x)
+            → left (keeps (e .symbol + 1) found p) b report
+            ≡ pick c (left q (patch a (t .offset + e .place) 8 (byteOf (s .address))) report) (foundOf t e i y-here x q a report)
+        answered true h x g = rw (written, place-here, at-same found (s .address) g, eqb-true (s .last) (e .symbol + 1) h)
+        answered false h x g = sought x g
+
+        number-here : number ≡ e .symbol + 1
+        number-here = omega (arith, index-here)
+
+        ran : WritableRange (r .segments) low high → left (keeps number found p) b report ≡ runAction address table count t r i e Symbolic q a report
+        unfolding runAction symbolicOf answeredOf
+        ran wr =
+            let w : inWritable (r .segments) (e .place) 8 ≡ true = rw place-here (wr place 8 above below (omega arith)) in
+            let g : At found ≡ pick (eqb (s .last) (e .symbol + 1)) (At (s .address)) (addressIn (soughtFor address table count t a (nameAt (imageIn a t) (r .strings + y-here .name)))) =
+            rw (name-here, of .strings, ← number-here) found-is in
+            rw (checked, w, number-here)
+            (answered (eqb (s .last) (e .symbol + 1)) refl (soughtFor address table count t a (nameAt (imageIn a t) (r .strings + y-here .name))) g)
+
+    pub symbolic-turn :
+        (s₀ : Run) (a₀ : List ℕ) → SymbolsPassed address table count t y at n low high s₀ a₀ s a
+        → SymbolsPassed address table count t y at n low high s₀ a₀ (record { next = s .next + 1; last = number; address = found }) b
+    symbolic-turn s₀ a₀ passed r first p report wr of fine =
+        let so-far = passed r first p report wr of fine in
+        let here = kept-symbols t r y a₀ a (so-far .1) of in
+        let i : ℕ = (first + s .next) % 2 ^ 32 in
+        let run = ran r here p report i wr in (
+          entry-goes address table count t r at first n (s .next) (keeps (s .last) (s .address) p) a report {b = b} {noted = report} some refl acts refl run
+              (so-far .0) (fine (omega arith)),
+          kept-then t r a₀ a b (so-far .1)
+              (entry-kept t r address table count i e (keeps (s .last) (s .address) p) a report Symbolic (keeps number found p) b report run),
+        )
+
+-- a run of entries of type 8, then one of entries of types 6 and 7
+pub runs-passed :
+    (address : ℕ) (table : List ℕ) (count : ℕ) (t : Turn) (r : Record) (y : Symbols) (at first n low high : ℕ) (q : Progress) (a b c report : List ℕ)
+    (i j : ℕ) (s : Run) {end : Left} → EntriesPassed t at n low high i a j b
+    → SymbolsPassed address table count t y at n low high (record { next = j; last = q .last; address = q .address }) b s c
+    → WritableRange (r .segments) low high → (0 < high → q .refusal ≡ 0) → SymbolsOf t r y a
+    → entriesLeft address table count t r at first n i (left q a report) ≡ end
+    → (entriesLeft address table count t r at first n (s .next) (left (keeps (s .last) (s .address) q) c report) ≡ end) × SymbolsOf t r y c
+runs-passed address table count t r y at first n low high q a b c report i j s one two wr fine of all =
+    let x = one address table count r first q report wr fine in
+    let here = kept-symbols t r y a b (x .1) of in
+    let z = two r first q report wr here fine in
+    (z .0 ∙ (x .0 ∙ all), kept-symbols t r y b c (z .1) here)
