@@ -32,7 +32,7 @@ use Rattle.binder.specs.declared.prepare.Met.{Met}
 use Rattle.binder.specs.declared.prepare.Met.the-variants.{Passed, Refused}
 use Rattle.binder.specs.declared.order.Order.{Order}
 use Rattle.binder.specs.declared.report.Progress.{Progress}
-use Rattle.binder.proofs.OutcomeLaws.{first-passed, unless-passed}
+use Rattle.binder.proofs.OutcomeLaws.{refused-not, first-passed, unless-passed}
 use Rattle.binder.proofs.SoundLaws.{count-is}
 use Rattle.binder.proofs.QueryLaws.{placed-is}
 use Rattle.binder.proofs.QueryIs.{zero-at}
@@ -53,7 +53,7 @@ pub settled :
     → settledOf m arena′ report′ ≡ outcomeOf size words (metBy m) arena report
 unfolding settledOf outcomeOf
 settled size words Passed arena report arena′ report′ la lr same = let s = same refl in rw (s .0, s .1)
-settled size words (Refused n k) arena report arena′ report′ la lr same = rw (la, lr)
+settled size words (Refused n k) arena report arena′ report′ la lr same = cc
 
 -- the same where the refusal is known
 pub settled-by :
@@ -149,8 +149,9 @@ pub load-refused :
     → (n k : ℕ) → m ≡ Refused n k → length a ≡ size → length report ≡ words
     → settledOf m a report
     ≡ bindIn (loadVerdict size 0 0 (filesOf os)) (filesOf os) (setOrder (filesOf os) (namesOf os)) size address policy words
-unfolding bindIn settledOf outcomeOf
-load-refused os size address policy words m a report e n k z la lr = rw (sym e ∙ ap metBy z, z, la, lr)
+unfolding bindIn
+load-refused os size address policy words m a report e n k z la lr =
+    rw (sym e ∙ ap metBy z) (settled-by size words m (refused n k) _ _ a report (ap metBy z) la lr (λ q. refused-not n k q))
 
 -- a set that was loaded
 module _
