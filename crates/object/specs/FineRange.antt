@@ -1,6 +1,5 @@
 -- Symbols, names and chain words that need no further test: what code keeps of a hash table for refusal 12, and of a record for refusals 14
--- and 15.
--- Nothing that is stated of `bind` and `query` rests on it. Assumes nothing.
+-- and 15. Nothing that is stated of `bind` and `query` rests on it. Assumes nothing.
 use mathlib.Core.Bool.{Bool, true}
 use mathlib.Core.List.{List}
 use mathlib.Core.Path.{_≡_}
@@ -19,8 +18,8 @@ pub record TablesFine (isT : ℕ → Bool) (image : List ℕ) (symbols strings s
 abbrev pub LinksFine : (ℕ → Bool) → ℕ → ℕ → ℕ → Type 0
 LinksFine isT at chain links = (d : ℕ) → d < links → tableBytes isT (at + (chain + 4 * d)) 4 ≡ true
 
--- of a record: the first `fits` symbols are below a known count and in table bytes; a name at one of the first `ends` places of the strings is in table
--- bytes
+-- of a record: the first `fits` symbols are below a known count and in table bytes; a name at one of the first `ends` places of the strings
+-- is in table bytes
 pub record FineOf (image : List ℕ) (r : Record) (fits ends : ℕ) : Type 0 where
   pub index : (s : ℕ) → s < fits → indexOk (r .known) s ≡ true
   pub symbols : (s : ℕ) → s < fits → tableBytes (isTableOf r) (r .symbols + 24 * s) 24 ≡ true
