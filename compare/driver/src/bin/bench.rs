@@ -112,7 +112,7 @@ fn measure(set: &Set, rust: &mut Rust, seconds: f64) {
     let mut figures = Figures::default();
     let (start, ticks) = (Instant::now(), unsafe { _rdtsc() });
     for round in 0.. {
-        // The first round is not counted: it brings memory and files in, and compares the results.
+        // The first round compares the results. It is not counted, since it brings memory and files in, but where it is long.
         make_ready(set, room);
         let arena = &mut room[..set.arena];
         let (mut found, mut answer) = (0, Ok(()));
@@ -146,7 +146,9 @@ fn measure(set: &Set, rust: &mut Rust, seconds: f64) {
             if seconds == 0.0 {
                 return;
             }
-            continue;
+            if start.elapsed().as_secs_f64() < LONGER * seconds {
+                continue;
+            }
         }
         if !alone {
             figures.add("rust load", time(0));
