@@ -5,9 +5,10 @@ usage: bench/programs.py                  prints the names of the sets, of the p
        bench/programs.py ld.so vi-NAME N  runs the program N times and prints ld.so's cycles, in a line as the program bench does
 
 A set is the program's file and the libraries that it needs, breadth first as ld.so takes them, ld.so itself among them as the library that
-libc needs; a small host that none of them knows comes before. Versions of symbols are not compared, as everywhere in document 01. In the
-copy of the files that is handed in, type 37 (refusal 16) is overwritten by 8 and type 1 (passed over) by 6, so that each entry is the work
-that it is for ld.so, but for the call of a resolver. Nothing else is changed; what is refused all the same is not measured, and bench says so.
+libc needs; a small host that none of them knows comes before. Versions of symbols are not compared, as everywhere in document 01. In
+the copy of the files that is handed in, type 37 (refusal 16) is overwritten by 8 and type 1 (passed over) by 6, so that each entry is
+the work that it is for ld.so, but for the call of a resolver. Nothing else is changed; what is refused all the same is not measured, and
+a line on standard error says so.
 
 ld.so's figure is the `time needed for relocation` of LD_DEBUG=statistics with LD_BIND_NOW=1: cycles of the TSC. glibc 2.36 leaves out the
 last digit of each such number. Whether the one that is here does is seen from a program whose resolver waits for a known number of cycles.

@@ -1,6 +1,6 @@
-/* Reads sets in the frames of compare/sets.py from standard input. For each it binds, then asks the questions that stand in the label behind
-   `|`, each as REQUESTER:NAME with the name in hexadecimal, and prints one line: for each call the answer, and hashes of what it wrote. Arena
-   and report are filled with other bytes before each call, and the memory right behind bytes, arena and report cannot be touched.
+/* Reads sets in the frames of compare/sets.py from standard input. For each it binds, then asks the questions that stand in the label
+   behind `|`, each as REQUESTER:NAME with the name in hexadecimal, and prints one line: for each call the answer, and hashes of what it
+   wrote. Arena and report are filled with other bytes before each call, and the memory right behind each slice cannot be touched.
    tests/compare_archives.py runs it. */
 #define _GNU_SOURCE
 #include <inttypes.h>

@@ -1,5 +1,5 @@
-/* For LD_PRELOAD, by tests/program_stack: fills the stack below `main` with a pattern, runs the program, and prints the number of bytes from
-   there down to the lowest one that was changed. What the system and libc put on the stack before `main` is not counted. */
+/* For LD_PRELOAD, by tests/program_stack: fills the stack below `main` with a pattern, runs the program, and prints the number of bytes
+   from there down to the lowest one that was changed. What the system and libc put on the stack before `main` is not counted. */
 #define _GNU_SOURCE
 #include <dlfcn.h>
 #include <stdio.h>
