@@ -1,8 +1,6 @@
 """The two hash functions of a name: the DT_GNU_HASH text's and the gABI's (Hash Table, hashing function)."""
-from functools import lru_cache
 
 
-@lru_cache(1 << 12)
 def gnu(name):
     h = 5381
     for b in name:
@@ -10,7 +8,6 @@ def gnu(name):
     return h
 
 
-@lru_cache(1 << 12)
 def elf(name):
     h = 0
     for b in name:
