@@ -1,6 +1,7 @@
 //! Times the port and the Rust on the sets of standard input, in turn. usage: bench RUST_SIDE SECONDS
 //! SECONDS is how long each set is repeated; 0 is one round, without the figures that need a second one (for callgrind).
 //! Output, one line a figure: set, what, least, median and number of rounds (nanoseconds), or set, what and one number.
+//! Further words of a set's label are in bench/sets.py. A set that the port refuses has no figures and a line on standard error.
 #[path = "../port.rs"]
 mod port;
 #[path = "../shared.rs"]
@@ -8,9 +9,14 @@ mod shared;
 #[path = "../sides.rs"]
 mod sides;
 
-use std::{arch::asm, ffi::c_void, hint::black_box, time::Instant};
+use std::{
+    arch::{asm, x86_64::_rdtsc},
+    ffi::c_void,
+    hint::black_box,
+    time::Instant,
+};
 
-use port::{bind, mmap, query, Set};
+use port::{bind, mmap, query, Refusal, Set};
 use shared::*;
 use sides::{Frames, Rust};
 
@@ -19,7 +25,9 @@ extern "C" {
 }
 
 const QUESTIONS: usize = 400;
+/// The least and the most. A set whose rounds are long has fewer: as many as are begun in LONGER times SECONDS.
 const ROUNDS: (usize, usize) = (5, 400);
+const LONGER: f64 = 4.0;
 const PAINTED: usize = 512 << 10;
 
 /// Zero pages that nothing has touched.
@@ -89,71 +97,95 @@ fn questions(set: &Set) -> Vec<(u32, Vec<u8>)> {
 }
 
 fn measure(set: &Set, rust: &mut Rust, seconds: f64) {
-    let label = set.label.split(' ').next().unwrap();
+    let (label, more) = set.label.split_once(' ').unwrap_or((&set.label, ""));
+    let (alone, program) = (more == "alone", label.starts_with("vi-"));
     let asked = questions(set);
-    rust.hand_over(set, &asked, RELOCATED);
-    rust.shared.set(NEW, 1);
-    rust.shared.set(WANTED, 1);
-    let mut warm = Pages::new(set.arena);
-    let arena = warm.bytes();
+    if !alone {
+        rust.hand_over(set, &asked, RELOCATED);
+        rust.shared.set(NEW, 1);
+        rust.shared.set(WANTED, 1);
+    }
+    // Files may have more bytes than they have in memory; memcpy takes all of them.
+    let mut warm = Pages::new(set.arena.max(set.bytes.len()));
+    let room = warm.bytes();
     let mut report = vec![0u32; set.report];
     let mut figures = Figures::default();
-    let start = Instant::now();
+    let (start, ticks) = (Instant::now(), unsafe { _rdtsc() });
     for round in 0.. {
-        // The first round is not counted: it brings memory and files in, and compares the results.
-        make_ready(set, arena);
-        let mut found = 0;
+        // The first round compares the results. It is not counted, since it brings memory and files in, but where it is long.
+        make_ready(set, room);
+        let arena = &mut room[..set.arena];
+        let (mut found, mut answer) = (0, Ok(()));
         let port = nanoseconds(|| {
             if asked.is_empty() {
-                assert_eq!(bind(set, arena, &mut report), Ok(()));
+                answer = bind(set, arena, &mut report);
             }
             for (requester, name) in &asked {
                 found += query(set, arena, *requester, name).unwrap().is_some() as u64;
             }
         });
-        rust.go();
+        if let Err(Refusal(number, object)) = answer {
+            eprintln!("{label}: left out, the port refuses it: {number}, object {object}");
+            return;
+        }
+        if !alone {
+            rust.go();
+        }
         let time = |i: usize| rust.shared.get(TIMES + i);
         if round == 0 {
-            assert_eq!((rust.shared.get(RESULT), rust.shared.get(WRONG)), (FINE, 0), "the Rust on {label}");
-            if asked.is_empty() {
-                assert!(rust.shared.part(AT_RELOCATED, set.arena) == arena, "{label}: the relocated bytes differ");
-            } else {
-                assert_eq!(rust.shared.get(OBJECT), found, "{label}: the number of names that are found differs");
+            if !alone {
+                assert_eq!((rust.shared.get(RESULT), rust.shared.get(WRONG)), (FINE, 0), "the Rust on {label}");
+                if asked.is_empty() {
+                    assert!(rust.shared.part(AT_RELOCATED, set.arena) == arena, "{label}: the relocated bytes differ");
+                } else {
+                    assert_eq!(rust.shared.get(OBJECT), found, "{label}: the number of names that are found differs");
+                }
+                rust.shared.set(NEW, 0);
+                rust.shared.set(WANTED, 0);
             }
-            rust.shared.set(NEW, 0);
-            rust.shared.set(WANTED, 0);
             if seconds == 0.0 {
                 return;
             }
-            continue;
+            if start.elapsed().as_secs_f64() < LONGER * seconds {
+                continue;
+            }
         }
-        figures.add("rust load", time(0));
+        if !alone {
+            figures.add("rust load", time(0));
+        }
         if asked.is_empty() {
             figures.add("port bind", port);
-            figures.add("rust relocate", time(2));
-            figures.add("rust load and relocate", time(0) + time(2));
-            let mut fresh = Pages::new(set.arena);
-            figures.add("port bind, fresh arena", nanoseconds(|| assert_eq!(bind(set, fresh.bytes(), &mut report), Ok(()))));
+            if !alone {
+                figures.add("rust relocate", time(2));
+                figures.add("rust load and relocate", time(0) + time(2));
+                let mut fresh = Pages::new(set.arena);
+                figures.add("port bind, fresh arena", nanoseconds(|| assert_eq!(bind(set, fresh.bytes(), &mut report), Ok(()))));
+            }
         } else {
             figures.add("port queries", port);
             figures.add("rust queries", time(1));
             figures.add("rust load and queries", time(0) + time(1));
         }
-        if label == "ii" {
+        if label == "ii" || program {
             let length = set.bytes.len();
-            make_ready(set, arena);
-            figures.add("memcpy", nanoseconds(|| black_box(&mut arena[..length]).copy_from_slice(black_box(&set.bytes))));
-            make_ready(set, arena);
-            // The work of a bind that has nothing to check and nothing to relocate.
-            figures.add("memset, then memcpy", nanoseconds(|| {
-                black_box(&mut arena[..]).fill(black_box(0));
-                black_box(&mut arena[..length]).copy_from_slice(black_box(&set.bytes));
-            }));
+            make_ready(set, room);
+            figures.add("memcpy", nanoseconds(|| black_box(&mut room[..length]).copy_from_slice(black_box(&set.bytes))));
+            if !program {
+                make_ready(set, room);
+                // The work of a bind that has nothing to check and nothing to relocate.
+                figures.add("memset, then memcpy", nanoseconds(|| {
+                    black_box(&mut room[..set.arena]).fill(black_box(0));
+                    black_box(&mut room[..length]).copy_from_slice(black_box(&set.bytes));
+                }));
+            }
         }
-        if round >= ROUNDS.1 || round >= ROUNDS.0 && start.elapsed().as_secs_f64() >= seconds {
+        let spent = start.elapsed().as_secs_f64();
+        if round >= ROUNDS.1 || spent >= LONGER * seconds || round >= ROUNDS.0 && spent >= seconds {
             break;
         }
     }
+    let rate = (unsafe { _rdtsc() } - ticks) as f64 / start.elapsed().as_nanos() as f64;
+    let arena = &mut room[..set.arena];
     for (what, mut times) in figures.0 {
         times.sort();
         println!("{label}\t{what}\t{}\t{}\t{}", times[0], times[times.len() / 2], times.len());
@@ -165,6 +197,7 @@ fn measure(set: &Set, rust: &mut Rust, seconds: f64) {
     println!("{label}\tstack\t{used}");
     println!("{label}\tbytes\t{}", set.bytes.len());
     println!("{label}\tarena\t{}", set.arena);
+    println!("{label}\tTSC cycles in a second\t{:.0}", rate * 1e9);
 }
 
 fn main() {
