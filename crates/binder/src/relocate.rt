@@ -333,6 +333,7 @@ fn address_of(
     last: u64,
     kept: u64,
 ) -> Address
+    requires { ⌜ Filtered (now table) count ⌝ }
     ensures { λ r. ⌜ r ≡ pick (eqb last number) (At kept) (addressIn (soughtFor address (now (table .entry)) count t (now (arena .entry)) (nameAt (imageIn (now (arena .entry)) t) (strings + name)))) ⌝ }
 {
     if last == number {
@@ -364,7 +365,7 @@ fn symbolics(
     low: usize,
     high: usize,
 ) -> Run
-    requires { ⌜ s .next ≤ n ⌝ }
+    requires { ⌜ (s .next ≤ n) × Filtered (now table) count ⌝ }
     ensures { λ r. ⌜ (s .next ≤ r .next) × (r .next ≤ n) × SymbolsPassed address (now (table .entry)) count t y at n low high s (now (arena .entry)) r (now (arena .exit)) ⌝ }
 {
     if high < 8 {

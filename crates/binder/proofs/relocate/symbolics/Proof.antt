@@ -30,11 +30,11 @@ add-k c =
 
 add-k-2 : tie.Need-add-k-2 Inv-loop μ-loop
 add-k-2 c =
-    search (needs, c .before .before .before .before .before .before .before .before .before .before .before .before .before .before .before .before .before .before .before .before .before .before .before .good .0, c .before .before .before .before .before .before .before .before .before .before .before .before .before .before .before .before .before .before .before .before .before .before .before .fits .at, c .before .before .before .before .before .before .before .before .before .before .before .before .before .before .before .before .before .before .before .before .before .before .before .fits .n, c .before .before .before .before .before .before .before .before .before .before .before .before .before .before .before .before .if3 .left, c .before .before .before .before .before .before .before .before .before .before .before .before .before .if4 .left, c .before .before .before .before .before .before .before .before .before .before .before .if5 .left, c .before .before .before .before .before .before .before .before .before .if6 .left, c .before .before .before .before .before .before .before .before .before .before .before .before .before .before .before .before .before .before .before .before .before .before .before .pre)
+    search (needs, c .before .before .before .before .before .before .before .before .before .before .before .before .before .before .before .before .before .before .before .before .before .before .before .good .0, c .before .before .before .before .before .before .before .before .before .before .before .before .before .before .before .before .before .before .before .before .before .before .before .fits .at, c .before .before .before .before .before .before .before .before .before .before .before .before .before .before .before .before .before .before .before .before .before .before .before .fits .n, c .before .before .before .before .before .before .before .before .before .before .before .before .before .before .before .before .if3 .left, c .before .before .before .before .before .before .before .before .before .before .before .before .before .if4 .left, c .before .before .before .before .before .before .before .before .before .before .before .if5 .left, c .before .before .before .before .before .before .before .before .before .if6 .left, c .before .before .before .before .before .before .before .before .before .before .before .before .before .before .before .before .before .before .before .before .before .before .before .pre .0)
 
 loop-holds : tie.Need-loop-holds Inv-loop μ-loop
 loop-holds c =
-    (refl, omega arith, c .before .before .before .before .before .before .before .before .before .before .before .before .before .before .before .before .before .before .before .before .before .before .before .pre, refl, omega (arith, c .before .before .before .before .before .before .before .before .before .before .before .before .before .before .before .before .before .before .before .before .if1 .left, c .before .before .before .before .before .before .before .before .before .before .before .before .before .before .before .before .before .before .if2 .left, c .before .before .before .before .before .before .before .before .before .before .before .before .before .before .before .before .if3 .left, c .before .before .before .before .before .before .before .before .before .before .before .before .before .if4 .left, c .before .before .before .before .before .before .before .before .before .before .before .if5 .left, c .before .before .before .before .before .before .before .before .before .if6 .left, c .before .before .before .before .before .before .if7 .left, c .before .before .if8 .left), omega (arith, c .before .before .before .before .before .before .before .before .before .before .before .before .before .before .before .before .before .before .before .before .if1 .left, c .before .before .before .before .before .before .before .before .before .before .before .before .before .before .before .before .before .before .if2 .left, c .before .before .before .before .before .before .before .before .before .before .before .before .before .before .before .before .if3 .left, c .before .before .before .before .before .before .before .before .before .before .before .before .before .if4 .left, c .before .before .before .before .before .before .before .before .before .before .before .if5 .left, c .before .before .before .before .before .before .before .before .before .if6 .left, c .before .before .before .before .before .before .if7 .left, c .before .before .if8 .left), omega (arith, c .before .before .before .before .before .before .before .before .before .before .before .before .before .before .before .before .before .before .before .before .if1 .left, c .before .before .before .before .before .before .before .before .before .before .before .before .before .before .before .before .before .before .if2 .left, c .before .before .before .before .before .before .before .before .before .before .before .before .before .before .before .before .if3 .left, c .before .before .before .before .before .before .before .before .before .before .before .before .before .if4 .left, c .before .before .before .before .before .before .before .before .before .before .before .if5 .left, c .before .before .before .before .before .before .before .before .before .if6 .left, c .before .before .before .before .before .before .if7 .left, c .before .before .if8 .left), omega (arith, c .before .before .before .before .before .before .before .before .before .before .before .before .before .before .before .before .before .before .before .before .if1 .left, c .before .before .before .before .before .before .before .before .before .before .before .before .before .before .before .before .before .before .if2 .left, c .before .before .before .before .before .before .before .before .before .before .before .before .before .before .before .before .if3 .left, c .before .before .before .before .before .before .before .before .before .before .before .before .before .if4 .left, c .before .before .before .before .before .before .before .before .before .before .before .if5 .left, c .before .before .before .before .before .before .before .before .before .if6 .left, c .before .before .before .before .before .before .if7 .left, c .before .before .if8 .left), omega (arith, c .before .before .before .before .before .before .before .before .before .before .before .before .before .before .before .before .before .before .before .before .if1 .left, c .before .before .before .before .before .before .before .before .before .before .before .before .before .before .before .before .before .before .if2 .left, c .before .before .before .before .before .before .before .before .before .before .before .before .before .before .before .before .if3 .left, c .before .before .before .before .before .before .before .before .before .before .before .before .before .if4 .left, c .before .before .before .before .before .before .before .before .before .before .before .if5 .left, c .before .before .before .before .before .before .before .before .before .if6 .left, c .before .before .before .before .before .before .if7 .left, c .before .before .if8 .left), λ r _ _ _ _ _ _. (refl, kept-none _ r _))
+    (refl, omega arith, c .before .before .before .before .before .before .before .before .before .before .before .before .before .before .before .before .before .before .before .before .before .before .before .pre .0, refl, omega (arith, c .before .before .before .before .before .before .before .before .before .before .before .before .before .before .before .before .before .before .before .before .if1 .left, c .before .before .before .before .before .before .before .before .before .before .before .before .before .before .before .before .before .before .if2 .left, c .before .before .before .before .before .before .before .before .before .before .before .before .before .before .before .before .if3 .left, c .before .before .before .before .before .before .before .before .before .before .before .before .before .if4 .left, c .before .before .before .before .before .before .before .before .before .before .before .if5 .left, c .before .before .before .before .before .before .before .before .before .if6 .left, c .before .before .before .before .before .before .if7 .left, c .before .before .if8 .left), omega (arith, c .before .before .before .before .before .before .before .before .before .before .before .before .before .before .before .before .before .before .before .before .if1 .left, c .before .before .before .before .before .before .before .before .before .before .before .before .before .before .before .before .before .before .if2 .left, c .before .before .before .before .before .before .before .before .before .before .before .before .before .before .before .before .if3 .left, c .before .before .before .before .before .before .before .before .before .before .before .before .before .if4 .left, c .before .before .before .before .before .before .before .before .before .before .before .if5 .left, c .before .before .before .before .before .before .before .before .before .if6 .left, c .before .before .before .before .before .before .if7 .left, c .before .before .if8 .left), omega (arith, c .before .before .before .before .before .before .before .before .before .before .before .before .before .before .before .before .before .before .before .before .if1 .left, c .before .before .before .before .before .before .before .before .before .before .before .before .before .before .before .before .before .before .if2 .left, c .before .before .before .before .before .before .before .before .before .before .before .before .before .before .before .before .if3 .left, c .before .before .before .before .before .before .before .before .before .before .before .before .before .if4 .left, c .before .before .before .before .before .before .before .before .before .before .before .if5 .left, c .before .before .before .before .before .before .before .before .before .if6 .left, c .before .before .before .before .before .before .if7 .left, c .before .before .if8 .left), omega (arith, c .before .before .before .before .before .before .before .before .before .before .before .before .before .before .before .before .before .before .before .before .if1 .left, c .before .before .before .before .before .before .before .before .before .before .before .before .before .before .before .before .before .before .if2 .left, c .before .before .before .before .before .before .before .before .before .before .before .before .before .before .before .before .if3 .left, c .before .before .before .before .before .before .before .before .before .before .before .before .before .if4 .left, c .before .before .before .before .before .before .before .before .before .before .before .if5 .left, c .before .before .before .before .before .before .before .before .before .if6 .left, c .before .before .before .before .before .before .if7 .left, c .before .before .if8 .left), omega (arith, c .before .before .before .before .before .before .before .before .before .before .before .before .before .before .before .before .before .before .before .before .if1 .left, c .before .before .before .before .before .before .before .before .before .before .before .before .before .before .before .before .before .before .if2 .left, c .before .before .before .before .before .before .before .before .before .before .before .before .before .before .before .before .if3 .left, c .before .before .before .before .before .before .before .before .before .before .before .before .before .if4 .left, c .before .before .before .before .before .before .before .before .before .before .before .if5 .left, c .before .before .before .before .before .before .before .before .before .if6 .left, c .before .before .before .before .before .before .if7 .left, c .before .before .if8 .left), λ r _ _ _ _ _ _. (refl, kept-none _ r _))
 
 add-u32-in : tie.Need-add-u32-in Inv-loop μ-loop
 add-u32-in c =
@@ -137,15 +137,15 @@ symbolics-spec =
     (tie.spec
     Inv-loop
     μ-loop
-    (λ c. (omega arith, c .before .before .before .pre, λ r _ _ _ _ _ _. (refl, kept-none _ r _)))
-    (λ c. (omega arith, c .before .before .before .before .before .pre, λ r _ _ _ _ _ _. (refl, kept-none _ r _)))
-    (λ c. (omega arith, c .before .before .before .before .before .before .before .pre, λ r _ _ _ _ _ _. (refl, kept-none _ r _)))
+    (λ c. (omega arith, c .before .before .before .pre .0, λ r _ _ _ _ _ _. (refl, kept-none _ r _)))
+    (λ c. (omega arith, c .before .before .before .before .before .pre .0, λ r _ _ _ _ _ _. (refl, kept-none _ r _)))
+    (λ c. (omega arith, c .before .before .before .before .before .before .before .pre .0, λ r _ _ _ _ _ _. (refl, kept-none _ r _)))
     (λ c. search needs)
-    (λ c. (omega arith, c .before .before .before .before .before .before .before .before .before .before .pre, λ r _ _ _ _ _ _. (refl, kept-none _ r _)))
-    (λ c. (omega arith, c .before .before .before .before .before .before .before .before .before .before .before .before .pre, λ r _ _ _ _ _ _. (refl, kept-none _ r _)))
-    (λ c. (omega arith, c .before .before .before .before .before .before .before .before .before .before .before .before .before .before .pre, λ r _ _ _ _ _ _. (refl, kept-none _ r _)))
-    (λ c. (omega arith, c .before .before .before .before .before .before .before .before .before .before .before .before .before .before .before .before .before .pre, λ r _ _ _ _ _ _. (refl, kept-none _ r _)))
-    (λ c. (omega arith, c .before .before .before .before .before .before .before .before .before .before .before .before .before .before .before .before .before .before .before .before .before .pre, λ r _ _ _ _ _ _. (refl, kept-none _ r _)))
+    (λ c. (omega arith, c .before .before .before .before .before .before .before .before .before .before .pre .0, λ r _ _ _ _ _ _. (refl, kept-none _ r _)))
+    (λ c. (omega arith, c .before .before .before .before .before .before .before .before .before .before .before .before .pre .0, λ r _ _ _ _ _ _. (refl, kept-none _ r _)))
+    (λ c. (omega arith, c .before .before .before .before .before .before .before .before .before .before .before .before .before .before .pre .0, λ r _ _ _ _ _ _. (refl, kept-none _ r _)))
+    (λ c. (omega arith, c .before .before .before .before .before .before .before .before .before .before .before .before .before .before .before .before .before .pre .0, λ r _ _ _ _ _ _. (refl, kept-none _ r _)))
+    (λ c. (omega arith, c .before .before .before .before .before .before .before .before .before .before .before .before .before .before .before .before .before .before .before .before .before .pre .0, λ r _ _ _ _ _ _. (refl, kept-none _ r _)))
     add-k
     (λ c. search needs)
     (λ c. search needs)
