@@ -28,45 +28,35 @@ abbrev μ-loop : tie.MeasureT-loop
 μ-loop arena₀ report₀ table count address t o at first n b y w₀ q₀ i₀ arena report w q i =
     n - i
 
-same-length : tie.Need-same-length Inv-loop μ-loop
-same-length c =
-    c .before .before .before .before .symbolics .kept .0 ∙ (c .before .before .before .before .before .before .before .before .relatives .kept .0 ∙ c .before .before .before .before .before .before .before .before .before .before .before .loop .inv .0)
+-- after the runs: what is left from the entry that they stopped at comes to what the whole does, and the symbols are as they were
+passed :
+    (c : tie.After-keep Inv-loop μ-loop)
+    → let a = c .before .before .before .before .before .before .before .before .before .before .before .before .before .before .before .before .before .args in
+    let g = c .before .before .before .symbolics in
+    (entriesLeft (a .address) (now (a .table)) (a .count) (a .t) (heldBy (a .o)) (a .at) (a .first) (a .n) (g .result .next) (left (c .keep .result) (g .last .0) (c .before .before .before .before .before .before .before .before .before .before .loop .report))
+    ≡ runTable (a .address) (now (a .table)) (a .count) (a .t) (heldBy (a .o)) (a .at) (a .first) (a .n) 0 (left (a .p) (now (a .arena)) (now (a .report))))
+    × SymbolsOf (a .t) (heldBy (a .o)) (c .before .before .before .before .before .before .before .before .before .before .before .symbols-of .result) (g .last .0)
+passed c =
+    let a = c .before .before .before .before .before .before .before .before .before .before .before .before .before .before .before .before .before .args in
+    let l = c .before .before .before .before .before .before .before .before .before .before .loop in
+    let f = c .before .before .before .before .before .before .before .relatives in
+    let g = c .before .before .before .symbolics in
+    rw (c .keep .ensures)
+    (runs-passed (a .address) (now (a .table)) (a .count) (a .t) (heldBy (a .o)) (c .before .before .before .before .before .before .before .before .before .before .before .symbols-of .result) (a .at) (a .first) (a .n) (l .w .low) (l .w .high) (l .q) (l .arena) (f .last .0) (g .last .0) (l .report) (l .i) (f .result) (g .result) (f .ensures .2) (g .ensures .2) (rw (c .before .before .before .before .before .before .before .before .before .before .before .before .before .bounds-of .ensures .segments) at (l .inv .3)) (l .inv .4) (l .inv .5) (l .inv .6))
 
 returns : tie.Need-returns Inv-loop μ-loop
 returns c =
     let a = c .before .before .before .before .before .before .before .before .before .before .before .before .before .before .before .before .before .before .args in
-    let l = c .before .before .before .before .before .before .before .before .before .before .before .loop in
-    let f = c .before .before .before .before .before .before .before .before .relatives in
-    let g = c .before .before .before .before .symbolics in
-    let x = runs-passed (a .address) (now (a .table)) (a .count) (a .t) (heldBy (a .o)) (c .before .before .before .before .before .before .before .before .before .before .before .before .symbols-of .result) (a .at) (a .first) (a .n) (l .w .low) (l .w .high) (l .q) (l .arena) (f .last .0) (g .last .0) (l .report) (l .i) (f .result) (g .result) (f .ensures .2) (g .ensures .2) (rw (c .before .before .before .before .before .before .before .before .before .before .before .before .before .before .bounds-of .ensures .segments) at (l .inv .3)) (l .inv .4) (l .inv .5) (l .inv .6) in
-    entries-end (a .address) (now (a .table)) (a .count) (a .t) (heldBy (a .o)) (a .at) (a .first) (a .n) (g .result .next) (c .if1 .taken) (rw (c .before .keep .ensures) (x .0))
-
-same-length-3 : tie.Need-same-length-3 Inv-loop μ-loop
-same-length-3 c =
-    c .before .before .before .before .before .before .run-action .kept .0 ∙ (c .before .before .before .before .before .before .before .before .before .before .before .before .before .before .before .before .before .symbolics .kept .0 ∙ (c .before .before .before .before .before .before .before .before .before .before .before .before .before .before .before .before .before .before .before .before .before .relatives .kept .0 ∙ c .before .before .before .before .before .before .before .before .before .before .before .before .before .before .before .before .before .before .before .before .before .before .before .before .loop .inv .0))
-
-same-length-4 : tie.Need-same-length-4 Inv-loop μ-loop
-same-length-4 c =
-    c .before .before .before .before .before .before .run-action .kept .1 .0 ∙ c .before .before .before .before .before .before .before .before .before .before .before .before .before .before .before .before .before .before .before .before .before .before .before .before .loop .inv .1
+    entries-end (a .address) (now (a .table)) (a .count) (a .t) (heldBy (a .o)) (a .at) (a .first) (a .n) (c .before .before .before .before .symbolics .result .next) (c .if1 .taken) (passed (c .before) .0)
 
 returns-2 : tie.Need-returns-2 Inv-loop μ-loop
 returns-2 c =
     let a = c .before .before .before .before .before .before .before .before .before .before .before .before .before .before .before .before .before .before .before .before .before .before .before .before .before .before .before .before .before .before .before .args in
     let l = c .before .before .before .before .before .before .before .before .before .before .before .before .before .before .before .before .before .before .before .before .before .before .before .before .loop in
-    let f = c .before .before .before .before .before .before .before .before .before .before .before .before .before .before .before .before .before .before .before .before .before .relatives in
     let g = c .before .before .before .before .before .before .before .before .before .before .before .before .before .before .before .before .before .symbolics in
     let k = c .before .before .before .before .before .before .run-action in
-    let x = runs-passed (a .address) (now (a .table)) (a .count) (a .t) (heldBy (a .o)) (c .before .before .before .before .before .before .before .before .before .before .before .before .before .before .before .before .before .before .before .before .before .before .before .before .before .symbols-of .result) (a .at) (a .first) (a .n) (l .w .low) (l .w .high) (l .q) (l .arena) (f .last .0) (g .last .0) (l .report) (l .i) (f .result) (g .result) (f .ensures .2) (g .ensures .2) (rw (c .before .before .before .before .before .before .before .before .before .before .before .before .before .before .before .before .before .before .before .before .before .before .before .before .before .before .before .bounds-of .ensures .segments) at (l .inv .3)) (l .inv .4) (l .inv .5) (l .inv .6) in
     entry-stops (a .address) (now (a .table)) (a .count) (a .t) (heldBy (a .o)) (a .at) (a .first) (a .n) (g .result .next) (c .before .before .before .before .before .before .before .before .before .before .before .before .before .before .keep .result) (g .last .0) (l .report) {b = k .last .0} {noted = k .last .1 .0}
-    (omega (arith, c .before .before .before .before .before .before .before .before .before .before .before .before .before .if1 .left)) (c .before .before .before .before .before .before .before .before .before .before .before .rela-in .ensures) (c .before .before .before .before .before .before .before .before .before .before .action-of .ensures) (c .before .before .before .before .before .before .before .before .before .wrapping-add-u32 .ensures) (k .ensures) (rw (c .before .before .before .before .before .before .before .before .before .before .before .before .before .before .keep .ensures) (x .0)) (c .if2 .taken)
-
-add-i : tie.Need-add-i Inv-loop μ-loop
-add-i c =
-    omega (arith, c .before .before .before .before .before .before .before .before .before .before .before .before .before .before .if1 .left, c .before .before .before .before .before .before .before .before .before .before .before .before .before .before .before .before .before .before .before .before .before .before .before .before .before .before .before .before .before .before .before .before .fits .n)
-
-loop-less : tie.Need-loop-less Inv-loop μ-loop
-loop-less c =
-    omega (arith, c .before .before .before .before .before .before .before .before .before .before .before .before .before .before .before .before .before .before .before .before .before .before .relatives .ensures .0, c .before .before .before .before .before .before .before .before .before .before .before .before .before .before .before .before .before .before .symbolics .ensures .0, c .before .before .before .before .before .before .before .before .before .before .before .before .before .before .if1 .left)
+    (omega (arith, c .before .before .before .before .before .before .before .before .before .before .before .before .before .if1 .left)) (c .before .before .before .before .before .before .before .before .before .before .before .rela-in .ensures) (c .before .before .before .before .before .before .before .before .before .before .action-of .ensures) (c .before .before .before .before .before .before .before .before .before .wrapping-add-u32 .ensures) (k .ensures) (passed (c .before .before .before .before .before .before .before .before .before .before .before .before .before .before) .0) (c .if2 .taken)
 
 loop-again : tie.Need-loop-again Inv-loop μ-loop
 loop-again c =
@@ -75,7 +65,7 @@ loop-again c =
     let f = c .before .before .before .before .before .before .before .before .before .before .before .before .before .before .before .before .before .before .before .before .before .before .relatives in
     let g = c .before .before .before .before .before .before .before .before .before .before .before .before .before .before .before .before .before .before .symbolics in
     let k = c .before .before .before .before .before .before .before .run-action in
-    let x = runs-passed (a .address) (now (a .table)) (a .count) (a .t) (heldBy (a .o)) (c .before .before .before .before .before .before .before .before .before .before .before .before .before .before .before .before .before .before .before .before .before .before .before .before .before .before .symbols-of .result) (a .at) (a .first) (a .n) (l .w .low) (l .w .high) (l .q) (l .arena) (f .last .0) (g .last .0) (l .report) (l .i) (f .result) (g .result) (f .ensures .2) (g .ensures .2) (rw (c .before .before .before .before .before .before .before .before .before .before .before .before .before .before .before .before .before .before .before .before .before .before .before .before .before .before .before .before .bounds-of .ensures .segments) at (l .inv .3)) (l .inv .4) (l .inv .5) (l .inv .6) in (
+    let x = passed (c .before .before .before .before .before .before .before .before .before .before .before .before .before .before .before) in (
       k .kept .0 ∙ (g .kept .0 ∙ (f .kept .0 ∙ l .inv .0)),
       k .kept .1 .0 ∙ l .inv .1,
       omega (arith, c .before .before .before .before .before .before .before .before .before .before .before .before .before .before .if1 .left),
@@ -83,7 +73,7 @@ loop-again c =
       λ h. c .before .if2 .left,
       kept-symbols (a .t) (heldBy (a .o)) (c .before .before .before .before .before .before .before .before .before .before .before .before .before .before .before .before .before .before .before .before .before .before .before .before .before .before .symbols-of .result) (g .last .0) (k .last .0) (entry-kept (a .t) (heldBy (a .o)) (a .address) (now (a .table)) (a .count) (c .before .before .before .before .before .before .before .before .before .before .wrapping-add-u32 .result) (c .before .before .before .before .before .before .before .before .before .before .before .before .rela-in .result) (c .before .before .before .before .before .before .before .before .before .before .before .before .before .before .before .keep .result) (g .last .0) (l .report) (c .before .before .before .before .before .before .before .before .before .before .before .action-of .result) (k .result) (k .last .0) (k .last .1 .0) (k .ensures)) (x .1),
       entry-goes (a .address) (now (a .table)) (a .count) (a .t) (heldBy (a .o)) (a .at) (a .first) (a .n) (g .result .next) (c .before .before .before .before .before .before .before .before .before .before .before .before .before .before .before .keep .result) (g .last .0) (l .report) {b = k .last .0} {noted = k .last .1 .0}
-          (omega (arith, c .before .before .before .before .before .before .before .before .before .before .before .before .before .before .if1 .left)) (c .before .before .before .before .before .before .before .before .before .before .before .before .rela-in .ensures) (c .before .before .before .before .before .before .before .before .before .before .before .action-of .ensures) (c .before .before .before .before .before .before .before .before .before .before .wrapping-add-u32 .ensures) (k .ensures) (rw (c .before .before .before .before .before .before .before .before .before .before .before .before .before .before .before .keep .ensures) (x .0)) (c .before .if2 .left),
+          (omega (arith, c .before .before .before .before .before .before .before .before .before .before .before .before .before .before .if1 .left)) (c .before .before .before .before .before .before .before .before .before .before .before .before .rela-in .ensures) (c .before .before .before .before .before .before .before .before .before .before .before .action-of .ensures) (c .before .before .before .before .before .before .before .before .before .before .wrapping-add-u32 .ensures) (k .ensures) (x .0) (c .before .if2 .left),
     )
 
 returns-3 : tie.Need-returns-3 Inv-loop μ-loop
@@ -104,19 +94,19 @@ run-table-spec =
     (λ c κs. c .before .before .loop .inv .2)
     (λ c κs. c .before .before .before .relatives .ensures .1)
     (λ c κs. search needs)
-    same-length
+    (λ c. c .before .before .before .before .symbolics .kept .0 ∙ (c .before .before .before .before .before .before .before .before .relatives .kept .0 ∙ c .before .before .before .before .before .before .before .before .before .before .before .loop .inv .0))
     (λ c. c .before .before .before .before .before .before .before .before .before .before .before .loop .inv .1)
     returns
     (λ c κs. search needs)
     (λ c κs. search needs)
     (λ c κs. search needs)
     (λ c κs. search needs)
-    same-length-3
-    same-length-4
+    (λ c. c .before .before .before .before .before .before .run-action .kept .0 ∙ (c .before .before .before .before .before .before .before .before .before .before .before .before .before .before .before .before .before .symbolics .kept .0 ∙ (c .before .before .before .before .before .before .before .before .before .before .before .before .before .before .before .before .before .before .before .before .before .relatives .kept .0 ∙ c .before .before .before .before .before .before .before .before .before .before .before .before .before .before .before .before .before .before .before .before .before .before .before .before .loop .inv .0)))
+    (λ c. c .before .before .before .before .before .before .run-action .kept .1 .0 ∙ c .before .before .before .before .before .before .before .before .before .before .before .before .before .before .before .before .before .before .before .before .before .before .before .before .loop .inv .1)
     returns-2
     (λ c κs. c .before .before .before .before .before .before .before .before .before .before .before .before .before .before .before .before .before .before .before .before .before .before .before .before .loop .inv .3)
-    add-i
-    loop-less
+    (λ c. omega (arith, c .before .before .before .before .before .before .before .before .before .before .before .before .before .before .if1 .left, c .before .before .before .before .before .before .before .before .before .before .before .before .before .before .before .before .before .before .before .before .before .before .before .before .before .before .before .before .before .before .before .before .fits .n))
+    (λ c. omega (arith, c .before .before .before .before .before .before .before .before .before .before .before .before .before .before .before .before .before .before .before .before .before .before .relatives .ensures .0, c .before .before .before .before .before .before .before .before .before .before .before .before .before .before .before .before .before .before .symbolics .ensures .0, c .before .before .before .before .before .before .before .before .before .before .before .before .before .before .if1 .left))
     loop-again
     (λ c. c .before .loop .inv .0)
     (λ c. c .before .loop .inv .1)
