@@ -92,7 +92,7 @@ run-table-spec =
     (λ c κs. search needs)
     (λ c. (refl, refl, omega arith, range-none _, λ h. absurd (omega arith), c .symbols-of .ensures, rw sub-zero))
     (λ c κs. c .before .before .loop .inv .2)
-    (λ c κs. c .before .before .before .relatives .ensures .1)
+    (λ c κs. (c .before .before .before .relatives .ensures .1, c .before .before .before .before .before .before .before .before .before .before .before .before .before .pre))
     (λ c κs. search needs)
     (λ c. c .before .before .before .before .symbolics .kept .0 ∙ (c .before .before .before .before .before .before .before .before .relatives .kept .0 ∙ c .before .before .before .before .before .before .before .before .before .before .before .loop .inv .0))
     (λ c. c .before .before .before .before .before .before .before .before .before .before .before .loop .inv .1)
