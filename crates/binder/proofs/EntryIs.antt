@@ -12,7 +12,7 @@ use Rattle.words.specs.Choice.{pick}
 use Rattle.words.specs.Memory.{Mem, mem, from, write, patch}
 use Rattle.words.specs.Words.{byteOf, sum64}
 use Rattle.words.proofs.Memory.{write-none}
-use Rattle.model.specs.Symbols.{Sym, Answer, answer}
+use Rattle.model.specs.Symbols.{Sym, Answer, absent, answer}
 use Rattle.model.specs.Objects.{Objs, count, obj}
 use Rattle.model.specs.Scope.{resolve, resolveCopy}
 use Rattle.model.specs.Relocation.{addressOr0, copied, effect}
@@ -35,7 +35,7 @@ use Rattle.binder.specs.Verdict.{Verdict, passed, verdict, writtenRefusa
 use Rattle.binder.specs.Report.{reportWord, unresolved, undefinedBy, isPassed}
 use Rattle.scope.specs.Seats.{seatAt}
 use Rattle.binder.specs.ScopeModel.{scopedOf}
-use Rattle.binder.specs.Relocating.{Left, left, wrote, Noted, noted, withArena, withReport, refusedBy, imageIn, reportSum, noteOf, markUndefined, unresolvedOf, relativeOf, foundOf, copyFits, copyBytes, copyOf, turnOf, soughtFor, soughtForCopy, keeps, answeredOf, symbolicOf, copyingOf, runAction}
+use Rattle.binder.specs.Relocating.{Left, left, wrote, Noted, noted, withArena, withReport, refusedBy, imageIn, reportSum, noteOf, markUndefined, unresolvedOf, relativeOf, foundOf, copyFits, copyBytes, copyOf, turnOf, soughtFor, soughtForCopy, keeps, answeredOf, symbolicOf, copyingOf, runAction, keepsWeak}
 use Rattle.scope.specs.declared.seats.Seat.{Seat}
 use Rattle.binder.specs.declared.turn.Turn.{Turn}
 use Rattle.scope.specs.declared.scope.Scoped.{Scoped}
@@ -81,6 +81,19 @@ same-symbol image image′ r index e =
     ⊎-elim (λ c. checked-same (symbolAt image (r .symbols) index) (symbolAt image′ (r .symbols) index) (sym e ∙ (c .0)))
     (λ c. refused-checked (c .0) (symbolAt image (r .symbols) index) (sym (c .2) ∙ e)) (symbol-case image′ r index)
 
+-- a weak symbol: no word, and its absence is kept
+weak-keeps :
+    (last : ℕ) (y : Symbol) (k i : ℕ) (p : Progress) (report : List ℕ) → eqb (bindingOf y) 2 ≡ true
+    → keepsWeak last y (unresolvedOf y k i p report) ≡ noted (keeps last 0 p) report
+unfolding unresolvedOf
+weak-keeps last y k i p report e =
+    ap (λ (b : Bool). keepsWeak last y (pick b (noted p report) (markUndefined k (noteOf (reportSum 6 i) p report)))) e
+    ∙ ap (λ (b : Bool). noted (pick b (keeps last 0 p) p) report) e
+
+-- a symbol that is not weak: nothing is kept
+strong-keeps : (last : ℕ) (y : Symbol) (q : Noted) → eqb (bindingOf y) 2 ≡ false → keepsWeak last y q ≡ q
+strong-keeps last y (noted p report) e = rw e
+
 module _ (address size : ℕ) (table : List ℕ) (h pr : File) (fs : List File) where
   abbrev S : Objs
   S = set address size table h pr fs
@@ -108,7 +121,10 @@ module _ (address size : ℕ) (table : List ℕ) (h pr : File) (fs : List File) 
     abbrev pub RightlyKept : Progress → Type 0
     RightlyKept p =
         (index : ℕ) → p .last ≡ index + 1
-        → (o : ℕ) × (z : Sym) × (resolve S k (symbolName image (r .symbols) (r .strings) index) ≡ answer o z (p .address))
+        → ((o : ℕ) × (z : Sym) × (resolve S k (symbolName image (r .symbols) (r .strings) index) ≡ answer o z (p .address)))
+        ⊎ ((resolve S k (symbolName image (r .symbols) (r .strings) index) ≡ absent)
+        × (eqb (bindingOf (symbolAt image (r .symbols) index)) 2 ≡ true)
+        × (p .address ≡ 0))
 
     -- none is
     pub none-kept : (p : Progress) → p .last ≡ 0 → RightlyKept p
@@ -117,8 +133,8 @@ module _ (address size : ℕ) (table : List ℕ) (h pr : File) (fs : List File) 
     -- the same is
     same-kept : (p p′ : Progress) → (p′ .last ≡ p .last) × (p′ .address ≡ p .address) → RightlyKept p → RightlyKept p′
     same-kept p p′ e x index f =
-        let y = x index (sym (e .0) ∙ f) in
-        (y .0, y .1, y .2 ∙ ap (answer (y .0) (y .1)) (sym (e .1)))
+        ⊎-elim (λ y. inl (y .0, y .1, y .2 ∙ ap (answer (y .0) (y .1)) (sym (e .1)))) (λ y. inr (y .0, y .1, e .1 ∙ y .2))
+        (x index (sym (e .0) ∙ f))
 
     -- while the object `k` is relocated: the words of the report, the memory, the other objects' bytes as in `a₀`, and the kept answer
     pub record Doing (ws : List ℕ) (u : ℕ) (m : Mem) (p : Progress) (a report : List ℕ) : Type 0 where
@@ -275,18 +291,44 @@ module _ (address size : ℕ) (table : List ℕ) (h pr : File) (fs : List File) 
         kept-now : (o : ℕ) (z : Sym) (v : ℕ) → answer o z v ≡ resolve S k name → RightlyKept (keeps (e .symbol + 1) v p)
         kept-now o z v is index f =
             let same : e .symbol ≡ index = omega arith in
-            (o, z, sym (ap (λ (s : ℕ). resolve S k (symbolName image (r .symbols) (r .strings) s)) same) ∙ sym is)
+            inl (o, z, sym (ap (λ (s : ℕ). resolve S k (symbolName image (r .symbols) (r .strings) s)) same) ∙ sym is)
+
+        weak-kept : absent ≡ resolve S k name → eqb (bindingOf y) 2 ≡ true → RightlyKept (keeps (e .symbol + 1) 0 p)
+        weak-kept is weak index f =
+            let same : e .symbol ≡ index = omega arith in
+            inr (
+              sym (ap (λ (s : ℕ). resolve S k (symbolName image (r .symbols) (r .strings) s)) same) ∙ sym is,
+              sym (ap (λ (s : ℕ). eqb (bindingOf (symbolAt image (r .symbols) s)) 2) same) ∙ weak,
+              refl,
+            )
+
+        -- found nowhere: a weak symbol's absence is kept
+        nowhere-ran :
+            absent ≡ resolve S k name → inWritable (r .segments) (e .place) 8 ≡ true → (b : Bool) → eqb (bindingOf y) 2 ≡ b
+            → Written6 absent
+            (withArena (patch a (t .offset + e .place) 8 (byteOf 0)) (keepsWeak (e .symbol + 1) y (unresolvedOf y k i p report)))
+        unfolding addressOr0
+        nowhere-ran eq w true b =
+            let z = wrote-to (e .place) 8 (byteOf 0) w in
+            subst
+            (λ (q : Noted). Written6 absent (withArena (patch a (t .offset + e .place) 8 (byteOf 0)) q))
+            (sym (weak-keeps (e .symbol + 1) y k i p report b))
+            (rw b
+            (with-answer (verdict 0 k) (e .symbol + 1) 0 (write m ((obj S k) .offset + e .place) 8 (byteOf 0)) (patch a (t .offset + e .place) 8 (byteOf 0))
+            (verdict-none 0 k refl) (weak-kept eq b) (z .0) (z .1)))
+        nowhere-ran eq w false b =
+            let z = wrote-to (e .place) 8 (byteOf 0) w in
+            subst
+            (λ (q : Noted). Written6 absent (withArena (patch a (t .offset + e .place) 8 (byteOf 0)) q))
+            (sym (strong-keeps (e .symbol + 1) y (unresolvedOf y k i p report) b))
+            (with-words (verdict 0 k) (ws ++ pick (not (eqb (bindingOf y) 2)) (reportWord 6 i ∷ []) []) (earlier u (pick (not (eqb (bindingOf y) 2)) k 0))
+            (write m ((obj S k) .offset + e .place) 8 (byteOf 0)) (patch a (t .offset + e .place) 8 (byteOf 0)) (unresolvedOf y k i p report)
+            (verdict-none 0 k refl) (unresolved-going i l y) (unresolved-kept y k i p report) (z .0) (z .1))
 
         found-ran : (s : Scoped) → scopedOf s ≡ resolve S k name → inWritable (r .segments) (e .place) 8 ≡ true → Written6 (resolve S k name) (foundOf t e i y s p a report)
         unfolding scopedOf foundOf addressOr0
         found-ran Absent eq w =
-            let z = wrote-to (e .place) 8 (byteOf 0) w in
-            subst
-            (λ (x : Answer). Written6 x (foundOf t e i y Absent p a report))
-            eq
-            (with-words (verdict 0 k) (ws ++ pick (not (eqb (bindingOf y) 2)) (reportWord 6 i ∷ []) []) (earlier u (pick (not (eqb (bindingOf y) 2)) k 0))
-            (write m ((obj S k) .offset + e .place) 8 (byteOf 0)) (patch a (t .offset + e .place) 8 (byteOf 0)) (unresolvedOf y k i p report)
-            (verdict-none 0 k refl) (unresolved-going i l y) (unresolved-kept y k i p report) (z .0) (z .1))
+            subst (λ (x : Answer). Written6 x (foundOf t e i y Absent p a report)) eq (nowhere-ran eq w (eqb (bindingOf y) 2) refl)
         found-ran (Found d s v) eq w =
             let z = wrote-to (e .place) 8 (byteOf v) w in
             subst
@@ -300,13 +342,22 @@ module _ (address size : ℕ) (table : List ℕ) (h pr : File) (fs : List File) 
             → Written6 (resolve S k name) (left p (patch a (t .offset + e .place) 8 (byteOf (p .address))) report)
         unfolding addressOr0
         kept-ran same w =
-            let x = d .kept (e .symbol) same in
             let z = wrote-to (e .place) 8 (byteOf (p .address)) w in
+            ⊎-elim
+            (λ x.
             subst
             (λ (x : Answer). Written6 x (left p (patch a (t .offset + e .place) 8 (byteOf (p .address))) report))
             (sym (x .2))
             (plain (verdict 0 k) (write m ((obj S k) .offset + e .place) 8 (byteOf (p .address))) (patch a (t .offset + e .place) 8 (byteOf (p .address)))
-            (verdict-none 0 k refl) (z .0) (z .1))
+            (verdict-none 0 k refl) (z .0) (z .1)))
+            (λ x.
+            subst
+            (λ (x : Answer). Written6 x (left p (patch a (t .offset + e .place) 8 (byteOf (p .address))) report))
+            (sym (x .0))
+            (rw (x .1)
+            (plain (verdict 0 k) (write m ((obj S k) .offset + e .place) 8 (byteOf 0)) (patch a (t .offset + e .place) 8 (byteOf (p .address)))
+            (verdict-none 0 k refl) (z .0) (z .1 ∙ ap (λ (v : ℕ). write m ((obj S k) .offset + e .place) 8 (byteOf v)) (x .2)))))
+            (d .kept (e .symbol) same)
 
         answered-ran :
             (s : Scoped) → scopedOf s ≡ resolve S k name → inWritable (r .segments) (e .place) 8 ≡ true → (b : Bool) → eqb (p .last) (e .symbol + 1) ≡ b

@@ -31,7 +31,7 @@ use Rattle.scope.specs.declared.scope.Scoped.the-variants.{Absent, Found}
 use Rattle.binder.specs.declared.report.Progress.{Progress}
 use Rattle.binder.specs.declared.turn.Turn.{Turn}
 use Rattle.binder.specs.declared.relocate.Symbols.{Symbols}
-use Rattle.binder.specs.Relocating.{Left, left, Wrote, wrote, Noted, noted, withArena, withReport, refusedBy, imageIn, reportSum, noteOf, unresolvedOf, relativeOf, foundOf, copyFits, copyBytes, copyOf, soughtFor, soughtForCopy, answeredOf, symbolicOf, copyingOf, runAction}
+use Rattle.binder.specs.Relocating.{Left, left, Wrote, wrote, Noted, noted, withArena, withReport, refusedBy, imageIn, reportSum, noteOf, unresolvedOf, relativeOf, foundOf, copyFits, copyBytes, copyOf, soughtFor, soughtForCopy, answeredOf, symbolicOf, copyingOf, runAction, keepsWeak}
 use Rattle.binder.specs.RunSteps.{TablesKept, SymbolsOf}
 use Rattle.binder.proofs.SteadyLaws.{table-out}
 
@@ -104,7 +104,8 @@ module _ (t : Turn) (r : Record) where
     found-keeps : (y : Symbol) (s : Scoped) → inWritable (r .segments) (e .place) 8 ≡ true → Keeps a (foundOf t e i y s p a report)
     unfolding foundOf
     found-keeps y Absent w =
-        noted-keeps a (patch a (t .offset + e .place) 8 (byteOf 0)) (unresolvedOf y (t .number) i p report) (kept-write a (e .place) 8 (byteOf 0) w)
+        noted-keeps a (patch a (t .offset + e .place) 8 (byteOf 0)) (keepsWeak (e .symbol + 1) y (unresolvedOf y (t .number) i p report))
+        (kept-write a (e .place) 8 (byteOf 0) w)
     found-keeps y (Found k d x) w = kept-write a (e .place) 8 (byteOf x) w
 
     symbolic-keeps : (c : CheckedSymbol) → Keeps a (symbolicOf address table count t r e i c p a report)

@@ -208,9 +208,14 @@ abbrev pub symbolRefusal : CheckedSymbol → ℕ
 symbolRefusal (Refused n) = n
 symbolRefusal (Checked y) = 0
 
+-- absence is kept where the symbol's binding is 2: as the address 0, since no report word tells the two apart
+abbrev pub keepsWeak : ℕ → Symbol → Noted → Noted
+keepsWeak last y (noted p report) = noted (pick (eqb (bindingOf y) 2) (keeps last 0 p) p) report
+
 -- 6 and 7: the address that was found, which is kept, or 0 and a report word
 unfoldable pub foundOf : Turn → Rela → ℕ → Symbol → Scoped → Progress → List ℕ → List ℕ → Left
-foundOf t e i y Absent p a report = withArena (patch a (t .offset + e .place) 8 (byteOf 0)) (unresolvedOf y (t .number) i p report)
+foundOf t e i y Absent p a report =
+    withArena (patch a (t .offset + e .place) 8 (byteOf 0)) (keepsWeak (e .symbol + 1) y (unresolvedOf y (t .number) i p report))
 foundOf t e i y (Found k d x) p a report = left (keeps (e .symbol + 1) x p) (patch a (t .offset + e .place) 8 (byteOf x)) report
 
 -- the `n` bytes of the definition `d`, in the object at the seat `s`, may be copied to the place `to` of the object whose turn it is: the

@@ -109,7 +109,8 @@ fn write_found(
     } = s
     else {
         crate::turn::write_word(arena, t.offset, e.place, 0);
-        return crate::report::unresolved(report, p, y, t.number, i);
+        let q = crate::report::unresolved(report, p, y, t.number, i);
+        return crate::report::keep_weak(q, e.symbol as u64 + 1, y);
     };
     crate::turn::write_word(arena, t.offset, e.place, address);
     crate::report::keep(p, e.symbol as u64 + 1, address)

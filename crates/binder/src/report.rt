@@ -1,5 +1,8 @@
 // How far binding has come, and the words of the report.
 ghost use mathlib.Core.Path.{_≡_};
+ghost use lib.Dec.{eqb};
+ghost use Rattle.words.specs.Choice.{pick};
+ghost use Rattle.object.specs.Symbol.{bindingOf};
 ghost use Rattle.binder.specs.Relocating.{noted, refusedBy, keeps, noteOf, undefinedIn, unresolvedOf};
 use crate::turn::Turn;
 use object::symbol::Symbol;
@@ -103,4 +106,14 @@ pub(crate) fn unresolved(report: &mut [u32], p: Progress, y: Symbol, k: u32, i: 
     }
     let q = note(report, p, std::num::wrapping_add_u32(0x6000_0000, i));
     mark_undefined(q, k)
+}
+
+// Absence is kept where the symbol is weak: as the address 0, since no report word tells the two apart.
+pub(crate) fn keep_weak(p: Progress, last: u64, y: Symbol) -> Progress
+    ensures { λ r. ⌜ r ≡ pick (eqb (bindingOf y) 2) (keeps last 0 p) p ⌝ }
+{
+    if object::symbol::binding(y) == 2 {
+        return keep(p, last, 0);
+    }
+    p
 }

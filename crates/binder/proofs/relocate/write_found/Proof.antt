@@ -1,6 +1,5 @@
 -- `binder::relocate::write_found` meets its contract. Assumes nothing.
-use mathlib.Core.Path.{ap}
-use Rattle.binder.specs.Relocating.{withArena, foundOf}
+use Rattle.binder.specs.Relocating.{foundOf}
 use borrow.Author.Needs.{needs}
 use Rattle.binder.proofs.relocate.write_found.Statement.{statement}
 use Rattle.binder.proofs.relocate.write_found.Tie as tie
@@ -8,7 +7,7 @@ use Rattle.binder.proofs.relocate.write_found.Tie as tie
 returns : tie.Need-returns
 unfolding foundOf
 returns c =
-    rw (c .before .before .before .before .before .before .before .before .enum-told .given .1, ← c .before .before .before .before .before .before .write-word .ensures) (ap (withArena _) (c .before .before .unresolved .ensures))
+    rw (c .before .before .before .before .before .before .before .before .before .before .enum-told .given .1, ← c .before .before .before .before .before .before .before .before .write-word .ensures, ← c .before .before .before .before .unresolved .ensures, c .keep-weak .ensures)
 
 returns-2 : tie.Need-returns-2
 unfolding foundOf
@@ -23,8 +22,11 @@ write-found-spec =
     (λ c. search needs)
     (λ c κs. search needs)
     (λ c κs. search needs)
-    (λ c. c .before .before .before .before .before .before .write-word .kept .0)
-    (λ c. c .before .before .unresolved .kept .0)
+    (λ c. search needs)
+    (λ c. search needs)
+    (λ c κs. search needs)
+    (λ c. c .before .before .before .before .before .before .before .before .write-word .kept .0)
+    (λ c. c .before .before .before .before .unresolved .kept .0)
     returns
     (λ c κs. search needs)
     (λ c. search needs)
