@@ -1,22 +1,21 @@
 -- No entry of RELA or PLT writes to the table bytes of its object: specs/RunSteps.antt. Assumes nothing.
-use mathlib.Core.Path.{_≡_, refl, sym, ap, subst, _∙_}
+use mathlib.Core.Path.{_≡_, refl, sym, subst, _∙_}
 use mathlib.Core.Bool.{Bool, true, false}
-use mathlib.Core.Logic.{_⊎_, inl, inr, ⊎-elim}
+use mathlib.Core.Logic.{_⊎_, inl, inr}
 use mathlib.Core.List.{List}
 use Prim.Native.Nat.{ℕ, _+_, _≤_, _<_, min}
 use native.Mathlib.Omega.{arith}
 use native.Mathlib.Decide.{decLt}
 use lib.Dec.{eqb}
-use lib.ListN.{length, take, drop, length-take, length-drop}
+use lib.ListN.{length, length-take, length-drop}
 use Rattle.words.specs.Choice.{pick}
-use Rattle.words.specs.Memory.{mem, In, write, patch, from}
+use Rattle.words.specs.Memory.{mem, In, patch, from}
 use Rattle.words.specs.Words.{byteOf, sum64}
 use Rattle.words.proofs.Memory.{Out, in-or-out, write-out}
 use Rattle.words.proofs.Slices.{mem-past, mem-part, mem-patch-at, length-patch}
 use Rattle.object.specs.TableBytes.{inWritable}
 use Rattle.object.specs.Record.{Record, isTableOf, checkedSymbol, nameOf}
 use Rattle.object.proofs.FineLaws.{fine-same}
-use Rattle.object.specs.declared.program_header.Segment.{Segment}
 use Rattle.object.specs.declared.symbol.Symbol.{Symbol}
 use Rattle.object.specs.declared.hash_tables.Definition.{Definition}
 use Rattle.object.specs.declared.relocate.Rela.{Rela}
@@ -31,7 +30,7 @@ use Rattle.scope.specs.declared.scope.Scoped.the-variants.{Absent, Found}
 use Rattle.binder.specs.declared.report.Progress.{Progress}
 use Rattle.binder.specs.declared.turn.Turn.{Turn}
 use Rattle.binder.specs.declared.relocate.Symbols.{Symbols}
-use Rattle.binder.specs.Relocating.{Left, left, Wrote, wrote, Noted, noted, withArena, withReport, refusedBy, imageIn, reportSum, noteOf, unresolvedOf, relativeOf, foundOf, copyFits, copyBytes, copyOf, soughtFor, soughtForCopy, answeredOf, symbolicOf, copyingOf, runAction, keepsWeak}
+use Rattle.binder.specs.Relocating.{Left, left, wrote, Noted, noted, withArena, withReport, refusedBy, imageIn, reportSum, noteOf, unresolvedOf, keepsWeak, relativeOf, foundOf, copyFits, copyBytes, copyOf, soughtFor, soughtForCopy, answeredOf, symbolicOf, copyingOf, runAction}
 use Rattle.binder.specs.RunSteps.{TablesKept, SymbolsOf}
 use Rattle.binder.proofs.SteadyLaws.{table-out}
 

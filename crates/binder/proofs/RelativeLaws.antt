@@ -1,8 +1,8 @@
 -- One turn of a run of entries of type 8 whose places lie in one writable segment: specs/RunSteps.antt. Assumes nothing.
-use mathlib.Core.Path.{_≡_, refl, sym, ap, _∙_}
+use mathlib.Core.Path.{_≡_, refl, _∙_}
 use mathlib.Core.Bool.{true}
 use mathlib.Core.List.{List}
-use Prim.Native.Nat.{ℕ, _+_, _-_, _*_, _%_, _^_, _≤_, _<_}
+use Prim.Native.Nat.{ℕ, _+_, _*_, _%_, _^_, _≤_, _<_}
 use native.Mathlib.Omega.{arith}
 use Rattle.words.specs.Memory.{mem, patch}
 use Rattle.words.specs.Words.{leAt, byteOf, sum64}
@@ -12,11 +12,10 @@ use Rattle.object.specs.Entries.{relaAt, actionOf}
 use Rattle.object.specs.Record.{Record}
 use Rattle.object.specs.TableBytes.{inWritable}
 use Rattle.object.specs.WritableRange.{WritableRange}
-use Rattle.object.specs.declared.relocate.Action.{Action}
 use Rattle.object.specs.declared.relocate.Action.the-variants.{Relative}
 use Rattle.binder.specs.declared.report.Progress.{Progress}
 use Rattle.binder.specs.declared.turn.Turn.{Turn}
-use Rattle.binder.specs.Relocating.{left, imageIn, relativeOf, runAction, runTable}
+use Rattle.binder.specs.Relocating.{left, imageIn, relativeOf, runAction}
 use Rattle.binder.specs.RunSteps.{EntriesPassed}
 use Rattle.binder.proofs.RunLaws.{entry-goes}
 use Rattle.binder.proofs.KeptLaws.{kept-then, entry-kept}

@@ -1,19 +1,16 @@
 -- One turn of a run of entries of types 6 and 7 whose places lie in one writable segment, and whose symbols need no further test:
 -- specs/RunSteps.antt. Assumes nothing.
-use mathlib.Core.Path.{_≡_, refl, sym, ap, subst, _∙_}
+use mathlib.Core.Path.{_≡_, refl, sym, ap, _∙_}
 use mathlib.Core.Bool.{Bool, true, false}
-use mathlib.Core.Logic.{⊎-elim}
 use mathlib.Core.List.{List}
-use Prim.Native.Nat.{ℕ, _+_, _-_, _*_, _%_, _^_, _≤_, _<_}
+use Prim.Native.Nat.{ℕ, _+_, _*_, _%_, _^_, _≤_, _<_}
 use native.Mathlib.Omega.{arith}
-use native.Mathlib.Nat.{add-zero}
 use borrow.Author.Tests.{eqb-true}
 use lib.Dec.{eqb}
 use Rattle.words.specs.Choice.{pick}
 use Rattle.words.specs.Memory.{mem, patch}
 use Rattle.words.specs.Words.{leAt, byteOf}
 use Rattle.words.specs.Names.{nameAt}
-use Rattle.model.proofs.OrderLaws.{decide}
 use Rattle.object.specs.Entries as entries
 use Rattle.object.specs.Entries.{relaAt, actionOf}
 use Rattle.object.specs.Symbol as symbols
@@ -32,10 +29,9 @@ use Rattle.binder.specs.declared.report.Progress.{Progress}
 use Rattle.binder.specs.declared.turn.Turn.{Turn}
 use Rattle.binder.specs.declared.relocate.Symbols.{Symbols}
 use Rattle.binder.specs.declared.relocate.Run.{Run}
-use Rattle.binder.specs.declared.relocate.Address.{Address}
 use Rattle.binder.specs.declared.relocate.Address.the-variants.{Nowhere, At}
-use Rattle.binder.specs.Relocating.{Left, left, keeps, imageIn, foundOf, soughtFor, answeredOf, symbolicOf, runAction, runTable}
-use Rattle.binder.specs.RunSteps.{TablesKept, EntriesPassed, SymbolsOf, addressIn, SymbolsPassed}
+use Rattle.binder.specs.Relocating.{Left, left, keeps, imageIn, foundOf, soughtFor, answeredOf, symbolicOf, runAction}
+use Rattle.binder.specs.RunSteps.{EntriesPassed, SymbolsOf, addressIn, SymbolsPassed}
 use Rattle.binder.proofs.RunLaws.{entriesLeft, entry-goes}
 use Rattle.binder.proofs.RelativeLaws.{number-in}
 use Rattle.binder.proofs.KeptLaws.{kept-then, kept-symbols, entry-kept}

@@ -1,5 +1,5 @@
 -- `binder::relocate::symbolic` meets its contract. Assumes nothing.
-use mathlib.Core.Path.{refl, ap}
+use mathlib.Core.Path.{refl}
 use borrow.Author.Tests.{not-true, not-false}
 use denote.Ref.{now}
 use Rattle.object.specs.Record.{heldBy}
