@@ -260,11 +260,11 @@ fn sysv_bucket(
         × (total + r .count ≤ chains)
         × (r .ok ≡ true → Marked (now (seen .exit)) 1 (λ s. within (now (image .entry)) (SysV at buckets chains) (stepOk (isTable (b .span) (take (b .count) (b .segments))) (now (image .entry)) symbols strings (SysV at buckets chains)) s (total + r .count) ≡ true)) ⌝ }
 {
-    let word = words::bytes::u32_off(image, at, 8 + 4 * i);
-    if word == 0 {
+    let head = words::bytes::u32_off(image, at, 8 + 4 * i);
+    if head == 0 {
         return Walked { ok: true, count: 0 };
     }
-    let s = word as usize;
+    let s = head as usize;
     let w = sysv_walk(
         image,
         b,
