@@ -109,10 +109,10 @@ pub(crate) fn unresolved(report: &mut [u32], p: Progress, y: Symbol, k: u32, i: 
 }
 
 // Absence is kept where the symbol is weak: as the address 0, since no report word tells the two apart.
-pub(crate) fn keep_weak(p: Progress, last: u64, y: Symbol) -> Progress
-    ensures { λ r. ⌜ r ≡ pick (eqb (bindingOf y) 2) (keeps last 0 p) p ⌝ }
+pub(crate) fn keep_weak(p: Progress, last: u64, s: Symbol) -> Progress
+    ensures { λ r. ⌜ r ≡ pick (eqb (bindingOf s) 2) (keeps last 0 p) p ⌝ }
 {
-    if object::symbol::binding(y) == 2 {
+    if object::symbol::binding(s) == 2 {
         return keep(p, last, 0);
     }
     p
