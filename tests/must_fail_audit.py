@@ -22,8 +22,6 @@ SHAPE = [
     r"no such module",
     r"expects? \d+ arguments?",
     r"too (many|few) arguments",
-    r"a function was expected",
-    r"is not a function",
 ]
 ERROR = re.compile(r"^\S+: error|^note: \S+:\d+:\d+:")
 
