@@ -42,6 +42,9 @@ def main():
             while i + 1 < len(lines) and lines[i + 1].startswith(" "):
                 i += 1
                 text += " " + lines[i].strip()
+        # Only what rests on a function that is not proved is refused first: tell which function, and which of its needs.
+        if "was not admitted" in text:
+            text = next((line for line in lines if ": no proof: " in line), text)
         text = re.sub(r"^(note: )?\S*/target/must-fail/", "", text)
         shape = not found or any(re.search(p, text) for p in SHAPE)
         weak += shape
