@@ -16,8 +16,8 @@ use Rattle.model.specs.Order as order
 use Rattle.model.specs.Order.{listed, firstFirst, upFrom, visit, orderOf}
 use Rattle.model.proofs.OrderLaws.{decide, order-length}
 use Rattle.binder.specs.declared.order.Order.{Order}
-use Rattle.binder.specs.Table.{needsOf, Ordered}
-use Rattle.binder.specs.OrderState.{State, unmarked, ordered, used, Room, Marks, Visited, Unlisted}
+use Rattle.binder.specs.Steps.Table.{needsOf, Ordered}
+use Rattle.binder.specs.Steps.OrderState.{State, unmarked, ordered, used, Room, Marks, Visited, Unlisted}
 
 -- the numbers from 2 up to j are not marked
 pub record Clearing (s : List Bool) (j : ℕ) : Type 0 where

@@ -12,7 +12,7 @@ use Rattle.model.specs.Order.{listed, orderOf, keep}
 use Rattle.model.proofs.OrderSame.{order-same}
 use Rattle.model.proofs.OrderUses.{order-range}
 use Rattle.binder.specs.declared.order.Order.{Order}
-use Rattle.binder.specs.Table.{needsOf, Ordered}
+use Rattle.binder.specs.Steps.Table.{needsOf, Ordered}
 
 -- the i-th object of the order
 pub object-at :

@@ -20,11 +20,11 @@ use Rattle.binder.specs.Verdict.{Verdict, noFile, passed, refused, first
 use Rattle.binder.specs.Report.{orderWords, firstUndefined}
 use Rattle.binder.specs.SetOrder.{setOrder}
 use Rattle.binder.specs.Bind.{filesOf, namesOf, objectsOf, unless, prepareVerdict, allows, relocateVerdict, Outcome, outcome, outcomeOf, bindIn, bindOf}
-use Rattle.binder.specs.Prepared.{metBy, placeFiles, Prepared}
-use Rattle.binder.specs.Asked.{Ready}
-use Rattle.binder.specs.Settled.{endsBy, settledOf, BoundSet}
-use Rattle.binder.specs.Needed.{Arranged}
-use Rattle.binder.specs.Relocating.{left, started, runOrder}
+use Rattle.binder.specs.Steps.Prepared.{metBy, placeFiles, Prepared}
+use Rattle.binder.specs.Steps.Asked.{Ready}
+use Rattle.binder.specs.Steps.Settled.{endsBy, settledOf, BoundSet}
+use Rattle.binder.specs.Steps.Needed.{Arranged}
+use Rattle.binder.specs.Steps.Relocating.{left, started, runOrder}
 use Rattle.model.specs.Order.{OnceEach}
 use Rattle.binder.proofs.OrderIs.{order-is, names-length}
 use Rattle.binder.specs.declared.Policy.{Policy}

@@ -8,7 +8,7 @@ use borrow.Author.Tests.{eq-eqb, ne-eqb}
 use Rattle.object.specs.TableBytes.{inWritable}
 use Rattle.object.specs.declared.program_header.Segment.{Segment}
 use Rattle.binder.specs.declared.turn.Turn.{Turn}
-use Rattle.binder.specs.Relocating.{summed, wordAdded, addBits}
+use Rattle.binder.specs.Steps.Relocating.{summed, wordAdded, addBits}
 
 -- one turn: the bit is 0; it is 1, and its word may be written, or not
 module _ (t : Turn) (ss : List Segment) where

@@ -33,9 +33,9 @@ use Rattle.object.specs.declared.hash_tables.Definition.{Definition}
 use Rattle.binder.specs.Instance.{File, imageOf, recordOf, symOf, entryBy}
 use Rattle.binder.specs.Verdict.{Verdict, passed, verdict, writtenRefusal, copyOk, copyRefusal, symbolThen, refusalBy}
 use Rattle.binder.specs.Report.{reportWord, unresolved, undefinedBy, isPassed}
-use Rattle.scope.specs.Seats.{seatAt}
-use Rattle.binder.specs.ScopeModel.{scopedOf}
-use Rattle.binder.specs.Relocating.{Left, left, wrote, Noted, noted, withArena, withReport, refusedBy, imageIn, reportSum, noteOf, markUndefined, unresolvedOf, relativeOf, foundOf, copyFits, copyBytes, copyOf, turnOf, soughtFor, soughtForCopy, keeps, answeredOf, symbolicOf, copyingOf, runAction, keepsWeak}
+use Rattle.scope.specs.Steps.Seats.{seatAt}
+use Rattle.binder.specs.Steps.ScopeModel.{scopedOf}
+use Rattle.binder.specs.Steps.Relocating.{Left, left, wrote, Noted, noted, withArena, withReport, refusedBy, imageIn, reportSum, noteOf, markUndefined, unresolvedOf, relativeOf, foundOf, copyFits, copyBytes, copyOf, turnOf, soughtFor, soughtForCopy, keeps, answeredOf, symbolicOf, copyingOf, runAction, keepsWeak}
 use Rattle.scope.specs.declared.seats.Seat.{Seat}
 use Rattle.binder.specs.declared.turn.Turn.{Turn}
 use Rattle.scope.specs.declared.scope.Scoped.{Scoped}

@@ -23,15 +23,15 @@ use Rattle.object.specs.declared.relocate.Action.{Action}
 use Rattle.object.specs.declared.relocate.Action.the-variants.{Ignored, Passed, Relative, Symbolic, Copy, Irelative}
 use Rattle.object.specs.declared.dynamic_fields.CheckedSymbol.{CheckedSymbol}
 use Rattle.object.specs.declared.dynamic_fields.CheckedSymbol.the-variants.{Refused, Checked}
-use Rattle.scope.specs.Seats.{seatAt}
+use Rattle.scope.specs.Steps.Seats.{seatAt}
 use Rattle.scope.specs.declared.seats.Seat.{Seat}
 use Rattle.scope.specs.declared.scope.Scoped.{Scoped}
 use Rattle.scope.specs.declared.scope.Scoped.the-variants.{Absent, Found}
 use Rattle.binder.specs.declared.report.Progress.{Progress}
 use Rattle.binder.specs.declared.turn.Turn.{Turn}
 use Rattle.binder.specs.declared.relocate.Symbols.{Symbols}
-use Rattle.binder.specs.Relocating.{Left, left, wrote, Noted, noted, withArena, withReport, refusedBy, imageIn, reportSum, noteOf, unresolvedOf, keepsWeak, relativeOf, foundOf, copyFits, copyBytes, copyOf, soughtFor, soughtForCopy, answeredOf, symbolicOf, copyingOf, runAction}
-use Rattle.binder.specs.RunSteps.{TablesKept, SymbolsOf}
+use Rattle.binder.specs.Steps.Relocating.{Left, left, wrote, Noted, noted, withArena, withReport, refusedBy, imageIn, reportSum, noteOf, unresolvedOf, keepsWeak, relativeOf, foundOf, copyFits, copyBytes, copyOf, soughtFor, soughtForCopy, answeredOf, symbolicOf, copyingOf, runAction}
+use Rattle.binder.specs.Steps.RunSteps.{TablesKept, SymbolsOf}
 use Rattle.binder.proofs.SteadyLaws.{table-out}
 
 -- a byte that a write leaves

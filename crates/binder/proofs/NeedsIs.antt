@@ -30,9 +30,9 @@ use Rattle.binder.specs.Verdict.{passed, verdict, loadVerdict, noFile}
 use Rattle.binder.specs.Bind.{filesOf, namesOf}
 use Rattle.binder.specs.SetOrder as sets
 use Rattle.binder.specs.SetOrder.{setOrder}
-use Rattle.scope.specs.Seats.{seatAt}
-use Rattle.scope.specs.ScopeCode.{imageAt}
-use Rattle.binder.specs.Needed.{neededAt, numbersAt, needsAt, FewNeeds, Arranged}
+use Rattle.scope.specs.Steps.Seats.{seatAt}
+use Rattle.scope.specs.Steps.ScopeCode.{imageAt}
+use Rattle.binder.specs.Steps.Needed.{neededAt, numbersAt, needsAt, FewNeeds, Arranged}
 use Rattle.binder.specs.declared.order.Order.{Order}
 use Rattle.scope.specs.declared.seats.Seat.{Seat}
 use Rattle.binder.proofs.OutcomeLaws.{first-passed, verdict-passed}

@@ -16,7 +16,7 @@ use Rattle.object.specs.Record.{Record}
 use Rattle.binder.specs.Instance.{File, imageOf, recordOf, placesOf, wordsOf, relasOf, entryOf, objectAt}
 use Rattle.binder.specs.Verdict.{Verdict, first, entriesVerdict, objectVerdict}
 use Rattle.binder.specs.Report.{reportWord, entryWords, objectWords, hasUndefined}
-use Rattle.binder.specs.Relocating.{left, Noted, noted, Summed, summed, refusedBy, keeps, reportSum, noteOf, far, cutTo32, addRelrs, turnOf, imageIn, againRefusal, runTables, thenTables, runObject, runAt}
+use Rattle.binder.specs.Steps.Relocating.{left, Noted, noted, Summed, summed, refusedBy, keeps, reportSum, noteOf, far, cutTo32, addRelrs, turnOf, imageIn, againRefusal, runTables, thenTables, runObject, runAt}
 use Rattle.binder.specs.declared.turn.Turn.{Turn}
 use Rattle.binder.specs.declared.report.Progress.{Progress}
 use Rattle.binder.proofs.Steady.{set, fileAt, LoadedSet, PlacedAt, Steady}

@@ -27,8 +27,8 @@ use Rattle.sheet.specs.Sheet.{Input, noInput}
 use Rattle.binder.specs.Instance.{File, recordOf}
 use Rattle.binder.specs.Verdict.{passed, refused, first, verdict, loadVerdict, noFile}
 use Rattle.binder.specs.Bind.{filesOf}
-use Rattle.scope.specs.Seats.{seatAt, Filtered}
-use Rattle.binder.specs.Prepared.{metBy, seatOf, placeFiles, Seated, SeatedAt, LoadedAt, Prepared}
+use Rattle.scope.specs.Steps.Seats.{seatAt, Filtered}
+use Rattle.binder.specs.Steps.Prepared.{metBy, seatOf, placeFiles, Seated, SeatedAt, LoadedAt, Prepared}
 use Rattle.scope.specs.declared.seats.Seat.{Seat}
 use Rattle.binder.specs.declared.prepare.Met.{Met}
 use Rattle.binder.specs.declared.prepare.Met.the-variants.{Passed, Refused}

@@ -20,10 +20,10 @@ use Rattle.sheet.specs.Sheet as sheets
 use Rattle.binder.specs.Instance.{File, objectAt}
 use Rattle.binder.specs.Verdict.{passed, refused, first, loadVerdict}
 use Rattle.binder.specs.Bind.{filesOf, objectsOf, unless, prepareVerdict, replied, replyOf, repliedOf, queryOf}
-use Rattle.scope.specs.ScopeCode.{resolveSeats}
-use Rattle.binder.specs.ScopeModel.{scopedOf}
-use Rattle.binder.specs.Prepared.{metBy, placeFiles, Seated, Prepared}
-use Rattle.binder.specs.Asked.{askOf, Ready}
+use Rattle.scope.specs.Steps.ScopeCode.{resolveSeats}
+use Rattle.binder.specs.Steps.ScopeModel.{scopedOf}
+use Rattle.binder.specs.Steps.Prepared.{metBy, placeFiles, Seated, Prepared}
+use Rattle.binder.specs.Steps.Asked.{askOf, Ready}
 use Rattle.binder.specs.declared.Reply.{Reply}
 use Rattle.binder.specs.declared.Reply.the-variants.{Refused}
 use Rattle.scope.specs.declared.scope.Scoped.{Scoped}

@@ -20,11 +20,11 @@ use Rattle.object.specs.Loaded.{objectRefusal}
 use Rattle.object.specs.HashTable.{answerIn}
 use Rattle.binder.specs.Instance.{File, imageOf, recordOf, foundOf, objectAt}
 use Rattle.binder.specs.Verdict.{passed, verdict, loadVerdict, noFile}
-use Rattle.scope.specs.Seats.{seatAt}
-use Rattle.binder.specs.Prepared.{seatOf, placeFiles, Seated}
+use Rattle.scope.specs.Steps.Seats.{seatAt}
+use Rattle.binder.specs.Steps.Prepared.{seatOf, placeFiles, Seated}
 use Rattle.scope.specs.ScopeCode as searches
-use Rattle.scope.specs.ScopeCode.{imageAt}
-use Rattle.binder.specs.ScopeModel.{SeatOf, SeatedFor}
+use Rattle.scope.specs.Steps.ScopeCode.{imageAt}
+use Rattle.binder.specs.Steps.ScopeModel.{SeatOf, SeatedFor}
 use Rattle.scope.specs.declared.seats.Seat.{Seat}
 use Rattle.binder.proofs.OutcomeLaws.{first-passed, verdict-passed}
 use Rattle.binder.proofs.SoundLaws.{load-fits, count-is}

@@ -11,12 +11,12 @@ use Rattle.object.specs.Entries as entries
 use Rattle.object.specs.Entries.{relaAt, actionOf}
 use Rattle.object.specs.Record.{Record}
 use Rattle.object.specs.TableBytes.{inWritable}
-use Rattle.object.specs.WritableRange.{WritableRange}
+use Rattle.object.specs.Steps.WritableRange.{WritableRange}
 use Rattle.object.specs.declared.relocate.Action.the-variants.{Relative}
 use Rattle.binder.specs.declared.report.Progress.{Progress}
 use Rattle.binder.specs.declared.turn.Turn.{Turn}
-use Rattle.binder.specs.Relocating.{left, imageIn, relativeOf, runAction}
-use Rattle.binder.specs.RunSteps.{EntriesPassed}
+use Rattle.binder.specs.Steps.Relocating.{left, imageIn, relativeOf, runAction}
+use Rattle.binder.specs.Steps.RunSteps.{EntriesPassed}
 use Rattle.binder.proofs.RunLaws.{entry-goes}
 use Rattle.binder.proofs.KeptLaws.{kept-then, entry-kept}
 

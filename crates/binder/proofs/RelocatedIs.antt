@@ -21,7 +21,7 @@ use Rattle.sheet.specs.Sheet.{Input, noInput}
 use Rattle.binder.specs.Instance.{File}
 use Rattle.binder.specs.Verdict.{passed, verdict, noFile, objectVerdict, orderVerdict}
 use Rattle.binder.specs.Report.{objectWords, orderWords, hasUndefined, firstUndefined}
-use Rattle.binder.specs.Relocating.{left, started, runAt, runOrder}
+use Rattle.binder.specs.Steps.Relocating.{left, started, runAt, runOrder}
 use Rattle.binder.specs.declared.report.Progress.{Progress}
 use Rattle.binder.proofs.SoundLaws.{count-is}
 use Rattle.binder.proofs.QueryLaws.{placed-is}

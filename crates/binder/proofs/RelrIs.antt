@@ -27,7 +27,7 @@ use Rattle.binder.specs.declared.turn.Turn.{Turn}
 use Rattle.binder.specs.declared.relr.Moved.{Moved}
 use Rattle.binder.specs.Instance.{File, imageOf, recordOf, placesOf, wordsOf}
 use Rattle.binder.specs.Verdict.{Verdict, passed, refused, first, verdict, wordRefusal, wordsVerdict}
-use Rattle.binder.specs.Relocating.{imageIn, far, cutTo32, Summed, summed, Shifted, shifted, wordAdded, addBits, bitsAdded, addRelr, thenRelr, addRelrs, turnOf}
+use Rattle.binder.specs.Steps.Relocating.{imageIn, far, cutTo32, Summed, summed, Shifted, shifted, wordAdded, addBits, bitsAdded, addRelr, thenRelr, addRelrs, turnOf}
 use Rattle.binder.proofs.Steady as steady
 use Rattle.binder.proofs.SteadyLaws as laws
 

@@ -15,7 +15,7 @@ use Rattle.model.proofs.OrderLaws.{decide}
 use Rattle.object.specs.Symbol.{bindingOf}
 use Rattle.object.specs.declared.symbol.Symbol.{Symbol}
 use Rattle.binder.specs.Report.{reportWord}
-use Rattle.binder.specs.Relocating.{Noted, noted, keeps, reportSum, noteOf, markUndefined, undefinedIn, unresolvedOf}
+use Rattle.binder.specs.Steps.Relocating.{Noted, noted, keeps, reportSum, noteOf, markUndefined, undefinedIn, unresolvedOf}
 use Rattle.binder.specs.declared.report.Progress.{Progress}
 
 -- a report of n words that has these words, then zeros; what does not fit is dropped

@@ -8,7 +8,7 @@ use lib.Dec.{eqb}
 use lib.ListN.{length}
 use Rattle.words.specs.Choice.{pick}
 use Rattle.binder.specs.Verdict.{Verdict, passed, refused, first, verdict}
-use Rattle.binder.specs.Relocating.{Left, left, unlessRefused}
+use Rattle.binder.specs.Steps.Relocating.{Left, left, unlessRefused}
 use Rattle.binder.specs.declared.report.Progress.{Progress}
 use Rattle.binder.proofs.OutcomeLaws.{refused-not, verdict-passed}
 

@@ -20,11 +20,11 @@ use Rattle.scope.specs.declared.seats.Seat.{Seat}
 use Rattle.scope.specs.declared.scope.Scoped.{Scoped}
 use Rattle.scope.specs.declared.scope.Scoped.the-variants.{Absent, Found}
 use Rattle.scope.specs.Seats as seats-specs
-use Rattle.scope.specs.Seats.{seatAt, seatsFrom}
+use Rattle.scope.specs.Steps.Seats.{seatAt, seatsFrom}
 use Rattle.binder.specs.Instance.{symOf, foundOf}
 use Rattle.scope.specs.ScopeCode as searches
-use Rattle.scope.specs.ScopeCode.{answerAt, scopedBy, guardedBy, orElse, seatAnswer, ownAnswer, scanSeats, resolveSeats, resolveCopySeats}
-use Rattle.binder.specs.ScopeModel.{scopedOf, SeatOf, SeatedFor}
+use Rattle.scope.specs.Steps.ScopeCode.{answerAt, scopedBy, guardedBy, orElse, seatAnswer, ownAnswer, scanSeats, resolveSeats, resolveCopySeats}
+use Rattle.binder.specs.Steps.ScopeModel.{scopedOf, SeatOf, SeatedFor}
 
 scoped-else : (a b : Scoped) → scopedOf (orElse a b) ≡ model.orElse (scopedOf a) (scopedOf b)
 unfolding searches.orElse scopedOf

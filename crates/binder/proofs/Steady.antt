@@ -15,11 +15,11 @@ use Rattle.object.specs.Placed.{objectSpan}
 use Rattle.object.specs.declared.hash_tables.Definition.{Definition}
 use Rattle.binder.specs.Instance.{File, imageOf, recordOf, symOf, objectAt}
 use Rattle.binder.specs.Verdict.{passed, loadVerdict, noFile, copyOk}
-use Rattle.scope.specs.Seats.{seatAt}
-use Rattle.binder.specs.Prepared.{seatOf, placeFiles, Seated}
-use Rattle.scope.specs.ScopeCode.{imageAt}
-use Rattle.binder.specs.ScopeModel.{scopedOf}
-use Rattle.binder.specs.Relocating.{turnOf, imageIn, soughtFor, soughtForCopy, againRefusal, againRecord, copyFits}
+use Rattle.scope.specs.Steps.Seats.{seatAt}
+use Rattle.binder.specs.Steps.Prepared.{seatOf, placeFiles, Seated}
+use Rattle.scope.specs.Steps.ScopeCode.{imageAt}
+use Rattle.binder.specs.Steps.ScopeModel.{scopedOf}
+use Rattle.binder.specs.Steps.Relocating.{turnOf, imageIn, soughtFor, soughtForCopy, againRefusal, againRecord, copyFits}
 
 module _ (address size : ℕ) (table : List ℕ) (h p : File) (fs : List File) where
   abbrev pub files : List File

@@ -41,11 +41,11 @@ use Rattle.object.proofs.RefusalLaws.{required, after-zero}
 use Rattle.object.proofs.ReadingsSame.{invariance}
 use Rattle.binder.specs.Instance.{File, imageOf, recordOf, objectAt}
 use Rattle.binder.specs.Verdict.{noFile, copyOk}
-use Rattle.scope.specs.Seats.{seatAt}
-use Rattle.binder.specs.Prepared.{seatOf, placeFiles}
-use Rattle.scope.specs.ScopeCode.{imageAt}
-use Rattle.binder.specs.ScopeModel.{SeatedFor}
-use Rattle.binder.specs.Relocating.{copyFits, againRefusal}
+use Rattle.scope.specs.Steps.Seats.{seatAt}
+use Rattle.binder.specs.Steps.Prepared.{seatOf, placeFiles}
+use Rattle.scope.specs.Steps.ScopeCode.{imageAt}
+use Rattle.binder.specs.Steps.ScopeModel.{SeatedFor}
+use Rattle.binder.specs.Steps.Relocating.{copyFits, againRefusal}
 use Rattle.scope.specs.declared.seats.Seat.{Seat}
 use Rattle.binder.proofs.InsideLaws as inside
 use Rattle.binder.proofs.ScopeIs.{resolve-is, resolve-copy-is}

@@ -17,7 +17,7 @@ use Rattle.object.specs.Symbol as symbols
 use Rattle.object.specs.Symbol.{symbolAt}
 use Rattle.object.specs.Record.{Record, checkedSymbol}
 use Rattle.object.specs.TableBytes.{inWritable}
-use Rattle.object.specs.WritableRange.{WritableRange}
+use Rattle.object.specs.Steps.WritableRange.{WritableRange}
 use Rattle.object.specs.declared.symbol.Symbol.{Symbol}
 use Rattle.object.specs.declared.relocate.Rela.{Rela}
 use Rattle.object.specs.declared.relocate.Action.the-variants.{Symbolic}
@@ -30,8 +30,8 @@ use Rattle.binder.specs.declared.turn.Turn.{Turn}
 use Rattle.binder.specs.declared.relocate.Symbols.{Symbols}
 use Rattle.binder.specs.declared.relocate.Run.{Run}
 use Rattle.binder.specs.declared.relocate.Address.the-variants.{Nowhere, At}
-use Rattle.binder.specs.Relocating.{Left, left, keeps, imageIn, foundOf, soughtFor, answeredOf, symbolicOf, runAction}
-use Rattle.binder.specs.RunSteps.{EntriesPassed, SymbolsOf, addressIn, SymbolsPassed}
+use Rattle.binder.specs.Steps.Relocating.{Left, left, keeps, imageIn, foundOf, soughtFor, answeredOf, symbolicOf, runAction}
+use Rattle.binder.specs.Steps.RunSteps.{EntriesPassed, SymbolsOf, addressIn, SymbolsPassed}
 use Rattle.binder.proofs.RunLaws.{entriesLeft, entry-goes}
 use Rattle.binder.proofs.RelativeLaws.{number-in}
 use Rattle.binder.proofs.KeptLaws.{kept-then, kept-symbols, entry-kept}

@@ -16,7 +16,7 @@ use Rattle.object.specs.declared.relocate.Rela.{Rela}
 use Rattle.binder.specs.Instance.{File, imageOf, recordOf, relasOf, entryOf}
 use Rattle.binder.specs.Verdict.{passed, first, verdict, entryRefusal, entriesVerdict}
 use Rattle.binder.specs.Report.{reportWord, isUndefined, isPassed, entryWords}
-use Rattle.binder.specs.Relocating.{left, imageIn, cutTo32, turnOf, runAction, runTable, runTables}
+use Rattle.binder.specs.Steps.Relocating.{left, imageIn, cutTo32, turnOf, runAction, runTable, runTables}
 use Rattle.binder.specs.declared.turn.Turn.{Turn}
 use Rattle.binder.specs.declared.report.Progress.{Progress}
 use Rattle.binder.proofs.Steady.{set, fileAt, LoadedSet, Steady}

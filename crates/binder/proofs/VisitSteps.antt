@@ -17,8 +17,8 @@ use Rattle.words.proofs.Slices.{mem-tab, length-tab}
 use Rattle.model.specs.Order as order
 use Rattle.model.specs.Order.{has, listed, fresh, lastFirst, visit}
 use Rattle.model.proofs.OrderLaws.{decide, passed, fresh-moved, visit-fresh}
-use Rattle.binder.specs.Table.{needsOf}
-use Rattle.binder.specs.OrderState.{State, unmarked, ordered, used, Room, Marks, Visited}
+use Rattle.binder.specs.Steps.Table.{needsOf}
+use Rattle.binder.specs.Steps.OrderState.{State, unmarked, ordered, used, Room, Marks, Visited}
 
 -- the loop over the needs of k: those from i on are visited, from the last
 pub record Turn (table : List ℕ) (depth k : ℕ) (w₀ w : State) (i : ℕ) : Type 0 where

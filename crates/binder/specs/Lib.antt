@@ -1,14 +1,6 @@
-pub mod Table
-pub mod OrderState
 pub mod Instance
 pub mod Verdict
 pub mod Report
 pub mod SetOrder
 pub mod Bind
-pub mod Prepared
-pub mod ScopeModel
-pub mod Asked
-pub mod Relocating
-pub mod RunSteps
-pub mod Needed
-pub mod Settled
+pub mod Steps

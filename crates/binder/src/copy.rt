@@ -3,7 +3,7 @@ ghost use mathlib.Core.Path.{_≡_};
 ghost use Prim.Native.Nat.{_+_};
 ghost use lib.Dec.{leb};
 ghost use lib.ListN.{take};
-ghost use Rattle.binder.specs.Relocating.{left, wrote, copyFits, copyBytes, copyOf};
+ghost use Rattle.binder.specs.Steps.Relocating.{left, wrote, copyFits, copyBytes, copyOf};
 use crate::report::Progress;
 use crate::turn::Turn;
 use object::hash_tables::Definition;

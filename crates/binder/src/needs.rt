@@ -2,10 +2,10 @@
 ghost use mathlib.Core.Path.{_≡_};
 ghost use Prim.Native.Nat.{_+_, _*_, _≤_, _<_};
 ghost use lib.ListN.{length};
-ghost use Rattle.sheet.specs.Parts.{inputsIn};
+ghost use Rattle.sheet.specs.Steps.Parts.{inputsIn};
 ghost use Rattle.binder.specs.Bind.{namesOf};
 ghost use Rattle.binder.specs.SetOrder.{numberOf};
-ghost use Rattle.binder.specs.Needed.{NeedsPut, NeedsFilled, Arranged};
+ghost use Rattle.binder.specs.Steps.Needed.{NeedsPut, NeedsFilled, Arranged};
 use crate::order::Order;
 use object::program_header::Dynamic;
 use sheet::sheet::Parts;

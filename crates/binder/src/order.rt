@@ -3,8 +3,8 @@
 ghost use mathlib.Core.Path.{_≡_};
 ghost use Prim.Native.Nat.{_+_, _*_, _≤_, _<_, min};
 ghost use Rattle.words.specs.Memory.{mem};
-ghost use Rattle.binder.specs.Table.{Ordered};
-ghost use Rattle.binder.specs.OrderState.{stateOf, Room, Visited, Unlisted};
+ghost use Rattle.binder.specs.Steps.Table.{Ordered};
+ghost use Rattle.binder.specs.Steps.OrderState.{stateOf, Room, Visited, Unlisted};
 
 // The numbers of the objects in order: the first `count` of `list`.
 pub struct Order {

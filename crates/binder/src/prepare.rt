@@ -2,9 +2,9 @@
 ghost use mathlib.Core.Path.{_≡_};
 ghost use Prim.Native.Nat.{_≤_};
 ghost use lib.ListN.{length};
-ghost use Rattle.sheet.specs.Parts.{inputsIn};
+ghost use Rattle.sheet.specs.Steps.Parts.{inputsIn};
 ghost use Rattle.binder.specs.Bind.{filesOf};
-ghost use Rattle.binder.specs.Prepared.{LoadedAt, Prepared};
+ghost use Rattle.binder.specs.Steps.Prepared.{LoadedAt, Prepared};
 use scope::seats::Seat;
 use sheet::sheet::Parts;
 

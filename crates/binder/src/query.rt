@@ -2,10 +2,10 @@
 ghost use mathlib.Core.Path.{_≡_};
 ghost use Prim.Native.Nat.{_+_, _≤_, _^_};
 ghost use lib.ListN.{length, replicate};
-ghost use Rattle.sheet.specs.Parts.{inputsIn};
-ghost use Rattle.binder.specs.ScopeModel.{scopedOf};
+ghost use Rattle.sheet.specs.Steps.Parts.{inputsIn};
+ghost use Rattle.binder.specs.Steps.ScopeModel.{scopedOf};
 ghost use Rattle.binder.specs.Bind.{replied, replyOf, queryOf};
-ghost use Rattle.binder.specs.Asked.{askOf, Ready};
+ghost use Rattle.binder.specs.Steps.Asked.{askOf, Ready};
 use crate::Reply;
 use crate::prepare::Met;
 use scope::scope::Scoped;

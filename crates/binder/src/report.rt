@@ -3,7 +3,7 @@ ghost use mathlib.Core.Path.{_≡_};
 ghost use lib.Dec.{eqb};
 ghost use Rattle.words.specs.Choice.{pick};
 ghost use Rattle.object.specs.Symbol.{bindingOf};
-ghost use Rattle.binder.specs.Relocating.{noted, refusedBy, keeps, noteOf, undefinedIn, unresolvedOf};
+ghost use Rattle.binder.specs.Steps.Relocating.{noted, refusedBy, keeps, noteOf, undefinedIn, unresolvedOf};
 use crate::turn::Turn;
 use object::symbol::Symbol;
 

@@ -4,7 +4,7 @@ ghost use Prim.Native.Nat.{_+_, _≤_};
 ghost use lib.ListN.{length, set};
 ghost use Rattle.words.specs.Memory.{mem, from, patch};
 ghost use Rattle.words.specs.Words.{byteOf};
-ghost use Rattle.binder.specs.Relocating.{imageIn, CopyApart, turnOf};
+ghost use Rattle.binder.specs.Steps.Relocating.{imageIn, CopyApart, turnOf};
 
 // The object whose turn it is: its number, its part of the arena, and its base.
 pub struct Turn {

@@ -24,7 +24,7 @@ use Rattle.binder.specs.declared.Reply.{Reply}
 use Rattle.binder.specs.Instance.{File, objectAt}
 use Rattle.binder.specs.Verdict.{Verdict, passed, refused, loadVerdict, orderVerdict}
 use Rattle.binder.specs.SetOrder.{setOrder}
-use Rattle.binder.specs.Prepared.{placeFiles}
+use Rattle.binder.specs.Steps.Prepared.{placeFiles}
 use Rattle.binder.specs.Bind.{filesOf, namesOf, objectsOf, prepareVerdict, replied, repliedOf, queryOf}
 use Rattle.binder.proofs.FileLaws.{hostFile, fileOf, files-are}
 use Rattle.binder.proofs.OutcomeLaws.{objectsIn, orderIn, bound-passed, first-passed}

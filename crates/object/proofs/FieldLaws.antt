@@ -17,7 +17,7 @@ use Rattle.object.specs.declared.dynamic_array.DynamicFields.{DynamicFie
 use Rattle.object.specs.declared.dynamic_array.Needs.{Needs}
 use Rattle.object.specs.DynamicArray.{Item, itemAt, itemsIn, endIn, lastOf, firstOf, allOf}
 use Rattle.object.specs.DynamicFields.{fieldsFrom, Needed}
-use Rattle.object.specs.FieldSteps.{stepOf, needStep}
+use Rattle.object.specs.Steps.FieldSteps.{stepOf, needStep}
 
 -- ---- the walk, by what is left of it
 

@@ -10,11 +10,11 @@ use Rattle.words.specs.Memory.{mem}
 use Rattle.words.specs.Words.{leAt}
 use Rattle.object.specs.declared.dynamic_fields.CheckedSymbol.the-variants.{Checked}
 use Rattle.object.specs.TableBytes.{tableBytes, tableName}
-use Rattle.object.specs.LastZero.{RunOf}
+use Rattle.object.specs.Steps.LastZero.{RunOf}
 use Rattle.object.specs.Symbol.{symbolFrom, symbolAt}
 use Rattle.object.specs.HashCheck.{symbolOk}
 use Rattle.object.specs.Record.{Record, isTableOf, indexOk, checkedSymbol}
-use Rattle.object.specs.FineRange.{TablesFine, LinksFine, FineOf}
+use Rattle.object.specs.Steps.FineRange.{TablesFine, LinksFine, FineOf}
 use Rattle.object.proofs.LastZeroLaws.{name-yes, bytes-yes}
 use Rattle.object.proofs.ReadingsSame.{name-ok-same}
 

@@ -16,7 +16,7 @@ use Rattle.words.proofs.Choice.{both-true}
 use Rattle.words.proofs.NameLaws.{name-more, name-stop, name-none}
 use Rattle.object.specs.declared.program_header.Segment.{Segment}
 use Rattle.object.specs.TableBytes.{isTable, tableBytes, tableName}
-use Rattle.object.specs.LastZero.{LastZero, Nearer, spoils}
+use Rattle.object.specs.Steps.LastZero.{LastZero, Nearer, spoils}
 use Rattle.object.proofs.ListTests.{every-here, every-turn}
 use Rattle.object.proofs.Ranges.{split, spares, below-all, below-no}
 

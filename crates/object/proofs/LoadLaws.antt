@@ -10,7 +10,7 @@ use lib.ListN.{length, take, set, length-append}
 use lib.Seq.{take-length, take-append-le, take-suc-set}
 use Rattle.object.specs.Header.{headerCount}
 use Rattle.object.specs.ProgramHeader.{typeAt, segmentAt, loadsIn, loadsOf, dynamicIn}
-use Rattle.object.specs.LoadTable.{segmentsIn, Loaded}
+use Rattle.object.specs.Steps.LoadTable.{segmentsIn, Loaded}
 use Rattle.object.specs.declared.program_header.Segment.{Segment}
 use Rattle.object.specs.declared.program_header.Loads.{Loads}
 use Rattle.object.specs.declared.program_header.Dynamic.the-variants.{At}

@@ -13,7 +13,7 @@ use Rattle.words.specs.Page.{pageSize}
 use Rattle.words.proofs.Slices.{take-patch, length-patch}
 use Rattle.object.specs.Header.{headerRefusal}
 use Rattle.object.specs.ProgramHeader.{loadsOf, dynamicOf}
-use Rattle.object.specs.LoadTable.{segmentsIn}
+use Rattle.object.specs.Steps.LoadTable.{segmentsIn}
 use Rattle.object.specs.Segments.{segmentsOk}
 use Rattle.object.specs.Placed.{segmentsOf, objectSpan, objectBytes, objectImage, placeRefusal, PlacedBy}
 use Rattle.object.specs.Record.{heldBy, noRecord, readRefusal, ReadBy}

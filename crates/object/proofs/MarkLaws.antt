@@ -16,7 +16,7 @@ use Rattle.words.specs.Words.{leAt}
 use Rattle.words.proofs.Choice.{both-true}
 use Rattle.object.specs.declared.hash_tables.HashTable.{HashTable}
 use Rattle.object.specs.HashTable.{chainAt, isLast, next, walk}
-use Rattle.object.specs.Marks.{MarkAt, NewMark, Marked, within, Passes}
+use Rattle.object.specs.Steps.Marks.{MarkAt, NewMark, Marked, within, Passes}
 use Rattle.object.proofs.WalkEnds.{walk-ended}
 use Rattle.object.proofs.WalkLaws.{within-no, within-out, within-last, within-on, every-no, every-out, left-on}
 

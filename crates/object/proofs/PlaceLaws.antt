@@ -16,7 +16,7 @@ use Rattle.object.specs.Refusal.{require, after}
 use Rattle.object.specs.Header.{headerRefusal, tableEnd}
 use Rattle.object.proofs.RefusalLaws.{after-met}
 use Rattle.object.specs.ProgramHeader.{loadsOf}
-use Rattle.object.specs.LoadTable.{segmentsIn, Loaded}
+use Rattle.object.specs.Steps.LoadTable.{segmentsIn, Loaded}
 use Rattle.object.specs.Segments.{holdsHeaders, segmentOk, allApart, segmentsOk, spanOf, placeSegments, placedOf}
 use Rattle.object.specs.Placed.{segmentsOf, objectSpan, objectBytes, placeRefusal, placedPart, PlacedBy}
 use Rattle.object.specs.declared.program_header.Segment.{Segment}

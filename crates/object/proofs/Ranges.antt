@@ -15,7 +15,7 @@ use Rattle.words.specs.Choice.{both, either, every, some, below}
 use Rattle.words.proofs.Choice.{both-true, both-false}
 use Rattle.object.specs.declared.program_header.Segment.{Segment}
 use Rattle.object.specs.TableBytes.{isWritable, holdsRange, isTable, tableBytes, inWritable}
-use Rattle.object.specs.WritableRange.{WritableRange}
+use Rattle.object.specs.Steps.WritableRange.{WritableRange}
 
 pub length-mapped : (X Y : Type 0) (f : X → Y) (l : List X) (n : ℕ) → length (map f l) ≡ n → length l ≡ n
 length-mapped X Y f l n e = sym (length-map l f) ∙ e

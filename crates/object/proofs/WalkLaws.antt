@@ -18,7 +18,7 @@ use Rattle.object.specs.declared.hash_tables.HashTable.the-variants.{Sys
 use Rattle.object.specs.TableBytes.{tableBytes}
 use Rattle.object.specs.HashCheck.{bucketOk, lengthOk, chainOk, symbolOk, stepOk, walkOk}
 use Rattle.object.specs.HashTable.{chainAt, isLast, next, fuel, walk, walkFrom}
-use Rattle.object.specs.Marks.{within}
+use Rattle.object.specs.Steps.Marks.{within}
 
 module _ (m : List ℕ) (t : HashTable) (p : ℕ → Bool) (s : ℕ) where
   pub every-no : (n : ℕ) → 0 < n → p s ≡ false → every p (walk m t n s) ≡ false

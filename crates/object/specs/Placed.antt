@@ -13,7 +13,7 @@ use Rattle.words.specs.Page.{pageSize}
 use Rattle.object.specs.Refusal.{require, after}
 use Rattle.object.specs.Header.{headerRefusal}
 use Rattle.object.specs.ProgramHeader.{loadsOf}
-use Rattle.object.specs.LoadTable.{segmentsIn}
+use Rattle.object.specs.Steps.LoadTable.{segmentsIn}
 use Rattle.object.specs.Segments.{segmentsOk, spanOf, placedOf}
 use Rattle.object.specs.declared.program_header.Segment.{Segment}
 use Rattle.object.specs.declared.object_data.Placed.{Placed}

@@ -11,9 +11,9 @@ ghost use Rattle.object.specs.declared.hash_tables.HashTable.the-variant
 ghost use Rattle.object.specs.TableBytes.{isTable, tableBytes};
 ghost use Rattle.object.specs.HashTable.{fuel, walk};
 ghost use Rattle.object.specs.HashCheck.{symbolOk, stepOk, walkOk, tableOk};
-ghost use Rattle.object.specs.LastZero.{LastZeros};
-ghost use Rattle.object.specs.FineRange.{TablesFine, LinksFine};
-ghost use Rattle.object.specs.Marks.{MarkAt, NewMark, Marked, SysvMore, GnuMore, within, Passes};
+ghost use Rattle.object.specs.Steps.LastZero.{LastZeros};
+ghost use Rattle.object.specs.Steps.FineRange.{TablesFine, LinksFine};
+ghost use Rattle.object.specs.Steps.Marks.{MarkAt, NewMark, Marked, SysvMore, GnuMore, within, Passes};
 use crate::dynamic_fields::Fine;
 
 // Whether a walk passes, and how many symbols it passed before a marked one or its end.

@@ -2,7 +2,7 @@
 ghost use mathlib.Core.Path.{_≡_};
 ghost use Prim.Native.Nat.{_≤_, _<_};
 ghost use Rattle.object.specs.DynamicFields.{fieldsOf, noFields, needsOf, Needed};
-ghost use Rattle.object.specs.FieldSteps.{stepOf, needStep};
+ghost use Rattle.object.specs.Steps.FieldSteps.{stepOf, needStep};
 
 // What the entries of one tag give: whether there is one, and the value that counts.
 pub struct Field {

@@ -4,7 +4,7 @@ ghost use Prim.Native.Nat.{_+_, _*_, _≤_, _<_, min};
 ghost use lib.ListN.{length, take};
 ghost use Rattle.object.specs.Header.{tableStart};
 ghost use Rattle.object.specs.ProgramHeader.{typeAt, segmentAt, loadsOf, dynamicOf};
-ghost use Rattle.object.specs.LoadTable.{Loaded};
+ghost use Rattle.object.specs.Steps.LoadTable.{Loaded};
 use crate::header::header_count;
 use crate::header::table_start;
 

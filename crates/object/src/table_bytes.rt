@@ -6,9 +6,9 @@ ghost use lib.ListN.{length, take};
 ghost use Rattle.words.specs.Choice.{both, below};
 ghost use Rattle.words.specs.Memory.{mem};
 ghost use Rattle.object.specs.TableBytes.{isWritable, holdsRange, isTable, tableBytes, tableName, inWritable};
-ghost use Rattle.object.specs.WritableRange.{WritableRange};
-ghost use Rattle.object.specs.FineRange.{TablesFine, LinksFine};
-ghost use Rattle.object.specs.LastZero.{LastZero, LastZeros, Nearer, RunOf};
+ghost use Rattle.object.specs.Steps.WritableRange.{WritableRange};
+ghost use Rattle.object.specs.Steps.FineRange.{TablesFine, LinksFine};
+ghost use Rattle.object.specs.Steps.LastZero.{LastZero, LastZeros, Nearer, RunOf};
 use crate::dynamic_fields::Fine;
 
 // An object's span, and its load segments: the first `count` of them. The host has none.

@@ -23,8 +23,8 @@ use Rattle.object.specs.HashTable as table
 use Rattle.object.specs.HashTable.{bloomAt, hasBits, mayHold, answerBy}
 use Rattle.object.proofs.FindLaws.{find-not}
 use Rattle.scope.specs.declared.seats.Seat.{Seat}
-use Rattle.scope.specs.Seats.{logFrom, logOf, untested, filterWords, filterOf, filterAt, seatAt}
-use Rattle.scope.specs.ScopeCode.{imageAt, answerAt, Lacks}
+use Rattle.scope.specs.Steps.Seats.{logFrom, logOf, untested, filterWords, filterOf, filterAt, seatAt}
+use Rattle.scope.specs.Steps.ScopeCode.{imageAt, answerAt, Lacks}
 
 -- what a test that fails does not tell
 pub untold : {A : Type 0} → false ≡ true → A

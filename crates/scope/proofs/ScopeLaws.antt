@@ -17,8 +17,8 @@ use Rattle.object.specs.HashTable as hash
 use Rattle.object.specs.HashTable.{findBy, answerOf}
 use Rattle.scope.specs.declared.scope.Scoped.{Scoped}
 use Rattle.scope.specs.declared.scope.Scoped.the-variants.{Absent, Found}
-use Rattle.scope.specs.Seats.{wordAt, seatAt, seatsFrom}
-use Rattle.scope.specs.ScopeCode.{answerAt, Lacks, scopedBy, guardedBy, orElse, seatAnswer, ownAnswer, scanSeats}
+use Rattle.scope.specs.Steps.Seats.{wordAt, seatAt, seatsFrom}
+use Rattle.scope.specs.Steps.ScopeCode.{answerAt, Lacks, scopedBy, guardedBy, orElse, seatAnswer, ownAnswer, scanSeats}
 use Rattle.scope.proofs.BloomLaws.{Past}
 
 -- ---- a table that is not System V's has no use for the System V hash

@@ -16,7 +16,7 @@ use Rattle.object.proofs.Ranges.{split}
 use Rattle.object.specs.declared.hash_tables.HashTable.{HashTable}
 use Rattle.object.specs.declared.hash_tables.HashTable.the-variants.{Without, SysV, Gnu}
 use Rattle.scope.specs.declared.seats.Seat.{Seat}
-use Rattle.scope.specs.Seats.{hashWords, hashOf, narrow, nth, logFrom, logOf, untested, testable, filterWords, filterOf, filterAt, wordsOf, seatAt, FilteredAt, Filtered, spliced, withSeat}
+use Rattle.scope.specs.Steps.Seats.{hashWords, hashOf, narrow, nth, logFrom, logOf, untested, testable, filterWords, filterOf, filterAt, wordsOf, seatAt, FilteredAt, Filtered, spliced, withSeat}
 
 module _ (d : List ℕ) (at : ℕ) (s : List ℕ) (n : ℕ) (hd : at + n ≤ length d) (hs : n ≤ length s) where
   -- an element that was pasted

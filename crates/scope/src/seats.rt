@@ -2,7 +2,7 @@
 ghost use mathlib.Core.Path.{_≡_};
 ghost use Prim.Native.Nat.{ℕ, _+_, _*_, _≤_, _%_, _<_, _^_};
 ghost use lib.ListN.{length, getD};
-ghost use Rattle.scope.specs.Seats.{hashWords, hashOf, narrow, logOf, filterWords, filterOf, wordsOf, seatAt, Filtered, spliced, withSeat};
+ghost use Rattle.scope.specs.Steps.Seats.{hashWords, hashOf, narrow, logOf, filterWords, filterOf, wordsOf, seatAt, Filtered, spliced, withSeat};
 use object::hash_tables::HashTable;
 use object::hash_tables::View;
 

@@ -12,7 +12,7 @@ use Rattle.words.specs.Choice as choice
 use Rattle.words.specs.Choice.{pick, either, some}
 use Rattle.words.specs.Names.{sameBytes}
 use Rattle.sheet.specs.Sheet.{sizeOf, cut, libsOf, objectsOf, setOf, Input, noInput, named, twinFrom, sheetOk}
-use Rattle.sheet.specs.Parts.{noPart, inputIn, inputsIn, handedIn, Tabled}
+use Rattle.sheet.specs.Steps.Parts.{noPart, inputIn, inputsIn, handedIn, Tabled}
 use Rattle.sheet.specs.declared.sheet.Part.{Part}
 use Rattle.sheet.specs.declared.sheet.Parts.{Parts}
 use Rattle.sheet.proofs.SheetLaws.{drop-next, pair-at, told}

@@ -4,7 +4,7 @@ ghost use mathlib.Core.List.{List};
 ghost use Prim.Native.Nat.{ℕ, _≤_, _<_};
 ghost use lib.ListN.{length, take, drop, getD};
 ghost use Rattle.sheet.specs.Sheet.{kindOf, sizeOf, pairOk, sheetOk, setOf, arenaOk, noInput, named, twinOf};
-ghost use Rattle.sheet.specs.Parts.{inputsIn, Tabled};
+ghost use Rattle.sheet.specs.Steps.Parts.{inputsIn, Tabled};
 
 // Where an object's file and name lie in the byte slice.
 pub struct Part {

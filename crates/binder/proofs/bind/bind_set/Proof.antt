@@ -2,7 +2,7 @@
 use mathlib.Core.Path.{refl, _∙_}
 use denote.Ref.{now}
 use lib.ListN.{length}
-use Rattle.sheet.specs.Parts.{inputsIn}
+use Rattle.sheet.specs.Steps.Parts.{inputsIn}
 use Rattle.binder.proofs.PrepareLaws.{all-filtered}
 use Rattle.binder.proofs.BindIs.{load-refused, bind-is}
 use borrow.Author.Needs.{needs}

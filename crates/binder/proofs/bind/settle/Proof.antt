@@ -1,5 +1,5 @@
 -- `binder::bind::settle` meets its contract. Assumes nothing.
-use Rattle.binder.specs.Settled.{settledOf}
+use Rattle.binder.specs.Steps.Settled.{settledOf}
 use borrow.Author.Needs.{needs}
 use Rattle.binder.proofs.bind.settle.Statement.{statement}
 use Rattle.binder.proofs.bind.settle.Tie as tie

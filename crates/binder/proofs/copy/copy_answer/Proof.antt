@@ -8,13 +8,13 @@ use Rattle.object.specs.declared.program_header.Segment.{Segment}
 use Rattle.object.specs.declared.hash_tables.Definition.{Definition}
 use Rattle.object.specs.declared.symbol.Symbol.{Symbol}
 use Rattle.object.specs.declared.relocate.Rela.{Rela}
-use Rattle.scope.specs.Seats.{seatAt}
+use Rattle.scope.specs.Steps.Seats.{seatAt}
 use Rattle.scope.specs.declared.seats.Seat.{Seat}
 use Rattle.scope.specs.declared.scope.Scoped.{Scoped}
 use Rattle.scope.specs.declared.scope.Scoped.the-variants.{Absent, Found}
 use Rattle.binder.specs.declared.turn.Turn.{Turn}
 use Rattle.binder.specs.declared.report.Progress.{Progress}
-use Rattle.binder.specs.Relocating.{left, wrote, noted, withArena, withReport, unresolvedOf, copyBytes, copyOf}
+use Rattle.binder.specs.Steps.Relocating.{left, wrote, noted, withArena, withReport, unresolvedOf, copyBytes, copyOf}
 use borrow.Author.Needs.{needs}
 use Rattle.binder.proofs.copy.copy_answer.Statement.{statement}
 use Rattle.binder.proofs.copy.copy_answer.Tie as tie

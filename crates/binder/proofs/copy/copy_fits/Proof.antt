@@ -8,7 +8,7 @@ use borrow.Author.Tests.{leb-true, leb-false, le-leb, lt-leb, not-true, not-fals
 use Rattle.object.specs.declared.hash_tables.Definition.{Definition}
 use Rattle.scope.specs.declared.seats.Seat.{Seat}
 use Rattle.binder.specs.declared.turn.Turn.{Turn}
-use Rattle.binder.specs.Relocating.{copyFits}
+use Rattle.binder.specs.Steps.Relocating.{copyFits}
 use borrow.Author.Needs.{needs}
 use Rattle.binder.proofs.copy.copy_fits.Statement.{statement}
 use Rattle.binder.proofs.copy.copy_fits.Tie as tie

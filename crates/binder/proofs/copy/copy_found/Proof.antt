@@ -17,7 +17,7 @@ use Rattle.object.specs.declared.hash_tables.Definition.{Definition}
 use Rattle.scope.specs.declared.seats.Seat.{Seat}
 use Rattle.binder.specs.declared.turn.Turn.{Turn}
 use Rattle.binder.specs.declared.report.Progress.{Progress}
-use Rattle.binder.specs.Relocating.{wrote, refusedBy, copyFits, CopyApart, copyBytes}
+use Rattle.binder.specs.Steps.Relocating.{wrote, refusedBy, copyFits, CopyApart, copyBytes}
 use borrow.Author.Needs.{needs}
 use Rattle.binder.proofs.copy.copy_found.Statement.{statement}
 use Rattle.binder.proofs.copy.copy_found.Tie as tie

@@ -6,8 +6,8 @@ use Rattle.binder.proofs.LoopLaws.{counts-down}
 use borrow.Author.Needs.{needs}
 use lib.ListN.{length, replicate}
 use denote.Ref.{now}
-use Rattle.sheet.specs.Parts.{inputsIn}
-use Rattle.binder.specs.Needed.{needsAt, FewNeeds}
+use Rattle.sheet.specs.Steps.Parts.{inputsIn}
+use Rattle.binder.specs.Steps.Needed.{needsAt, FewNeeds}
 use Rattle.binder.proofs.NeedsLaws.{FilledTo, filled-none, fill-next}
 use Rattle.binder.proofs.needs.fill_needs.Statement.{statement}
 use Rattle.binder.proofs.needs.fill_needs.Tie as tie

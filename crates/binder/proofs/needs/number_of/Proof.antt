@@ -8,7 +8,7 @@ use borrow.Author.Needs.{needs}
 use lib.ListN.{length}
 use denote.Ref.{now}
 use Rattle.words.specs.Names.{sameBytes}
-use Rattle.sheet.specs.Parts.{inputsIn}
+use Rattle.sheet.specs.Steps.Parts.{inputsIn}
 use Rattle.sheet.specs.declared.sheet.Parts.{Parts}
 use Rattle.sheet.proofs.PartLaws.{length-mapped}
 use Rattle.binder.proofs.NeedsLaws.{numberFrom, number-next, number-none, number-cut}

@@ -3,7 +3,7 @@ use mathlib.Core.Path.{refl}
 use native.Mathlib.Omega.{arith}
 use borrow.Author.Needs.{needs}
 use denote.Ref.{now}
-use Rattle.sheet.specs.Parts.{inputsIn}
+use Rattle.sheet.specs.Steps.Parts.{inputsIn}
 use Rattle.binder.proofs.NeedsLaws.{arranged}
 use Rattle.binder.proofs.needs.order_of.Statement.{statement}
 use Rattle.binder.proofs.needs.order_of.Tie as tie

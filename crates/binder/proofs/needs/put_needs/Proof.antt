@@ -9,7 +9,7 @@ use lib.ListN.{length, getD, set, length-set}
 use denote.Ref.{now}
 use Rattle.words.specs.Memory.{patch}
 use Rattle.words.proofs.Slices.{patch-none, patch-next}
-use Rattle.sheet.specs.Parts.{inputsIn}
+use Rattle.sheet.specs.Steps.Parts.{inputsIn}
 use Rattle.binder.specs.SetOrder.{numberOf}
 use Rattle.binder.specs.Bind.{namesOf}
 use Rattle.binder.proofs.NeedsLaws.{numberAt, row-none, row-is}

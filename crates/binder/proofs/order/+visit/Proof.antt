@@ -3,7 +3,7 @@ use native.Mathlib.Omega.{arith}
 use denote.Ref.{now}
 use borrow.Fn.Kinds.{In}
 use borrow.Fn.PlainCycle.{Measures, is, falls, and}
-use Rattle.binder.specs.OrderState.{stateOf}
+use Rattle.binder.specs.Steps.OrderState.{stateOf}
 use Rattle.binder.proofs.VisitSteps.{Turn, nothing-left, no-object, marked-already, first-turn, next-turn, finish, place, read, room-mark}
 use Rattle.binder.proofs.order.visit.Reads as visit
 use Rattle.binder.proofs.order.visit.Kinds as visit-kinds

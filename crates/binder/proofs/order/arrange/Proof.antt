@@ -1,7 +1,7 @@
 use Prim.Native.Nat.{_+_, _-_}
 use native.Mathlib.Omega.{arith}
 use borrow.Author.Needs.{needs}
-use Rattle.binder.specs.OrderState.{stateOf}
+use Rattle.binder.specs.Steps.OrderState.{stateOf}
 use Rattle.binder.proofs.ArrangeSteps.{Visiting, visit-none, visit-one, visit-all}
 use Rattle.binder.proofs.order.arrange.Statement.{statement}
 use Rattle.binder.proofs.order.arrange.Tie as tie

@@ -4,7 +4,7 @@ use Prim.Native.Nat.{_+_, _-_, _^_, _≤_, _<_}
 use native.Mathlib.Omega.{arith}
 use denote.Ref.{now}
 use lib.ListN.{length}
-use Rattle.sheet.specs.Parts.{inputsIn}
+use Rattle.sheet.specs.Steps.Parts.{inputsIn}
 use Rattle.binder.proofs.PrepareLaws.{Loading, load-begin, load-fail, load-fits, load-turn, load-finish}
 use borrow.Author.Needs.{needs}
 use Rattle.binder.proofs.LoopLaws.{counts-down}

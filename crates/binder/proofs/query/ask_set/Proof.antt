@@ -4,9 +4,9 @@ use Prim.Native.Nat.{ℕ}
 use native.Mathlib.Omega.{arith}
 use denote.Ref.{now}
 use lib.ListN.{length, replicate}
-use Rattle.sheet.specs.Parts.{inputsIn}
+use Rattle.sheet.specs.Steps.Parts.{inputsIn}
 use Rattle.binder.proofs.PrepareLaws.{all-filtered}
-use Rattle.binder.specs.ScopeModel.{scopedOf}
+use Rattle.binder.specs.Steps.ScopeModel.{scopedOf}
 use Rattle.binder.specs.Bind.{replied, replyOf}
 use Rattle.binder.specs.declared.Reply.the-variants.{Refused}
 use Rattle.scope.specs.declared.scope.Scoped.{Scoped}

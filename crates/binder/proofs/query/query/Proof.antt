@@ -2,7 +2,7 @@
 use Rattle.binder.proofs.QueryIs.{query-one, query-two, query-three, query-asks, arena-end, arena-small}
 use Rattle.sheet.proofs.PartLaws.{handed-in, two-parts}
 use Rattle.binder.specs.declared.Reply.the-variants.{Refused}
-use Rattle.binder.specs.Asked.{askOf}
+use Rattle.binder.specs.Steps.Asked.{askOf}
 use Rattle.binder.specs.Bind.{replied}
 use Rattle.sheet.specs.Sheet.{Input, twinOf}
 use lib.ListN.{length, replicate}

@@ -1,5 +1,5 @@
 -- `binder::query::reply_of` meets its contract. Assumes nothing.
-use Rattle.binder.specs.ScopeModel.{scopedOf}
+use Rattle.binder.specs.Steps.ScopeModel.{scopedOf}
 use borrow.Author.Needs.{needs}
 use Rattle.binder.proofs.query.reply_of.Statement.{statement}
 use Rattle.binder.proofs.query.reply_of.Tie as tie

@@ -1,6 +1,6 @@
 -- `binder::relocate::relative` meets its contract. Assumes nothing.
 use borrow.Author.Tests.{not-true, not-false}
-use Rattle.binder.specs.Relocating.{relativeOf}
+use Rattle.binder.specs.Steps.Relocating.{relativeOf}
 use borrow.Author.Needs.{needs}
 use Rattle.binder.proofs.relocate.relative.Statement.{statement}
 use Rattle.binder.proofs.relocate.relative.Tie as tie

@@ -5,7 +5,7 @@ use Prim.Native.Nat.{_+_, _-_, _*_, _≤_}
 use native.Mathlib.Omega.{arith}
 use denote.Ref.{now}
 use lib.ListN.{length}
-use Rattle.binder.specs.RunSteps.{EntriesPassed}
+use Rattle.binder.specs.Steps.RunSteps.{EntriesPassed}
 use Rattle.binder.specs.declared.turn.Turn.{Turn}
 use Rattle.binder.proofs.KeptLaws.{kept-none}
 use Rattle.binder.proofs.RelativeLaws.{relative-turn}

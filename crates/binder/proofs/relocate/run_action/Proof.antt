@@ -1,6 +1,6 @@
 -- `binder::relocate::run_action` meets its contract. Assumes nothing.
 use mathlib.Core.Path.{ap}
-use Rattle.binder.specs.Relocating.{withArena, withReport, runAction}
+use Rattle.binder.specs.Steps.Relocating.{withArena, withReport, runAction}
 use borrow.Author.Needs.{needs}
 use Rattle.binder.proofs.relocate.run_action.Statement.{statement}
 use Rattle.binder.proofs.relocate.run_action.Tie as tie

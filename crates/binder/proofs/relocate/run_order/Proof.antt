@@ -4,8 +4,8 @@ use native.Mathlib.Omega.{arith}
 use mathlib.Core.Path.{_≡_, refl, _∙_}
 use denote.Ref.{now}
 use lib.ListN.{length, take}
-use Rattle.sheet.specs.Parts.{inputsIn}
-use Rattle.binder.specs.Relocating.{left, started, runOrder}
+use Rattle.sheet.specs.Steps.Parts.{inputsIn}
+use Rattle.binder.specs.Steps.Relocating.{left, started, runOrder}
 use Rattle.binder.proofs.RunLaws.{objectsLeft, object-stops, object-goes, objects-end}
 use Rattle.binder.proofs.LoopLaws.{counts-down}
 use borrow.Author.Needs.{needs}

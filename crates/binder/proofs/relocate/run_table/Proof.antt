@@ -7,9 +7,9 @@ use denote.Ref.{now}
 use lib.ListN.{length, take}
 use Rattle.object.proofs.Ranges.{range-none}
 use Rattle.object.specs.Record.{heldBy}
-use Rattle.object.specs.WritableRange.{WritableRange}
-use Rattle.binder.specs.RunSteps.{SymbolsOf}
-use Rattle.binder.specs.Relocating.{left, runTable}
+use Rattle.object.specs.Steps.WritableRange.{WritableRange}
+use Rattle.binder.specs.Steps.RunSteps.{SymbolsOf}
+use Rattle.binder.specs.Steps.Relocating.{left, runTable}
 use Rattle.binder.proofs.SymbolicLaws.{runs-passed}
 use Rattle.binder.proofs.KeptLaws.{kept-symbols, entry-kept}
 use Rattle.binder.proofs.RunLaws.{entriesLeft, entry-stops, entry-goes, entries-end}

@@ -3,7 +3,7 @@ use mathlib.Core.Path.{refl}
 use borrow.Author.Tests.{not-true, not-false}
 use denote.Ref.{now}
 use Rattle.object.specs.Record.{heldBy}
-use Rattle.binder.specs.Relocating.{left}
+use Rattle.binder.specs.Steps.Relocating.{left}
 use Rattle.binder.proofs.RunLaws.{symbolic-refused, symbolic-outside, symbolic-kept, symbolic-inside}
 use borrow.Author.Needs.{needs}
 use Rattle.binder.proofs.relocate.symbolic.Statement.{statement}

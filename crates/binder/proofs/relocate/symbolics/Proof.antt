@@ -6,7 +6,7 @@ use native.Mathlib.Omega.{arith}
 use borrow.Author.Tests.{not-false}
 use denote.Ref.{now}
 use lib.ListN.{length}
-use Rattle.binder.specs.RunSteps.{SymbolsPassed}
+use Rattle.binder.specs.Steps.RunSteps.{SymbolsPassed}
 use Rattle.binder.proofs.LoopLaws.{counts-down}
 use Rattle.binder.proofs.KeptLaws.{kept-none}
 use Rattle.binder.proofs.SymbolicLaws.{symbolic-turn}

@@ -1,5 +1,5 @@
 -- `binder::relocate::write_found` meets its contract. Assumes nothing.
-use Rattle.binder.specs.Relocating.{foundOf}
+use Rattle.binder.specs.Steps.Relocating.{foundOf}
 use borrow.Author.Needs.{needs}
 use Rattle.binder.proofs.relocate.write_found.Statement.{statement}
 use Rattle.binder.proofs.relocate.write_found.Tie as tie

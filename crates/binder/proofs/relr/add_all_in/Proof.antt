@@ -4,9 +4,9 @@ use mathlib.Core.List.{List}
 use Prim.Native.Nat.{_+_, _-_, _*_, _^_, _≤_}
 use native.Mathlib.Omega.{arith}
 use lib.ListN.{length}
-use Rattle.object.specs.WritableRange.{WritableRange}
+use Rattle.object.specs.Steps.WritableRange.{WritableRange}
 use Rattle.object.specs.declared.program_header.Segment.{Segment}
-use Rattle.binder.specs.Relocating.{addBits}
+use Rattle.binder.specs.Steps.Relocating.{addBits}
 use Rattle.binder.proofs.BitLaws.{bit-of-all, none}
 use borrow.Author.Needs.{needs}
 use Rattle.binder.proofs.relr.add_all_in.Statement.{statement}

@@ -6,8 +6,8 @@ use Prim.Native.Nat.{_+_, _-_, _*_, _/_, _≤_}
 use native.Mathlib.Omega.{arith}
 use lib.ListN.{length}
 use Rattle.object.specs.declared.program_header.Segment.{Segment}
-use Rattle.object.specs.WritableRange.{WritableRange}
-use Rattle.binder.specs.Relocating.{addBits}
+use Rattle.object.specs.Steps.WritableRange.{WritableRange}
+use Rattle.binder.specs.Steps.Relocating.{addBits}
 use Rattle.binder.proofs.BitLaws.{bit-0, bit-1, none}
 use borrow.Author.Needs.{needs}
 use Rattle.binder.proofs.relr.add_bits_in.Statement.{statement}

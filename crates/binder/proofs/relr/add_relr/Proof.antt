@@ -11,7 +11,7 @@ use Rattle.object.specs.declared.program_header.Segment.{Segment}
 use Rattle.object.specs.declared.relocate.Relr.{Relr}
 use Rattle.object.specs.declared.relocate.Relr.the-variants.{Address, Bitmap}
 use Rattle.binder.specs.declared.turn.Turn.{Turn}
-use Rattle.binder.specs.Relocating.{far, summed, shifted, wordAdded, addBits, addRelr}
+use Rattle.binder.specs.Steps.Relocating.{far, summed, shifted, wordAdded, addBits, addRelr}
 use borrow.Author.Needs.{needs}
 use Rattle.binder.proofs.relr.add_relr.Statement.{statement}
 use Rattle.binder.proofs.relr.add_relr.Tie as tie

@@ -18,7 +18,7 @@ use Rattle.object.specs.declared.relocate.Relr.{Relr}
 use Rattle.object.specs.declared.relocate.Relr.the-variants.{Address, Bitmap}
 use Rattle.object.specs.declared.program_header.Segment.{Segment}
 use Rattle.binder.specs.declared.turn.Turn.{Turn}
-use Rattle.binder.specs.Relocating.{far, imageIn, Summed, summed, Shifted, shifted, wordAdded, addBits, bitsAdded, addRelr, thenRelr, addRelrs}
+use Rattle.binder.specs.Steps.Relocating.{far, imageIn, Summed, summed, Shifted, shifted, wordAdded, addBits, bitsAdded, addRelr, thenRelr, addRelrs}
 use Rattle.binder.proofs.relr.add_relrs.Statement.{statement}
 use Rattle.binder.proofs.relr.add_relrs.Tie as tie
 use Rattle.binder.proofs.relr.add_relrs.Reads as reads

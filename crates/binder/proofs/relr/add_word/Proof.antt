@@ -1,5 +1,5 @@
 -- `binder::relr::add_word` meets its contract. Assumes nothing.
-use Rattle.binder.specs.Relocating.{wordAdded}
+use Rattle.binder.specs.Steps.Relocating.{wordAdded}
 use borrow.Author.Needs.{needs}
 use Rattle.binder.proofs.relr.add_word.Statement.{statement}
 use Rattle.binder.proofs.relr.add_word.Tie as tie

@@ -1,6 +1,6 @@
 -- `binder::report::note` meets its contract. Assumes nothing.
 use borrow.Author.Tests.{lt-ltb, le-ltb}
-use Rattle.binder.specs.Relocating.{noteOf}
+use Rattle.binder.specs.Steps.Relocating.{noteOf}
 use borrow.Author.Needs.{needs}
 use Rattle.binder.proofs.report.note.Statement.{statement}
 use Rattle.binder.proofs.report.note.Tie as tie

@@ -1,6 +1,6 @@
 -- `binder::report::unresolved` meets its contract. Assumes nothing.
 use borrow.Author.Tests.{eq-eqb, ne-eqb}
-use Rattle.binder.specs.Relocating.{unresolvedOf}
+use Rattle.binder.specs.Steps.Relocating.{unresolvedOf}
 use borrow.Author.Needs.{needs}
 use Rattle.binder.proofs.report.unresolved.Statement.{statement}
 use Rattle.binder.proofs.report.unresolved.Tie as tie

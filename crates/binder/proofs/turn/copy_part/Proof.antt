@@ -11,7 +11,7 @@ use borrow.Author.Needs.{needs}
 use Rattle.words.specs.Memory.{mem, from, patch}
 use Rattle.words.proofs.Memory.{Out, write-out}
 use Rattle.words.proofs.Slices.{mem-patch, patch-none, patch-next}
-use Rattle.binder.specs.Relocating.{CopyApart}
+use Rattle.binder.specs.Steps.Relocating.{CopyApart}
 use Rattle.binder.proofs.turn.copy_part.Statement.{statement}
 use Rattle.binder.proofs.turn.copy_part.Tie as tie
 use Rattle.binder.proofs.turn.copy_part.Reads as reads

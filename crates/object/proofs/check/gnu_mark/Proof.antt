@@ -7,7 +7,7 @@ use borrow.Author.Needs.{needs}
 use borrow.Author.Tests.{ne-eqb}
 use denote.Ref.{now}
 use Rattle.object.specs.declared.hash_tables.HashTable.the-variants.{Gnu}
-use Rattle.object.specs.Marks.{Marked, Passes}
+use Rattle.object.specs.Steps.Marks.{Marked, Passes}
 use Rattle.object.proofs.MarkLaws.{marked-more, passes-next}
 use Rattle.object.proofs.check.gnu_mark.Statement.{statement}
 use Rattle.object.proofs.check.gnu_mark.Tie as tie

@@ -8,7 +8,7 @@ use denote.Ref.{now}
 use lib.ListN.{take}
 use Rattle.words.specs.Choice.{every}
 use Rattle.object.specs.declared.hash_tables.HashTable.the-variants.{Gnu}
-use Rattle.object.specs.Marks.{Passes}
+use Rattle.object.specs.Steps.Marks.{Passes}
 use Rattle.object.specs.HashCheck.{chainOk, stepOk}
 use Rattle.object.specs.HashTable.{walk, fuel}
 use Rattle.object.specs.TableBytes.{isTable}

@@ -6,7 +6,7 @@ use borrow.Author.Needs.{needs}
 use borrow.Author.Tests.{ne-eqb}
 use denote.Ref.{now}
 use Rattle.object.specs.declared.hash_tables.HashTable.the-variants.{SysV}
-use Rattle.object.specs.Marks.{Marked, within}
+use Rattle.object.specs.Steps.Marks.{Marked, within}
 use Rattle.object.proofs.MarkLaws.{marked-more, within-next}
 use Rattle.object.proofs.check.sysv_mark.Statement.{statement}
 use Rattle.object.proofs.check.sysv_mark.Tie as tie

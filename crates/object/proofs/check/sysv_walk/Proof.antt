@@ -8,7 +8,7 @@ use borrow.Author.Tests.{eq-eqb, ne-eqb, le-ltb, lt-ltb, not-true, not-false}
 use denote.Ref.{now}
 use lib.ListN.{take}
 use Rattle.object.specs.declared.hash_tables.HashTable.the-variants.{SysV}
-use Rattle.object.specs.Marks.{within}
+use Rattle.object.specs.Steps.Marks.{within}
 use Rattle.object.specs.HashCheck.{chainOk, stepOk}
 use Rattle.object.specs.TableBytes.{isTable}
 use Rattle.object.proofs.MarkLaws.{never, marked-use, SysvAt, sysv-start-at, sysv-fails, sysv-too-long, sysv-known, sysv-count, sysv-ends-at, sysv-turn}

@@ -4,7 +4,7 @@ use mathlib.Core.Path.{_≡_, sym, ap}
 use Prim.Native.Nat.{ℕ}
 use borrow.Author.Tests.{ne-eqb}
 use Rattle.object.specs.declared.dynamic_array.DynamicFields.{DynamicFields}
-use Rattle.object.specs.FieldSteps.{stepOf}
+use Rattle.object.specs.Steps.FieldSteps.{stepOf}
 use Rattle.object.proofs.dynamic_array.step.Statement.{statement}
 use Rattle.object.proofs.dynamic_array.step.Tie as tie
 

@@ -1,7 +1,7 @@
 use Rattle.object.proofs.ReadLaws.{read-none, read-fields, read-many, read-tables, record-at, needs-few, needs-many}
 use Rattle.object.specs.Record.{tablesOk, recordIn}
 use Rattle.object.specs.DynamicFields.{needsOf}
-use Rattle.object.specs.LoadTable.{segmentsIn}
+use Rattle.object.specs.Steps.LoadTable.{segmentsIn}
 use Rattle.object.specs.Refusal.{require}
 use denote.Ref.{now}
 use borrow.Author.Tests.{not-true, not-false}

@@ -8,7 +8,7 @@ use borrow.Author.Needs.{needs}
 use lib.ListN.{length, take, length-set, length-append}
 use lib.Seq.{take-all}
 use denote.Ref.{now}
-use Rattle.object.specs.LoadTable.{segmentsIn}
+use Rattle.object.specs.Steps.LoadTable.{segmentsIn}
 use Rattle.object.specs.ProgramHeader.{segmentAt, loadsIn}
 use Rattle.object.proofs.LoadLaws.{loads-one, loads-none, table-more, loaded-all, loaded-over}
 use Rattle.object.proofs.program_header.read_loads.Statement.{statement}

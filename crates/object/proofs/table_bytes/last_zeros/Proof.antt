@@ -7,7 +7,7 @@ use borrow.Author.Needs.{needs}
 use lib.Seq.{getD-set-same, getD-set-other}
 use lib.ListN.{length, getD, length-set}
 use Rattle.words.specs.Memory.{mem}
-use Rattle.object.specs.LastZero.{LastZero, none-segment}
+use Rattle.object.specs.Steps.LastZero.{LastZero, none-segment}
 use Rattle.object.proofs.Ranges.{split}
 use Rattle.object.proofs.table_bytes.last_zeros.Statement.{statement}
 use Rattle.object.proofs.table_bytes.last_zeros.Tie as tie

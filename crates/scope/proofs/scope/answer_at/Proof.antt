@@ -1,6 +1,6 @@
 -- `scope::scope::answer_at` meets its contract. Assumes nothing.
 use borrow.Author.Needs.{needs}
-use Rattle.scope.specs.ScopeCode.{answerAt}
+use Rattle.scope.specs.Steps.ScopeCode.{answerAt}
 use Rattle.scope.proofs.scope.answer_at.Statement.{statement}
 use Rattle.scope.proofs.scope.answer_at.Tie as tie
 

@@ -1,7 +1,7 @@
 -- `scope::scope::own_answer` meets its contract. Assumes nothing.
 use borrow.Author.Needs.{needs}
 use denote.Ref.{now}
-use Rattle.scope.specs.ScopeCode.{ownAnswer, guardedBy}
+use Rattle.scope.specs.Steps.ScopeCode.{ownAnswer, guardedBy}
 use Rattle.scope.proofs.ScopeLaws.{own-lacks}
 use Rattle.scope.proofs.scope.own_answer.Statement.{statement}
 use Rattle.scope.proofs.scope.own_answer.Tie as tie

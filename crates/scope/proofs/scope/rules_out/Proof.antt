@@ -5,7 +5,7 @@ use borrow.Author.Needs.{needs}
 use denote.Ref.{now}
 use Rattle.words.specs.Memory.{mem}
 use Rattle.words.specs.Words.{leAt}
-use Rattle.scope.specs.Seats.{wordAt, seatAt}
+use Rattle.scope.specs.Steps.Seats.{wordAt, seatAt}
 use Rattle.scope.proofs.BloomLaws.{untold, lacks-name}
 use Rattle.scope.proofs.scope.rules_out.Statement.{statement}
 use Rattle.scope.proofs.scope.rules_out.Tie as tie

@@ -1,6 +1,6 @@
 -- `scope::scope::seat_answer` meets its contract. Assumes nothing.
 use borrow.Author.Needs.{needs}
-use Rattle.scope.specs.ScopeCode.{seatAnswer, scopedBy}
+use Rattle.scope.specs.Steps.ScopeCode.{seatAnswer, scopedBy}
 use Rattle.scope.proofs.scope.seat_answer.Statement.{statement}
 use Rattle.scope.proofs.scope.seat_answer.Tie as tie
 

@@ -1,6 +1,6 @@
 -- `scope::seats::filter_of` meets its contract, case by case. Assumes nothing.
 use borrow.Author.Needs.{needs}
-use Rattle.scope.specs.Seats.{filterOf}
+use Rattle.scope.specs.Steps.Seats.{filterOf}
 use Rattle.scope.proofs.seats.filter_of.Statement.{statement}
 use Rattle.scope.proofs.seats.filter_of.Tie as tie
 

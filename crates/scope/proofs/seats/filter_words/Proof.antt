@@ -3,7 +3,7 @@ use Prim.Native.Nat.{_+_, _*_, _^_}
 use native.Mathlib.Omega.{arith}
 use borrow.Author.Needs.{needs}
 use borrow.Author.Tests.{le-leb, lt-leb}
-use Rattle.scope.specs.Seats.{filterWords}
+use Rattle.scope.specs.Steps.Seats.{filterWords}
 use Rattle.scope.proofs.seats.filter_words.Statement.{statement}
 use Rattle.scope.proofs.seats.filter_words.Tie as tie
 

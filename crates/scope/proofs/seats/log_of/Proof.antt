@@ -3,7 +3,7 @@ use Prim.Native.Nat.{ℕ, _-_, _^_, _≤_}
 use mathlib.Core.Path.{_≡_, refl, sym, _∙_}
 use native.Mathlib.Omega.{arith}
 use borrow.Author.Needs.{needs}
-use Rattle.scope.specs.Seats.{logFrom, logOf}
+use Rattle.scope.specs.Steps.Seats.{logFrom, logOf}
 use Rattle.scope.proofs.SeatLaws.{bit, log-here, log-next}
 use Rattle.scope.proofs.seats.log_of.Statement.{statement}
 use Rattle.scope.proofs.seats.log_of.Tie as tie

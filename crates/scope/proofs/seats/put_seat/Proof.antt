@@ -6,7 +6,7 @@ use native.Mathlib.Omega.{arith}
 use borrow.Author.Needs.{needs}
 use denote.Ref.{now}
 use lib.ListN.{length}
-use Rattle.scope.specs.Seats.{spliced}
+use Rattle.scope.specs.Steps.Seats.{spliced}
 use Rattle.scope.proofs.SeatLaws.{with-room, with-none, put-all}
 use Rattle.scope.proofs.seats.put_seat.Statement.{statement}
 use Rattle.scope.proofs.seats.put_seat.Tie as tie

@@ -6,7 +6,7 @@ use native.Mathlib.Numerals.{add-one}
 use borrow.Author.Needs.{needs}
 use lib.Seq.{paste, paste-zero, paste-suc}
 use lib.ListN.{length, length-set}
-use Rattle.scope.specs.Seats.{spliced}
+use Rattle.scope.specs.Steps.Seats.{spliced}
 use Rattle.scope.proofs.seats.put_words.Statement.{statement}
 use Rattle.scope.proofs.seats.put_words.Tie as tie
 

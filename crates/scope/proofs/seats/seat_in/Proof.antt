@@ -1,5 +1,5 @@
 -- `scope::seats::seat_in` meets its contract. Assumes nothing.
-use Rattle.scope.specs.Seats.{seatAt}
+use Rattle.scope.specs.Steps.Seats.{seatAt}
 use borrow.Author.Needs.{needs}
 use Rattle.scope.proofs.seats.seat_in.Statement.{statement}
 use Rattle.scope.proofs.seats.seat_in.Tie as tie

@@ -1,6 +1,6 @@
 -- `scope::seats::seat_past` meets its contract. Assumes nothing.
 use borrow.Author.Needs.{needs}
-use Rattle.scope.specs.Seats.{seatAt}
+use Rattle.scope.specs.Steps.Seats.{seatAt}
 use Rattle.scope.proofs.seats.seat_past.Statement.{statement}
 use Rattle.scope.proofs.seats.seat_past.Tie as tie
 

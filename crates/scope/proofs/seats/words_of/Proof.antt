@@ -1,6 +1,6 @@
 -- `scope::seats::words_of` meets its contract. Assumes nothing.
 use borrow.Author.Needs.{needs}
-use Rattle.scope.specs.Seats.{wordsOf}
+use Rattle.scope.specs.Steps.Seats.{wordsOf}
 use Rattle.scope.proofs.seats.words_of.Statement.{statement}
 use Rattle.scope.proofs.seats.words_of.Tie as tie
 

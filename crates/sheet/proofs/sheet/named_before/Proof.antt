@@ -9,7 +9,7 @@ use borrow.Author.Needs.{needs}
 use lib.ListN.{length, take, drop, length-map, List·getD-map}
 use denote.Ref.{now}
 use Rattle.words.specs.Names.{sameBytes}
-use Rattle.sheet.specs.Parts.{noPart, inputIn, inputsIn}
+use Rattle.sheet.specs.Steps.Parts.{noPart, inputIn, inputsIn}
 use Rattle.sheet.specs.Sheet.{Input, named}
 use Rattle.sheet.specs.declared.sheet.Parts.{Parts}
 use Rattle.sheet.proofs.PartLaws.{length-mapped, inputs-front, named-is, named-none}

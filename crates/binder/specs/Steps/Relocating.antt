@@ -27,8 +27,8 @@ use Rattle.object.specs.declared.relocate.Action.the-variants.{Ignored, Passed,
 use Rattle.object.specs.declared.dynamic_fields.CheckedSymbol.{CheckedSymbol}
 use Rattle.object.specs.declared.dynamic_fields.CheckedSymbol.the-variants.{Refused, Checked}
 use Rattle.sheet.specs.Sheet.{Input, noInput}
-use Rattle.scope.specs.Seats.{seatAt}
-use Rattle.scope.specs.ScopeCode.{resolveSeats, resolveCopySeats}
+use Rattle.scope.specs.Steps.Seats.{seatAt}
+use Rattle.scope.specs.Steps.ScopeCode.{resolveSeats, resolveCopySeats}
 use Rattle.scope.specs.declared.seats.Seat.{Seat}
 use Rattle.scope.specs.declared.scope.Scoped.{Scoped}
 use Rattle.scope.specs.declared.scope.Scoped.the-variants.{Absent, Found}

@@ -12,7 +12,7 @@ use Rattle.binder.specs.Verdict.{Verdict, passed, refused, first, verdic
 use Rattle.binder.specs.Report.{orderWords}
 use Rattle.binder.specs.SetOrder.{setOrder}
 use Rattle.binder.specs.Bind.{filesOf, namesOf, objectsOf, unless, prepareVerdict, allows, relocateVerdict, Outcome, outcome, bindIn, bindOf}
-use Rattle.binder.specs.Prepared.{metBy}
+use Rattle.binder.specs.Steps.Prepared.{metBy}
 use Rattle.binder.specs.declared.Policy.{Policy}
 use Rattle.binder.specs.declared.Answer as answers
 use Rattle.binder.specs.declared.prepare.Met.{Met}

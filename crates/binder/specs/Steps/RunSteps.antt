@@ -5,8 +5,8 @@ use mathlib.Core.Path.{_≡_}
 use Prim.Native.Nat.{ℕ, _+_, _-_, _<_}
 use lib.ListN.{length}
 use Rattle.object.specs.TableBytes.{Agree}
-use Rattle.object.specs.WritableRange.{WritableRange}
-use Rattle.object.specs.FineRange.{FineOf}
+use Rattle.object.specs.Steps.WritableRange.{WritableRange}
+use Rattle.object.specs.Steps.FineRange.{FineOf}
 use Rattle.object.specs.Record.{Record, isTableOf}
 use Rattle.object.specs.declared.program_header.Segment.{Segment}
 use Rattle.scope.specs.declared.scope.Scoped.{Scoped}
@@ -17,7 +17,7 @@ use Rattle.binder.specs.declared.relocate.Symbols.{Symbols}
 use Rattle.binder.specs.declared.relocate.Run.{Run}
 use Rattle.binder.specs.declared.relocate.Address.{Address}
 use Rattle.binder.specs.declared.relocate.Address.the-variants.{Nowhere, At}
-use Rattle.binder.specs.Relocating.{left, keeps, imageIn, summed, addBits, runTable}
+use Rattle.binder.specs.Steps.Relocating.{left, keeps, imageIn, summed, addBits, runTable}
 
 -- the table bytes of an object at its turn are in the arena `b` as they were in `a`
 pub record TablesKept (t : Turn) (r : Record) (a b : List ℕ) : Type 0 where

@@ -11,7 +11,7 @@ use Rattle.object.specs.Record.{viewOf}
 use Rattle.object.specs.Loaded.{objectRefusal}
 use Rattle.binder.specs.Instance.{File, recordOf}
 use Rattle.binder.specs.Verdict.{Verdict, passed, refused, loadVerdict}
-use Rattle.scope.specs.Seats.{seatAt, Filtered}
+use Rattle.scope.specs.Steps.Seats.{seatAt, Filtered}
 use Rattle.scope.specs.declared.seats.Seat.{Seat}
 use Rattle.binder.specs.declared.prepare.Met.{Met}
 use Rattle.binder.specs.declared.prepare.Met.the-variants.{Passed, Refused}

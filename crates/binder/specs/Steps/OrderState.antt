@@ -5,7 +5,7 @@ use mathlib.Core.Bool.{Bool, true, false, not}
 use mathlib.Core.List.{List, [], _∷_}
 use lib.ListN.{length, getD, take}
 use Rattle.model.specs.Order.{listed, fresh, visit}
-use Rattle.binder.specs.Table.{needsOf}
+use Rattle.binder.specs.Steps.Table.{needsOf}
 
 -- the first `count` of `list` are ordered; `seen` marks the libraries that are ordered or whose needs are being visited, and the numbers that
 -- are no library's

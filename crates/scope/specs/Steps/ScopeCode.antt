@@ -15,7 +15,7 @@ use Rattle.object.specs.HashTable.{answerBy, addressOf}
 use Rattle.scope.specs.declared.seats.Seat.{Seat}
 use Rattle.scope.specs.declared.scope.Scoped.{Scoped}
 use Rattle.scope.specs.declared.scope.Scoped.the-variants.{Absent, Found}
-use Rattle.scope.specs.Seats.{seatAt, seatsFrom}
+use Rattle.scope.specs.Steps.Seats.{seatAt, seatsFrom}
 
 -- ---- one object
 

@@ -12,8 +12,8 @@ use Rattle.object.specs.ProgramHeader.{dynamicOf}
 use Rattle.object.specs.declared.program_header.Dynamic.{Dynamic}
 use Rattle.object.specs.declared.program_header.Dynamic.the-variants.{Missing, At}
 use Rattle.sheet.specs.Sheet.{Input, noInput}
-use Rattle.scope.specs.Seats.{seatAt}
-use Rattle.scope.specs.ScopeCode.{imageAt}
+use Rattle.scope.specs.Steps.Seats.{seatAt}
+use Rattle.scope.specs.Steps.ScopeCode.{imageAt}
 use Rattle.binder.specs.SetOrder.{numberOf}
 use Rattle.binder.specs.Bind.{namesOf}
 use Rattle.binder.specs.declared.order.Order.{Order}

@@ -1,5 +1,5 @@
 -- The searches over the table of seats, against the model's objects: what an answer stands for, and when a seat is that of its object. Document
--- 01, "An address for a name": "A lookup yields an object, a symbol index and an address, or absence". The searches are scope/specs/ScopeCode,
+-- 01, "An address for a name": "A lookup yields an object, a symbol index and an address, or absence". The searches are scope/specs/Steps/ScopeCode,
 -- the model's own are model/specs/Scope; proofs/ScopeIs joins the two. Assumes nothing.
 use Prim.Native.Nat.{ℕ, _+_, _^_, _<_}
 use mathlib.Core.Path.{_≡_}
@@ -10,8 +10,8 @@ use Rattle.model.specs.Objects.{Obj, Objs, obj, count}
 use Rattle.scope.specs.declared.seats.Seat.{Seat}
 use Rattle.scope.specs.declared.scope.Scoped.{Scoped}
 use Rattle.scope.specs.declared.scope.Scoped.the-variants.{Absent, Found}
-use Rattle.scope.specs.Seats.{seatAt}
-use Rattle.scope.specs.ScopeCode.{answerAt}
+use Rattle.scope.specs.Steps.Seats.{seatAt}
+use Rattle.scope.specs.Steps.ScopeCode.{answerAt}
 use Rattle.binder.specs.Instance.{symOf, foundOf}
 
 -- ---- what the code's enum stands for

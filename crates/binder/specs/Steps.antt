@@ -1,0 +1,11 @@
+-- What stands between the code and the definitions: what its loops and tables hold, step by step. None of it has to be believed; proofs/
+-- join it to the definitions of specs/.
+pub mod Table
+pub mod OrderState
+pub mod Prepared
+pub mod ScopeModel
+pub mod Asked
+pub mod Relocating
+pub mod RunSteps
+pub mod Needed
+pub mod Settled
