@@ -16,7 +16,7 @@ use Rattle.model.specs.Order as order
 use Rattle.model.specs.Order.{listed, firstFirst, upFrom, visit, orderOf}
 use Rattle.model.proofs.OrderLaws.{decide, order-length}
 use Rattle.binder.specs.declared.order.Order.{Order}
-use Rattle.binder.specs.Steps.Table.{needsOf, Ordered}
+use Rattle.binder.specs.Steps.Table.{needsRow, Ordered}
 use Rattle.binder.specs.Steps.OrderState.{State, unmarked, ordered, used, Room, Marks, Visited, Unlisted}
 
 -- the numbers from 2 up to j are not marked
@@ -73,7 +73,7 @@ pub record Visiting (table : List ℕ) (libs : ℕ) (o : State) (k : ℕ) : Type
   pub low : 2 ≤ k
   pub high : k ≤ libs + 2
   pub marks : Marks libs [] o
-  pub same : firstFirst (visit (needsOf table) libs libs []) (upFrom k (libs + 2 - k)) (ordered o) ≡ firstFirst (visit (needsOf table) libs libs []) (upFrom 2 libs) []
+  pub same : firstFirst (visit (needsRow table) libs libs []) (upFrom k (libs + 2 - k)) (ordered o) ≡ firstFirst (visit (needsRow table) libs libs []) (upFrom 2 libs) []
 
 both-yes : (b : Bool) → both b true ≡ b
 both-yes true = refl
@@ -88,12 +88,12 @@ visit-none {table} {libs} {s} h u =
       low = omega arith;
       high = omega arith;
       marks = λ j. u .at j ∙ sym (ap not (both-yes (listed libs j)));
-      same = ap (λ (n : ℕ). firstFirst (visit (needsOf table) libs libs []) (upFrom 2 n) []) e;
+      same = ap (λ (n : ℕ). firstFirst (visit (needsRow table) libs libs []) (upFrom 2 n) []) e;
     }
 
 pub visit-one : {table : List ℕ} {libs k : ℕ} {o o′ : State} → k < libs + 2 → Visiting table libs o k → Visited table libs k o o′ → Visiting table libs o′ (k + 1)
 visit-one {table} {libs} {k} {o} {o′} h t v =
-    let f : ℕ → List ℕ → List ℕ = visit (needsOf table) libs libs [] in
+    let f : ℕ → List ℕ → List ℕ = visit (needsRow table) libs libs [] in
     let one : libs + 2 - k ≡ suc (libs + 2 - suc k) = omega arith in
     record {
       room = v .room;
@@ -112,13 +112,13 @@ pub visit-all : {table : List ℕ} {libraries libs k : ℕ} {o : State} → libs
     → Ordered table libraries (record { list = set (o .list) (o .count) 1; count = o .count + 1 })
 unfolding order.orderOf
 visit-all {table} {libraries} {libs} {k} {o} hl h t =
-    let f : ℕ → List ℕ → List ℕ = visit (needsOf table) libs libs [] in
+    let f : ℕ → List ℕ → List ℕ = visit (needsRow table) libs libs [] in
     let z : libs + 2 - k ≡ 0 = omega arith in
     let end : take (o .count + 1) (set (o .list) (o .count) 1) ≡ ordered o ++ (1 ∷ []) = rw add-one (take-suc-set (o .list) (o .count) 1 (omega (arith, t .within, t .room .places))) in
-    let is : take (o .count + 1) (set (o .list) (o .count) 1) ≡ orderOf (needsOf table) libs =
+    let is : take (o .count + 1) (set (o .list) (o .count) 1) ≡ orderOf (needsRow table) libs =
     end ∙ ap (λ (l : List ℕ). l ++ (1 ∷ [])) (sym (ap (λ (n : ℕ). firstFirst f (upFrom k n) (ordered o)) z) ∙ t .same) in
     let long : length (set (o .list) (o .count) 1) ≡ 64 = simp length-set (t .room .places) in
     record {
-      list = is ∙ ap (λ (n : ℕ). orderOf (needsOf table) n) hl;
-      count = omega (arith, sym (length-take (o .count + 1) (set (o .list) (o .count) 1)) ∙ ap (λ (l : List ℕ). length l) is ∙ order-length (needsOf table) libs, long, t .within);
+      list = is ∙ ap (λ (n : ℕ). orderOf (needsRow table) n) hl;
+      count = omega (arith, sym (length-take (o .count + 1) (set (o .list) (o .count) 1)) ∙ ap (λ (l : List ℕ). length l) is ∙ order-length (needsRow table) libs, long, t .within);
     }

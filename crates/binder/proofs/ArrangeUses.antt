@@ -12,12 +12,12 @@ use Rattle.model.specs.Order.{listed, orderOf, keep}
 use Rattle.model.proofs.OrderSame.{order-same}
 use Rattle.model.proofs.OrderUses.{order-range}
 use Rattle.binder.specs.declared.order.Order.{Order}
-use Rattle.binder.specs.Steps.Table.{needsOf, Ordered}
+use Rattle.binder.specs.Steps.Table.{needsRow, Ordered}
 
 -- the i-th object of the order
 pub object-at :
     {table : List ℕ} {libraries : ℕ} {r : Order} → Ordered table libraries r → (i : ℕ) → i < r .count
-    → getD (r .list) i 0 ≡ getD (orderOf (needsOf table) (min libraries 62)) i 0
+    → getD (r .list) i 0 ≡ getD (orderOf (needsRow table) (min libraries 62)) i 0
 object-at {table} {libraries} {r} o i h =
     sym (getD-take (r .count) (r .list) i 0 h) ∙ ap (λ (l : List ℕ). getD l i 0) (o .list)
 
@@ -26,7 +26,7 @@ pub object-range :
     {table : List ℕ} {libraries : ℕ} {r : Order} → Ordered table libraries r → (i : ℕ) → i < r .count
     → (1 ≤ getD (r .list) i 0) × (getD (r .list) i 0 < min libraries 62 + 2)
 object-range {table} {libraries} {r} o i h =
-    rw (object-at o i h) (order-range (needsOf table) (min libraries 62) i (omega (arith, o .count)))
+    rw (object-at o i h) (order-range (needsRow table) (min libraries 62) i (omega (arith, o .count)))
 
 -- a row of 64 that holds a list of needs, and then zeros, has its libraries
 pub keep-row :
@@ -45,7 +45,7 @@ pub table-order :
     (needs : ℕ → List ℕ) (table : List ℕ) (count : ℕ)
     → ((k : ℕ) → 2 ≤ k → k < count + 2 → length (needs k) ≤ 64)
     → ((k : ℕ) → 2 ≤ k → k < count + 2 → (i : ℕ) → i < 64 → mem table (k * 64 + i) ≡ mem (needs k) i)
-    → orderOf (needsOf table) count ≡ orderOf needs count
+    → orderOf (needsRow table) count ≡ orderOf needs count
 table-order needs table count short holds =
-    order-same (needsOf table) needs count
+    order-same (needsRow table) needs count
     (λ k a b. keep-row count 64 (needs k) (from (k * 64) (mem table)) (short k a b) (holds k a b))

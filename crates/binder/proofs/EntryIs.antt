@@ -30,12 +30,12 @@ use Rattle.object.specs.declared.relocate.Action.the-variants.{Ignored, Passed,
 use Rattle.object.specs.declared.dynamic_fields.CheckedSymbol.{CheckedSymbol}
 use Rattle.object.specs.declared.dynamic_fields.CheckedSymbol.the-variants.{Refused, Checked}
 use Rattle.object.specs.declared.hash_tables.Definition.{Definition}
-use Rattle.binder.specs.Instance.{File, imageOf, recordOf, symOf, entryBy}
+use Rattle.binder.specs.Instance.{File, fileImage, fileRecord, symOf, entryBy}
 use Rattle.binder.specs.Verdict.{Verdict, passed, verdict, writtenRefusal, copyOk, copyRefusal, symbolThen, refusalBy}
 use Rattle.binder.specs.Report.{reportWord, unresolved, undefinedBy, isPassed}
 use Rattle.scope.specs.Steps.Seats.{seatAt}
 use Rattle.binder.specs.Steps.ScopeModel.{scopedOf}
-use Rattle.binder.specs.Steps.Relocating.{Left, left, wrote, Noted, noted, withArena, withReport, refusedBy, imageIn, reportSum, noteOf, markUndefined, unresolvedOf, relativeOf, foundOf, copyFits, copyBytes, copyOf, turnOf, soughtFor, soughtForCopy, keeps, answeredOf, symbolicOf, copyingOf, runAction, keepsWeak}
+use Rattle.binder.specs.Steps.Relocating.{Left, left, wrote, Noted, noted, withArena, withReport, refusedBy, imageIn, reportSum, noteOf, markUndefined, unresolvedOf, relativeOf, writeFound, copyFits, copyBytes, copyOf, turnOf, soughtFor, soughtForCopy, keeps, answeredOf, symbolicOf, copyingOf, runAction, keepsWeak}
 use Rattle.scope.specs.declared.seats.Seat.{Seat}
 use Rattle.binder.specs.declared.turn.Turn.{Turn}
 use Rattle.scope.specs.declared.scope.Scoped.{Scoped}
@@ -112,10 +112,10 @@ module _ (address size : ℕ) (table : List ℕ) (h pr : File) (fs : List File) 
     f = fileAt address size table h pr fs k
 
     abbrev r : Record
-    r = recordOf f
+    r = fileRecord f
 
     abbrev image : List ℕ
-    image = imageOf f
+    image = fileImage f
 
     -- the kept answer is the one that the definitions have for its symbol
     abbrev pub RightlyKept : Progress → Type 0
@@ -325,14 +325,14 @@ module _ (address size : ℕ) (table : List ℕ) (h pr : File) (fs : List File) 
             (write m ((obj S k) .offset + e .place) 8 (byteOf 0)) (patch a (t .offset + e .place) 8 (byteOf 0)) (unresolvedOf y k i p report)
             (verdict-none 0 k refl) (unresolved-going i l y) (unresolved-kept y k i p report) (z .0) (z .1))
 
-        found-ran : (s : Scoped) → scopedOf s ≡ resolve S k name → inWritable (r .segments) (e .place) 8 ≡ true → Written6 (resolve S k name) (foundOf t e i y s p a report)
-        unfolding scopedOf foundOf addressOr0
+        found-ran : (s : Scoped) → scopedOf s ≡ resolve S k name → inWritable (r .segments) (e .place) 8 ≡ true → Written6 (resolve S k name) (writeFound t e i y s p a report)
+        unfolding scopedOf writeFound addressOr0
         found-ran Absent eq w =
-            subst (λ (x : Answer). Written6 x (foundOf t e i y Absent p a report)) eq (nowhere-ran eq w (eqb (bindingOf y) 2) refl)
+            subst (λ (x : Answer). Written6 x (writeFound t e i y Absent p a report)) eq (nowhere-ran eq w (eqb (bindingOf y) 2) refl)
         found-ran (Found d s v) eq w =
             let z = wrote-to (e .place) 8 (byteOf v) w in
             subst
-            (λ (x : Answer). Written6 x (foundOf t e i y (Found d s v) p a report))
+            (λ (x : Answer). Written6 x (writeFound t e i y (Found d s v) p a report))
             eq
             (with-answer (verdict 0 k) (e .symbol + 1) v (write m ((obj S k) .offset + e .place) 8 (byteOf v)) (patch a (t .offset + e .place) 8 (byteOf v))
             (verdict-none 0 k refl) (kept-now d (symOf s) v eq) (z .0) (z .1))
@@ -362,7 +362,7 @@ module _ (address size : ℕ) (table : List ℕ) (h pr : File) (fs : List File) 
         answered-ran :
             (s : Scoped) → scopedOf s ≡ resolve S k name → inWritable (r .segments) (e .place) 8 ≡ true → (b : Bool) → eqb (p .last) (e .symbol + 1) ≡ b
             → Written6 (resolve S k name)
-            (pick b (left p (patch a (t .offset + e .place) 8 (byteOf (p .address))) report) (foundOf t e i y s p a report))
+            (pick b (left p (patch a (t .offset + e .place) 8 (byteOf (p .address))) report) (writeFound t e i y s p a report))
         answered-ran s eq w true f = kept-ran (eqb-true (p .last) (e .symbol + 1) f) w
         answered-ran s eq w false f = found-ran s eq w
 
@@ -371,7 +371,7 @@ module _ (address size : ℕ) (table : List ℕ) (h pr : File) (fs : List File) 
             → Ran size n (verdict (require b 17 0) k)
             (After (resolve S k name) (write m ((obj S k) .offset + e .place) 8 (byteOf (addressOr0 (resolve S k name)))))
             (pick b
-            (pick (eqb (p .last) (e .symbol + 1)) (left p (patch a (t .offset + e .place) 8 (byteOf (p .address))) report) (foundOf t e i y s p a report))
+            (pick (eqb (p .last) (e .symbol + 1)) (left p (patch a (t .offset + e .place) 8 (byteOf (p .address))) report) (writeFound t e i y s p a report))
             (left (refusedBy t 17 p) a report))
         unfolding require
         symbolic-by s eq true w = answered-ran s eq w (eqb (p .last) (e .symbol + 1)) refl

@@ -42,7 +42,7 @@ use Rattle.object.specs.declared.program_header.Segment.{Segment}
 use Rattle.object.specs.declared.program_header.Dynamic.{Dynamic}
 use Rattle.object.specs.declared.program_header.Dynamic.the-variants.{Missing, At}
 use Rattle.object.proofs.RefusalLaws.{required}
-use Rattle.binder.specs.Instance.{recordOf, placesOf, entryBy, entryOf}
+use Rattle.binder.specs.Instance.{fileRecord, placesOf, entryBy, entryOf}
 use Rattle.binder.specs.Verdict.{passed, verdict, wordRefusal, writtenRefusal, copyOk, copyRefusal, symbolThen, refusalBy, entryRefusal, wordsVerdict, entriesVerdict}
 use Rattle.binder.proofs.OutcomeLaws.{first-passed, verdict-passed}
 
@@ -61,8 +61,8 @@ writable-end (s ∷ ss) p n e =
     (either-true (both (isWritable s) (holdsRange s p n)) (some (λ s. both (isWritable s) (holdsRange s p n)) ss) e)
 
 -- the record keeps the segments that it is given
-kept-segments : (image : List ℕ) (ss : List Segment) (d : Dynamic) → (records.recordOf image ss d) .segments ≡ ss
-unfolding records.recordOf records.recordIn
+kept-segments : (image : List ℕ) (ss : List Segment) (d : Dynamic) → (records.recordAt image ss d) .segments ≡ ss
+unfolding records.recordAt records.recordIn
 kept-segments image ss Missing = refl
 kept-segments image ss (At at) = refl
 

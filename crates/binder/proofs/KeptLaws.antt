@@ -30,7 +30,7 @@ use Rattle.scope.specs.declared.scope.Scoped.the-variants.{Absent, Found}
 use Rattle.binder.specs.declared.report.Progress.{Progress}
 use Rattle.binder.specs.declared.turn.Turn.{Turn}
 use Rattle.binder.specs.declared.relocate.Symbols.{Symbols}
-use Rattle.binder.specs.Steps.Relocating.{Left, left, wrote, Noted, noted, withArena, withReport, refusedBy, imageIn, reportSum, noteOf, unresolvedOf, keepsWeak, relativeOf, foundOf, copyFits, copyBytes, copyOf, soughtFor, soughtForCopy, answeredOf, symbolicOf, copyingOf, runAction}
+use Rattle.binder.specs.Steps.Relocating.{Left, left, wrote, Noted, noted, withArena, withReport, refusedBy, imageIn, reportSum, noteOf, unresolvedOf, keepsWeak, relativeOf, writeFound, copyFits, copyBytes, copyOf, soughtFor, soughtForCopy, answeredOf, symbolicOf, copyingOf, runAction}
 use Rattle.binder.specs.Steps.RunSteps.{TablesKept, SymbolsOf}
 use Rattle.binder.proofs.SteadyLaws.{table-out}
 
@@ -100,8 +100,8 @@ module _ (t : Turn) (r : Record) where
         go true w = kept-write a (e .place) 8 _ w
         go false w = kept-none a
 
-    found-keeps : (y : Symbol) (s : Scoped) → inWritable (r .segments) (e .place) 8 ≡ true → Keeps a (foundOf t e i y s p a report)
-    unfolding foundOf
+    found-keeps : (y : Symbol) (s : Scoped) → inWritable (r .segments) (e .place) 8 ≡ true → Keeps a (writeFound t e i y s p a report)
+    unfolding writeFound
     found-keeps y Absent w =
         noted-keeps a (patch a (t .offset + e .place) 8 (byteOf 0)) (keepsWeak (e .symbol + 1) y (unresolvedOf y (t .number) i p report))
         (kept-write a (e .place) 8 (byteOf 0) w)
@@ -116,7 +116,7 @@ module _ (t : Turn) (r : Record) where
             → Keeps a
             (pick b
             (pick c (left p (patch a (t .offset + e .place) 8 (byteOf (p .address))) report)
-            (foundOf t e i y (soughtFor address table count t a (nameOf (imageIn a t) r y)) p a report))
+            (writeFound t e i y (soughtFor address table count t a (nameOf (imageIn a t) r y)) p a report))
             (left (refusedBy t 17 p) a report))
         go true w true = kept-write a (e .place) 8 (byteOf (p .address)) w
         go true w false = found-keeps y (soughtFor address table count t a (nameOf (imageIn a t) r y)) w

@@ -16,7 +16,7 @@ use Rattle.object.specs.declared.program_header.Segment.{Segment}
 use Rattle.object.specs.declared.program_header.Dynamic.{Dynamic}
 use Rattle.object.specs.declared.program_header.Dynamic.the-variants.{Missing, At}
 use Rattle.object.specs.declared.hash_tables.View.{View}
-use Rattle.object.specs.DynamicFields.{fieldsOf, needsOf}
+use Rattle.object.specs.DynamicFields.{fieldsOf, neededOffsets}
 use Rattle.object.specs.ProgramHeader.{dynamicOf}
 use Rattle.object.specs.Record as records
 use Rattle.object.specs.Record.{viewOf, fieldsRefusal, readRefusal}
@@ -25,7 +25,7 @@ use Rattle.object.specs.Loaded as loading
 use Rattle.object.specs.Loaded.{objectRefusal}
 use Rattle.object.proofs.RefusalLaws.{required, after-zero}
 use Rattle.sheet.specs.Sheet.{Input, noInput}
-use Rattle.binder.specs.Instance.{File, imageOf, recordOf, objectAt}
+use Rattle.binder.specs.Instance.{File, fileImage, fileRecord, objectAt}
 use Rattle.binder.specs.Verdict.{passed, verdict, loadVerdict, noFile}
 use Rattle.binder.specs.Bind.{filesOf, namesOf}
 use Rattle.binder.specs.SetOrder as sets
@@ -46,7 +46,7 @@ use Rattle.binder.proofs.Steady.{LoadedSet, PlacedAt}
 
 -- its record was read: refusals 9 to 12 were passed
 abbrev ReadFrom : File → Type 0
-ReadFrom f = readRefusal (f .host) (imageOf f) (segmentsOf (f .host) (f .bytes)) (dynamicOf (f .bytes)) ≡ 0
+ReadFrom f = readRefusal (f .host) (fileImage f) (segmentsOf (f .host) (f .bytes)) (dynamicOf (f .bytes)) ≡ 0
 
 read-passed :
     (size : ℕ) (files : List File) (n off k : ℕ) → loadVerdict size n off files ≡ passed → k < length files → ReadFrom (getD files k noFile)
@@ -66,29 +66,29 @@ module _ (host : Bool) (image : List ℕ) (segments : List Segment) where
   needs-few Missing e = omega arith
   needs-few (At at) e =
       let a = after-zero (fieldsRefusal (fieldsOf image at)) _ e in
-      leb-true (length (needsOf image at)) 64 (required (leb (length (needsOf image at)) 64) 10 _ (a .1) .0)
+      leb-true (length (neededOffsets image at)) 64 (required (leb (length (neededOffsets image at)) 64) 10 _ (a .1) .0)
 
-  needed-is : (d : Dynamic) → readRefusal host image segments d ≡ 0 → records.recordOf image segments d .needed ≡ neededAt image d
-  unfolding readRefusal records.recordOf records.recordIn
+  needed-is : (d : Dynamic) → readRefusal host image segments d ≡ 0 → records.recordAt image segments d .needed ≡ neededAt image d
+  unfolding readRefusal records.recordAt records.recordIn
   needed-is Missing e = absurd (omega arith)
   needed-is (At at) e = refl
 
 -- what is read where the image, the string table and the dynamic array are the file's
 numbers-are :
-    (os : List Input) (f : File) (image : List ℕ) (strings : ℕ) (d : Dynamic) → image ≡ imageOf f → strings ≡ recordOf f .strings
-    → d ≡ dynamicOf (f .bytes) → ReadFrom f → numbersAt os image strings d ≡ sets.needsOf (namesOf os) f
-unfolding numbersAt sets.needsOf loading.objectRecord
+    (os : List Input) (f : File) (image : List ℕ) (strings : ℕ) (d : Dynamic) → image ≡ fileImage f → strings ≡ fileRecord f .strings
+    → d ≡ dynamicOf (f .bytes) → ReadFrom f → numbersAt os image strings d ≡ sets.neededObjects (namesOf os) f
+unfolding numbersAt sets.neededObjects loading.objectRecord
 numbers-are os f image strings d ei es ed read =
-    let needed : recordOf f .needed ≡ neededAt (imageOf f) (dynamicOf (f .bytes)) =
-    needed-is (f .host) (imageOf f) (segmentsOf (f .host) (f .bytes)) (dynamicOf (f .bytes)) read in
+    let needed : fileRecord f .needed ≡ neededAt (fileImage f) (dynamicOf (f .bytes)) =
+    needed-is (f .host) (fileImage f) (segmentsOf (f .host) (f .bytes)) (dynamicOf (f .bytes)) read in
     rw (ei, es, ed, needed)
 
 -- ---- a loaded set
 
 module _
     (size : ℕ) (table arena : List ℕ) (os : List Input) (loads : loadVerdict size 0 0 (filesOf os) ≡ passed)
-    (views : (k : ℕ) → 2 ≤ k → k < length os → seatAt table k .view ≡ viewOf (recordOf (getD (filesOf os) k noFile)))
-    (images : (k : ℕ) → 2 ≤ k → k < length os → imageAt arena (seatAt table k) ≡ imageOf (getD (filesOf os) k noFile))
+    (views : (k : ℕ) → 2 ≤ k → k < length os → seatAt table k .view ≡ viewOf (fileRecord (getD (filesOf os) k noFile)))
+    (images : (k : ℕ) → 2 ≤ k → k < length os → imageAt arena (seatAt table k) ≡ fileImage (getD (filesOf os) k noFile))
   where
     abbrev file : ℕ → File
     file k = getD (filesOf os) k noFile
@@ -102,9 +102,9 @@ module _
     few-needs : FewNeeds os (length os) arena table
     few-needs k a b =
         rw (images k a b, dynamic k b)
-        (needs-few (file k .host) (imageOf (file k)) (segmentsOf (file k .host) (file k .bytes)) (dynamicOf (file k .bytes)) (read k b))
+        (needs-few (file k .host) (fileImage (file k)) (segmentsOf (file k .host) (file k .bytes)) (dynamicOf (file k .bytes)) (read k b))
 
-    needs-are : (k : ℕ) → 2 ≤ k → k < length os → needsAt os arena table k ≡ sets.needsOf (namesOf os) (file k)
+    needs-are : (k : ℕ) → 2 ≤ k → k < length os → needsAt os arena table k ≡ sets.neededObjects (namesOf os) (file k)
     needs-are k a b =
         numbers-are os (file k) _ _ _ (images k a b) (ap (λ (v : View). v .strings) (views k a b)) (dynamic k b) (read k b)
 
@@ -115,9 +115,9 @@ module _
     order-are : orderOf (needsAt os arena table) (length os - 2) ≡ setOrder (filesOf os) (namesOf os)
     unfolding setOrder
     order-are =
-        order-same (needsAt os arena table) (λ k. sets.needsOf (namesOf os) (file k)) (length os - 2)
+        order-same (needsAt os arena table) (λ k. sets.neededObjects (namesOf os) (file k)) (length os - 2)
         (λ k a b. ap (keep (length os - 2)) (needs-are k a (omega arith)))
-        ∙ ap (orderOf (λ k. sets.needsOf (namesOf os) (file k))) (sym names-many)
+        ∙ ap (orderOf (λ k. sets.neededObjects (namesOf os) (file k))) (sym names-many)
 
     pub order-read : (r : Order) → Arranged os (length os) arena table r → take (r .count) (r .list) ≡ setOrder (filesOf os) (namesOf os)
     order-read r made = made .order few-needs ∙ order-are

@@ -90,14 +90,14 @@ module _ (os : List Input) (image : List ℕ) (strings : ℕ) (file : List ℕ) 
 
   -- what the loop wrote
   pub row-is :
-      (at count : ℕ) (n : Needs) (after : List ℕ) → dynamicOf file ≡ At at → Needed (fields.needsOf image at) n → count ≡ min (n .count) 64
+      (at count : ℕ) (n : Needs) (after : List ℕ) → dynamicOf file ≡ At at → Needed (fields.neededOffsets image at) n → count ≡ min (n .count) 64
       → after ≡ patch before (64 * k) count (λ i. numberAt os image strings (getD (n .list) i 0))
       → NeedsPut os image strings file k before after
   unfolding numbersAt numberAt
   row-is at count n after d needed e written = rw d go
     where
       l : List ℕ
-      l = fields.needsOf image at
+      l = fields.neededOffsets image at
 
       g : ℕ → ℕ
       g i = numberAt os image strings (getD (n .list) i 0)
@@ -190,7 +190,7 @@ module _ (os : List Input) (count : ℕ) (arena table : List ℕ) (k : ℕ) (bef
 filled-order :
     (os : List Input) (count : ℕ) (arena table filled : List ℕ) → 2 ≤ count → FewNeeds os count arena table
     → ((k : ℕ) → 2 ≤ k → k < count → (i : ℕ) → i < 64 → mem filled (64 * k + i) ≡ getD (needsAt os arena table k) i 0)
-    → orderOf (rows.needsOf filled) (count - 2) ≡ orderOf (needsAt os arena table) (count - 2)
+    → orderOf (rows.needsRow filled) (count - 2) ≡ orderOf (needsAt os arena table) (count - 2)
 unfolding memory.mem
 filled-order os count arena table filled low few holds =
     table-order (needsAt os arena table) filled (count - 2)
@@ -208,6 +208,6 @@ pub arranged :
 arranged os count arena table filled r low high o holds =
     let e : min (count - 2) 62 ≡ count - 2 = omega arith in
     record {
-      order = λ few. o .list ∙ (ap (orderOf (rows.needsOf filled)) e ∙ filled-order os count arena table filled low few (holds few));
+      order = λ few. o .list ∙ (ap (orderOf (rows.needsRow filled)) e ∙ filled-order os count arena table filled low few (holds few));
       few = omega (arith, o .count);
     }

@@ -13,9 +13,9 @@ use Rattle.model.specs.Objects.{Entry, Obj, Objs, count, obj}
 use Rattle.model.specs.Relocation.{addWords, effects, relocate}
 use Rattle.model.proofs.OrderLaws.{decide}
 use Rattle.object.specs.Record.{Record}
-use Rattle.binder.specs.Instance.{File, imageOf, recordOf, placesOf, wordsOf, relasOf, entryOf, objectAt}
+use Rattle.binder.specs.Instance.{File, fileImage, fileRecord, placesOf, namedWords, relasOf, entryOf, objectAt}
 use Rattle.binder.specs.Verdict.{Verdict, first, entriesVerdict, objectVerdict}
-use Rattle.binder.specs.Report.{reportWord, entryWords, objectWords, hasUndefined}
+use Rattle.binder.specs.Report.{reportWord, entryReport, objectWords, hasUndefined}
 use Rattle.binder.specs.Steps.Relocating.{left, Noted, noted, Summed, summed, refusedBy, keeps, reportSum, noteOf, far, cutTo32, addRelrs, turnOf, imageIn, againRefusal, runTables, thenTables, runObject, runAt}
 use Rattle.binder.specs.declared.turn.Turn.{Turn}
 use Rattle.binder.specs.declared.report.Progress.{Progress}
@@ -39,19 +39,19 @@ module _ (address size : ℕ) (table : List ℕ) (h pr : File) (fs : List File) 
   f = fileAt address size table h pr fs k
 
   abbrev r : Record
-  r = recordOf f
+  r = fileRecord f
 
   abbrev image : List ℕ
-  image = imageOf f
+  image = fileImage f
 
   -- ---- the object of the model
 
   is : obj S k ≡ objectAt address f ((obj S k) .offset)
   is = lies address size table h pr fs L k hi .is
 
-  words-are : (obj S k) .words ≡ placesOf (wordsOf image r)
+  words-are : (obj S k) .words ≡ placesOf (namedWords image r)
   unfolding objectAt
-  words-are = ap (λ (o : Obj). o .words) is ∙ ap (λ (b : Bool). pick b [] (placesOf (wordsOf image r))) (L .others k lo hi)
+  words-are = ap (λ (o : Obj). o .words) is ∙ ap (λ (b : Bool). pick b [] (placesOf (namedWords image r))) (L .others k lo hi)
 
   base-is : (obj S k) .base ≡ address + (obj S k) .offset
   unfolding objectAt
@@ -66,7 +66,7 @@ module _ (address size : ℕ) (table : List ℕ) (h pr : File) (fs : List File) 
 
   relocate-is :
       (m : Mem)
-      → effects S k (map (entryOf image r ((obj S k) .base)) (relasOf image r)) (addWords (obj S k) (placesOf (wordsOf image r)) m) ≡ relocate S k m
+      → effects S k (map (entryOf image r ((obj S k) .base)) (relasOf image r)) (addWords (obj S k) (placesOf (namedWords image r)) m) ≡ relocate S k m
   unfolding relocate
   relocate-is m =
       sym
@@ -86,12 +86,12 @@ module _ (address size : ℕ) (table : List ℕ) (h pr : File) (fs : List File) 
 
     entered-turned :
         (p′ : Progress) (a′ report′ : List ℕ)
-        → Entered address size table h pr fs L k lo hi n a (ws ++ (reportWord 5 k ∷ [])) u (addWords (obj S k) (placesOf (wordsOf image r)) (mem a))
+        → Entered address size table h pr fs L k lo hi n a (ws ++ (reportWord 5 k ∷ [])) u (addWords (obj S k) (placesOf (namedWords image r)) (mem a))
         0 (relasOf image r) p′ a′ report′
         → Turned p′ a′ report′
     unfolding objectWords hasUndefined
     entered-turned p′ a′ report′ d =
-        rw (← relocate-is (mem a), ← append-assoc ws (reportWord 5 k ∷ []) (entryWords S k image r 0 (relasOf image r))) d
+        rw (← relocate-is (mem a), ← append-assoc ws (reportWord 5 k ∷ []) (entryReport S k image r 0 (relasOf image r))) d
 
     after-relr :
         (z : ℕ) (b : List ℕ) (q : Noted) → RelrEnded address size table h pr fs k z a b → NotedGoing (ws ++ (reportWord 5 k ∷ [])) u n q
@@ -107,11 +107,11 @@ module _ (address size : ℕ) (table : List ℕ) (h pr : File) (fs : List File) 
         (λ (c : eqb z 0 ≡ true).
         rw (c, verdict-none z k (eqb-true z 0 c))
         (ran-weaker size n (entriesVerdict S k image r (relasOf image r))
-        (Entered address size table h pr fs L k lo hi n a (ws ++ (reportWord 5 k ∷ [])) u (addWords (obj S k) (placesOf (wordsOf image r)) (mem a))
+        (Entered address size table h pr fs L k lo hi n a (ws ++ (reportWord 5 k ∷ [])) u (addWords (obj S k) (placesOf (namedWords image r)) (mem a))
         0 (relasOf image r))
         Turned entered-turned (runTables address table (count S) t r (left p′ b report′))
         (tables-ran address size table h pr fs L k lo hi n a (ws ++ (reportWord 5 k ∷ [])) u
-        (addWords (obj S k) (placesOf (wordsOf image r)) (mem a)) p′ b report′
+        (addWords (obj S k) (placesOf (namedWords image r)) (mem a)) p′ b report′
         record {
           going = g′;
           memory = w .done (eqb-true z 0 c) .0;

@@ -11,14 +11,14 @@ use Rattle.model.proofs.OrderLaws.{once-each}
 use Rattle.sheet.specs.Sheet.{Input}
 use Rattle.binder.specs.Instance.{File, objectAt}
 use Rattle.binder.specs.Verdict.{noFile}
-use Rattle.binder.specs.SetOrder.{needsOf, setOrder}
+use Rattle.binder.specs.SetOrder.{neededObjects, setOrder}
 use Rattle.binder.specs.Bind.{namesOf}
 use Rattle.binder.proofs.SoundLaws.{count-is}
 
 -- of any files, and as many names as libraries
 pub set-order : (files : List File) (names : List (List ℕ)) → OnceEach (length names + 2) (setOrder files names)
 unfolding setOrder
-set-order files names = once-each (λ k. needsOf names (getD files k noFile)) (length names)
+set-order files names = once-each (λ k. neededObjects names (getD files k noFile)) (length names)
 
 -- a set has as many names as libraries
 pub names-length : (h p : Input) (ls : List Input) → length (namesOf (h ∷ (p ∷ ls))) ≡ length ls

@@ -24,7 +24,7 @@ use Rattle.object.specs.Record.{Record, heldBy, viewOf}
 use Rattle.object.specs.Loaded.{objectRecord, objectRefusal, LoadedBy}
 use Rattle.object.proofs.LoadedLaws.{loaded-part}
 use Rattle.sheet.specs.Sheet.{Input, noInput}
-use Rattle.binder.specs.Instance.{File, recordOf}
+use Rattle.binder.specs.Instance.{File, fileRecord}
 use Rattle.binder.specs.Verdict.{passed, refused, first, verdict, loadVerdict, noFile}
 use Rattle.binder.specs.Bind.{filesOf}
 use Rattle.scope.specs.Steps.Seats.{seatAt, Filtered}
@@ -60,10 +60,10 @@ files-length (o ∷ os) = ap suc (length-map os (λ (x : Input). record { host =
 
 -- the record of a file has the file's span
 record-span : (host : Bool) (file : List ℕ) → objectRecord host file .span ≡ objectSpan host file
-unfolding objectRecord recordIs.recordOf recordIs.recordIn
+unfolding objectRecord recordIs.recordAt recordIs.recordIn
 record-span host file = go (dynamicOf file)
   where
-    go : (d : Dynamic) → recordIs.recordOf (objectImage host file) (segmentsOf host file) d .span ≡ objectSpan host file
+    go : (d : Dynamic) → recordIs.recordAt (objectImage host file) (segmentsOf host file) d .span ≡ objectSpan host file
     go Missing = length-tab (objectSpan host file) (objectBytes host file)
     go (At at) = length-tab (objectSpan host file) (objectBytes host file)
 

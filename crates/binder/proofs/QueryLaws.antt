@@ -18,7 +18,7 @@ use Rattle.object.specs.Placed.{objectSpan, objectBytes}
 use Rattle.object.specs.Record.{viewOf}
 use Rattle.object.specs.Loaded.{objectRefusal}
 use Rattle.object.specs.HashTable.{answerIn}
-use Rattle.binder.specs.Instance.{File, imageOf, recordOf, foundOf, objectAt}
+use Rattle.binder.specs.Instance.{File, fileImage, fileRecord, definitionFound, objectAt}
 use Rattle.binder.specs.Verdict.{passed, verdict, loadVerdict, noFile}
 use Rattle.scope.specs.Steps.Seats.{seatAt}
 use Rattle.binder.specs.Steps.Prepared.{seatOf, placeFiles, Seated}
@@ -121,7 +121,7 @@ module _ (address size : ℕ) (table : List ℕ) where
   -- its part of an arena with the placed bytes is its image
   pub image-at :
       (k : ℕ) (f : File) (o : Obj) (m : Mem) → Sits address size table m k f o → (arena : List ℕ) → length arena ≡ size → mem arena ≡ m
-      → imageAt arena (seatAt table k) ≡ imageOf f
+      → imageAt arena (seatAt table k) ≡ fileImage f
   image-at k f o m t arena len e =
       ap (imageAt arena) (t .seat)
       ∙ same (objectSpan (f .host) (f .bytes)) (t .off) (objectBytes (f .host) (f .bytes)) arena (omega (arith, t .fits))
@@ -132,7 +132,7 @@ module _ (address size : ℕ) (table : List ℕ) where
       (k : ℕ) (f : File) (o : Obj) (off : ℕ) (arena : List ℕ) → o ≡ objectAt address f off → seatAt table k ≡ seatOf f off
       → address + off < 2 ^ 64
       → ((name : List ℕ)
-      → answerIn (imageAt arena (seatAt table k)) (viewOf (recordOf f)) name ≡ answerIn (imageOf f) (viewOf (recordOf f)) name)
+      → answerIn (imageAt arena (seatAt table k)) (viewOf (fileRecord f)) name ≡ answerIn (fileImage f) (viewOf (fileRecord f)) name)
       → SeatOf address arena o (seatAt table k)
   unfolding objectAt searches.answerAt
   seat-of k f o off arena is seat small answers =
@@ -141,7 +141,7 @@ module _ (address size : ℕ) (table : List ℕ) where
         small = let e : seatAt table k .offset ≡ off = ap (λ (x : Seat). x .offset) seat in omega arith;
         find = λ name.
             ap (λ (o : Obj). o .find name) is
-            ∙ ap foundOf
+            ∙ ap definitionFound
             (sym (ap (λ (x : Seat). answerIn (imageAt arena (seatAt table k)) (x .view) name) seat ∙ answers name));
       }
 
@@ -154,5 +154,5 @@ module _ (address size : ℕ) (table : List ℕ) where
       let f : File = getD (h ∷ (p ∷ fs)) k noFile in
       let t = sits-at h p fs m v s k l in
       seat-of k f (obj (objsOf (objectAt address) h p fs) k) (t .off) arena (t .is) (t .seat) (omega (arith, t .fits))
-      (λ name. ap (λ (image : List ℕ). answerIn image (viewOf (recordOf f)) name)
+      (λ name. ap (λ (image : List ℕ). answerIn image (viewOf (fileRecord f)) name)
       (image-at k f (obj (objsOf (objectAt address) h p fs) k) (placeFiles (h ∷ (p ∷ fs)) 0 m) t arena len e))

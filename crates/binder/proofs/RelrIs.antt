@@ -18,14 +18,14 @@ use Rattle.model.specs.Objects.{Obj, Objs, count, obj}
 use Rattle.model.specs.Relocation.{addWord, addWords}
 use Rattle.object.specs.TableBytes.{inWritable}
 use Rattle.object.specs.Refusal.{require}
-use Rattle.object.specs.Entries.{relrAt, relrsFrom, relrOf, Location, none, word, Word, place, nowhere, wordAfter, bitWords, entryWords, nextLocation, relrWords}
+use Rattle.object.specs.Entries.{relrAt, relrsFrom, relrOf, Location, none, word, Word, place, nowhere, wordAfter, bitWords, relrEntryWords, nextLocation, relrWords}
 use Rattle.object.specs.Record.{Record}
 use Rattle.object.specs.declared.relocate.Relr.{Relr}
 use Rattle.object.specs.declared.relocate.Relr.the-variants.{Address, Bitmap}
 use Rattle.scope.specs.declared.seats.Seat.{Seat}
 use Rattle.binder.specs.declared.turn.Turn.{Turn}
 use Rattle.binder.specs.declared.relr.Moved.{Moved}
-use Rattle.binder.specs.Instance.{File, imageOf, recordOf, placesOf, wordsOf}
+use Rattle.binder.specs.Instance.{File, fileImage, fileRecord, placesOf, namedWords}
 use Rattle.binder.specs.Verdict.{Verdict, passed, refused, first, verdict, wordRefusal, wordsVerdict}
 use Rattle.binder.specs.Steps.Relocating.{imageIn, far, cutTo32, Summed, summed, Shifted, shifted, wordAdded, addBits, bitsAdded, addRelr, thenRelr, addRelrs, turnOf}
 use Rattle.binder.proofs.Steady as steady
@@ -104,7 +104,7 @@ module _ (address size : ℕ) (table : List ℕ) (h p : File) (fs : List File) w
 
   -- the words `ws` of object `k` were added to the arena `a`: the refusal `z`, 0 for none, and the arena `b`
   record Ran (k : ℕ) (ws : List Word) (z : ℕ) (a b : List ℕ) : Type 0 where
-    verdict-is : verdict z k ≡ wordsVerdict k (recordOf (file k)) ws
+    verdict-is : verdict z k ≡ wordsVerdict k (fileRecord (file k)) ws
     done : z ≡ 0 → (mem b ≡ addWords (obj S k) (placesOf ws) (mem a)) × Written a b k
     length-is : length b ≡ size
 
@@ -118,8 +118,8 @@ module _ (address size : ℕ) (table : List ℕ) (h p : File) (fs : List File) w
       record {
         verdict-is =
             v .verdict-is
-            ∙ (ap (λ (x : Verdict). first x (wordsVerdict k (recordOf (file k)) vs)) (u .verdict-is)
-            ∙ sym (verdict-append k (recordOf (file k)) ws vs));
+            ∙ (ap (λ (x : Verdict). first x (wordsVerdict k (fileRecord (file k)) vs)) (u .verdict-is)
+            ∙ sym (verdict-append k (fileRecord (file k)) ws vs));
         done = λ e. (
           v .done e .0
               ∙ (ap (λ (m : ℕ → ℕ). addWords (obj S k) (placesOf vs) m) (u .done refl .0) ∙ sym (words-append (obj S k) ws vs (mem a))),
@@ -132,24 +132,24 @@ module _ (address size : ℕ) (table : List ℕ) (h p : File) (fs : List File) w
   ran-stops k ws vs z a b n u =
       record {
         verdict-is =
-            sym (verdict-stays z k (wordsVerdict k (recordOf (file k)) vs) n)
-            ∙ (ap (λ (x : Verdict). first x (wordsVerdict k (recordOf (file k)) vs)) (u .verdict-is)
-            ∙ sym (verdict-append k (recordOf (file k)) ws vs));
+            sym (verdict-stays z k (wordsVerdict k (fileRecord (file k)) vs) n)
+            ∙ (ap (λ (x : Verdict). first x (wordsVerdict k (fileRecord (file k)) vs)) (u .verdict-is)
+            ∙ sym (verdict-append k (fileRecord (file k)) ws vs));
         done = λ e. absurd (n e);
         length-is = u .length-is;
       }
 
   -- all words that RELR names
   pub record RelrEnded (k z : ℕ) (a a′ : List ℕ) : Type 0 where
-    pub verdict-is : verdict z k ≡ wordsVerdict k (recordOf (file k)) (wordsOf (imageOf (file k)) (recordOf (file k)))
+    pub verdict-is : verdict z k ≡ wordsVerdict k (fileRecord (file k)) (namedWords (fileImage (file k)) (fileRecord (file k)))
     pub done :
         z ≡ 0
-        → (mem a′ ≡ addWords (obj S k) (placesOf (wordsOf (imageOf (file k)) (recordOf (file k)))) (mem a)) × Written a a′ k
+        → (mem a′ ≡ addWords (obj S k) (placesOf (namedWords (fileImage (file k)) (fileRecord (file k)))) (mem a)) × Written a a′ k
     pub length-is : length a′ ≡ size
 
   module _ (L : LoadedSet) (k : ℕ) (low : 1 ≤ k) (member : k < count S) where
     abbrev r : Record
-    r = recordOf (file k)
+    r = fileRecord (file k)
 
     abbrev t : Turn
     t = turnOf address table k
@@ -259,7 +259,7 @@ module _ (address size : ℕ) (table : List ℕ) (h p : File) (fs : List File) w
     -- ---- an entry
 
     record RanEntry (location : Location) (e : Relr) (m : Moved) (a b : List ℕ) : Type 0 where
-      words : Ran k (entryWords location e) (m .refusal) a b
+      words : Ran k (relrEntryWords location e) (m .refusal) a b
       next : m .refusal ≡ 0 → Sits (nextLocation location e) (m .location)
 
     sits-moved : (location : Location) (l bitmap : ℕ) → Sits location l → Sits (nextLocation location (Bitmap bitmap)) (min (l + 504) far)
@@ -303,15 +303,15 @@ module _ (address size : ℕ) (table : List ℕ) (h p : File) (fs : List File) w
     -- ---- the entries
 
     -- entry `i` of the arena is that of the placed bytes
-    entry-is : (a : List ℕ) → Steady a → (i : ℕ) → i < r .relrs → relrAt (imageIn a t) (r .relr) i ≡ relrAt (imageOf (file k)) (r .relr) i
+    entry-is : (a : List ℕ) → Steady a → (i : ℕ) → i < r .relrs → relrAt (imageIn a t) (r .relr) i ≡ relrAt (fileImage (file k)) (r .relr) i
     entry-is a s i l =
         let e = laws.readings address size table h p fs L a s k member .relrs (L .others k low member) in
-        rw (zero-add i) at (relr-at (imageIn a t) (imageOf (file k)) (r .relr) 0 (r .relrs) e i l)
+        rw (zero-add i) at (relr-at (imageIn a t) (fileImage (file k)) (r .relr) 0 (r .relrs) e i l)
 
     ran-entries :
         (n i : ℕ) → i + n ≤ r .relrs → (location : Location) (l : ℕ) → Sits location l → (a : List ℕ) → Steady a
         → (z : ℕ) (b : List ℕ) → summed z b ≡ addRelrs t r n i l a
-        → Ran k (relrWords location (relrsFrom (imageOf (file k)) (r .relr) i n)) z a b
+        → Ran k (relrWords location (relrsFrom (fileImage (file k)) (r .relr) i n)) z a b
     unfolding addRelrs relrWords relrsFrom
     ran-entries zero i few location l at a s z b e =
         let ez : z ≡ 0 = cc in
@@ -322,15 +322,15 @@ module _ (address size : ℕ) (table : List ℕ) (h p : File) (fs : List File) w
         (λ v lv at′ c sc ec. ran-entries n (i + 1) (omega arith) v lv at′ c sc z b ec)
       where
         x : Relr
-        x = relrOf (relrAt (imageOf (file k)) (r .relr) i)
+        x = relrOf (relrAt (fileImage (file k)) (r .relr) i)
 
         rest : Location → List Word
-        rest v = relrWords v (relrsFrom (imageOf (file k)) (r .relr) (i + 1) n)
+        rest v = relrWords v (relrsFrom (fileImage (file k)) (r .relr) (i + 1) n)
 
         go :
             (y : Shifted) → y ≡ addRelr t (r .segments) l x a → summed z b ≡ thenRelr (addRelrs t r n (i + 1)) y
             → ((v : Location) (lv : ℕ) → Sits v lv → (c : List ℕ) → Steady c → summed z b ≡ addRelrs t r n (i + 1) lv c → Ran k (rest v) z c b)
-            → Ran k (entryWords location x ++ rest (nextLocation location x)) z a b
+            → Ran k (relrEntryWords location x ++ rest (nextLocation location x)) z a b
         go (shifted m c) ey e more = ends (eqb (m .refusal) 0) refl e
           where
             here : RanEntry location x m a c
@@ -338,25 +338,25 @@ module _ (address size : ℕ) (table : List ℕ) (h p : File) (fs : List File) w
 
             ends :
                 (d : Bool) → eqb (m .refusal) 0 ≡ d → summed z b ≡ pick d (addRelrs t r n (i + 1) (m .location) c) (summed (m .refusal) c)
-                → Ran k (entryWords location x ++ rest (nextLocation location x)) z a b
+                → Ran k (relrEntryWords location x ++ rest (nextLocation location x)) z a b
             ends true ed e =
                 let ez : m .refusal ≡ 0 = eqb-true _ _ ed in
-                let u : Ran k (entryWords location x) 0 a c = rw ez at (here .words) in
-                ran-then k (entryWords location x) (rest (nextLocation location x)) z a c b u
+                let u : Ran k (relrEntryWords location x) 0 a c = rw ez at (here .words) in
+                ran-then k (relrEntryWords location x) (rest (nextLocation location x)) z a c b u
                 (more (nextLocation location x) (m .location) (here .next ez) c (u .done refl .1 .steady) e)
             ends false ed e =
                 let ez : z ≡ m .refusal = cc in
                 let eb : b ≡ c = cc in
                 rw (ez, eb)
-                (ran-stops k (entryWords location x) (rest (nextLocation location x)) (m .refusal) a c (eqb-false _ _ ed) (here .words))
+                (ran-stops k (relrEntryWords location x) (rest (nextLocation location x)) (m .refusal) a c (eqb-false _ _ ed) (here .words))
 
   pub relr-is :
       LoadedSet → (k : ℕ) → 1 ≤ k → k < count S → (a : List ℕ) → Steady a → (z : ℕ) (a′ : List ℕ)
-      → summed z a′ ≡ addRelrs (turnOf address table k) (recordOf (file k)) (cutTo32 (recordOf (file k) .relrs)) 0 far a
+      → summed z a′ ≡ addRelrs (turnOf address table k) (fileRecord (file k)) (cutTo32 (fileRecord (file k) .relrs)) 0 far a
       → RelrEnded k z a a′
-  unfolding wordsOf
+  unfolding namedWords
   relr-is L k low member a s z a′ e =
       let few = laws.counts address size table h p fs L k low member .2 in
-      let n : cutTo32 (recordOf (file k) .relrs) ≡ recordOf (file k) .relrs = omega arith in
-      let u = ran-entries L k low member (recordOf (file k) .relrs) 0 (omega arith) none far refl a s z a′ (rw n at e) in
+      let n : cutTo32 (fileRecord (file k) .relrs) ≡ fileRecord (file k) .relrs = omega arith in
+      let u = ran-entries L k low member (fileRecord (file k) .relrs) 0 (omega arith) none far refl a s z a′ (rw n at e) in
       record { verdict-is = u .verdict-is; done = u .done; length-is = u .length-is }

@@ -11,7 +11,7 @@ use lib.ListN.{length, getD, take, drop, length-take, drop-of-length-le}
 use lib.Seq.{drop-cons, getD-take}
 use Rattle.words.specs.Memory.{patch}
 use Rattle.words.specs.Words.{byteOf}
-use Rattle.object.specs.Steps.LoadTable.{Loaded, segmentsIn}
+use Rattle.object.specs.Steps.LoadTable.{SegmentsIn, segmentsIn}
 use Rattle.object.specs.ProgramHeader.{loadsOf, dynamicOf}
 use Rattle.object.specs.Entries.{relaAt, actionOf}
 use Rattle.object.specs.TableBytes.{inWritable}
@@ -29,7 +29,7 @@ use Rattle.sheet.specs.Sheet.{Input, noInput}
 use Rattle.binder.specs.declared.report.Progress.{Progress}
 use Rattle.scope.specs.declared.scope.Scoped.{Scoped}
 use Rattle.binder.specs.declared.turn.Turn.{Turn}
-use Rattle.binder.specs.Steps.Relocating.{Left, left, noted, summed, unlessRefused, refusedBy, imageIn, turnOf, againRefusal, againRecord, symbolRefusal, soughtFor, soughtForCopy, keeps, foundOf, copyOf, answeredOf, symbolicOf, copyingOf, runAction, runTable, far, cutTo32, reportSum, noteOf, addRelrs, runTables, runObject, runAt, runOrder}
+use Rattle.binder.specs.Steps.Relocating.{Left, left, noted, summed, unlessRefused, refusedBy, imageIn, turnOf, againRefusal, againRecord, symbolRefusal, soughtFor, soughtForCopy, keeps, writeFound, copyOf, answeredOf, symbolicOf, copyingOf, runAction, runTable, far, cutTo32, reportSum, noteOf, addRelrs, runTables, runObject, runAt, runOrder}
 
 -- ---- the entries of a symbol
 
@@ -55,7 +55,7 @@ module _ (address : ℕ) (table : List ℕ) (count : ℕ) (t : Turn) (r : Record
     unfolding symbolicOf answeredOf
     symbolic-kept hb f same run = rw (← hx, hy, ← hs, ← hb, f, eq-eqb _ _ same) run
 
-    pub symbolic-inside : {b : Bool} {s : Scoped} {out : Left} → b ≡ inWritable segments (e .place) 8 → b ≡ true → (p .last ≡ e .symbol + 1 → ⊥) → s ≡ soughtFor address table count t a (nameOf (imageIn a t) r y) → out ≡ foundOf t e i y s p a report → out ≡ symbolicOf address table count t r e i (checkedSymbol (imageIn a t) r (e .symbol)) p a report
+    pub symbolic-inside : {b : Bool} {s : Scoped} {out : Left} → b ≡ inWritable segments (e .place) 8 → b ≡ true → (p .last ≡ e .symbol + 1 → ⊥) → s ≡ soughtFor address table count t a (nameOf (imageIn a t) r y) → out ≡ writeFound t e i y s p a report → out ≡ symbolicOf address table count t r e i (checkedSymbol (imageIn a t) r (e .symbol)) p a report
     unfolding symbolicOf answeredOf
     symbolic-inside hb f other hf run = rw (← hx, hy, ← hs, ← hb, f, ne-eqb _ _ other, ← hf) run
 
@@ -149,7 +149,7 @@ module _ (address : ℕ) (table : List ℕ) (count : ℕ) (os : List Input) (lis
 
 -- ---- an object's turn, once its record is read again
 
-module _ (image file : List ℕ) (l : Loads) (loaded : Loaded (loadsOf file) l) where
+module _ (image file : List ℕ) (l : Loads) (loaded : SegmentsIn (loadsOf file) l) where
   -- more load segments than the record holds
   pub again-many : 16 < l .count → againRefusal image file ≡ 7
   unfolding againRefusal

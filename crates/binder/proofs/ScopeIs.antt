@@ -21,7 +21,7 @@ use Rattle.scope.specs.declared.scope.Scoped.{Scoped}
 use Rattle.scope.specs.declared.scope.Scoped.the-variants.{Absent, Found}
 use Rattle.scope.specs.Seats as seats-specs
 use Rattle.scope.specs.Steps.Seats.{seatAt, seatsFrom}
-use Rattle.binder.specs.Instance.{symOf, foundOf}
+use Rattle.binder.specs.Instance.{symOf, definitionFound}
 use Rattle.scope.specs.ScopeCode as searches
 use Rattle.scope.specs.Steps.ScopeCode.{answerAt, scopedBy, guardedBy, orElse, seatAnswer, ownAnswer, scanSeats, resolveSeats, resolveCopySeats}
 use Rattle.binder.specs.Steps.ScopeModel.{scopedOf, SeatOf, SeatedFor}
@@ -33,8 +33,8 @@ scoped-else (Found k d x) b = refl
 
 -- ---- one object
 
-by-found : (k base : ℕ) (o : Obj) (a : Answer) → base ≡ o .base → scopedOf (scopedBy k base a) ≡ model.answerOf k o (foundOf a)
-unfolding scopedOf searches.scopedBy model.answerOf symbols.address
+by-found : (k base : ℕ) (o : Obj) (a : Answer) → base ≡ o .base → scopedOf (scopedBy k base a) ≡ model.scopeAnswer k o (definitionFound a)
+unfolding scopedOf searches.scopedBy model.scopeAnswer symbols.address
 by-found k base o object.Absent h = refl
 by-found k base o (object.Present d) h = rw h
 
@@ -43,7 +43,7 @@ unfolding scopedOf
 picked k d x true = refl
 picked k d x false = refl
 
-by-guarded : (k base : ℕ) (o : Obj) (a : Answer) → base ≡ o .base → scopedOf (guardedBy k base a) ≡ model.protectedOf k o (foundOf a)
+by-guarded : (k base : ℕ) (o : Obj) (a : Answer) → base ≡ o .base → scopedOf (guardedBy k base a) ≡ model.protectedOf k o (definitionFound a)
 unfolding scopedOf searches.guardedBy model.protectedOf symbols.address
 by-guarded k base o object.Absent h = refl
 by-guarded k base o (object.Present d) h = rw h (picked k d (address (o .base) (symOf d)) (d .guarded))
@@ -53,11 +53,11 @@ module _ (at : ℕ) (arena table name : List ℕ) where
     base-is : sum64 at (s .offset) ≡ o .base
     base-is = mod-eq-of-lt (h .small) ∙ sym (h .base)
 
-    seat-is : scopedOf (seatAnswer at arena k s name (gnuHash name) (elfHash name)) ≡ model.answerOf k o (o .find name)
+    seat-is : scopedOf (seatAnswer at arena k s name (gnuHash name) (elfHash name)) ≡ model.scopeAnswer k o (o .find name)
     unfolding searches.seatAnswer
     seat-is =
         by-found k (sum64 at (s .offset)) o (answerAt arena s name (gnuHash name) (elfHash name)) base-is
-        ∙ ap (model.answerOf k o) (sym (h .find name))
+        ∙ ap (model.scopeAnswer k o) (sym (h .find name))
 
     own-is : scopedOf (ownAnswer at arena k s name (gnuHash name) (elfHash name)) ≡ model.protectedOf k o (o .find name)
     unfolding searches.ownAnswer

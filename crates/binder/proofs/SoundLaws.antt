@@ -23,7 +23,7 @@ use Rattle.object.specs.Loaded.{objectRefusal}
 use Rattle.object.specs.Loaded as loading
 use Rattle.object.proofs.RefusalLaws.{after-zero}
 use Rattle.object.proofs.LoadedLaws.{place-fits}
-use Rattle.binder.specs.Instance.{File, imageOf, recordOf, placesOf, wordsOf, relasOf, entryOf, objectAt}
+use Rattle.binder.specs.Instance.{File, fileImage, fileRecord, placesOf, namedWords, relasOf, entryOf, objectAt}
 use Rattle.binder.specs.Verdict.{passed, verdict, noFile, loadVerdict, wordsVerdict, entriesVerdict, objectVerdict, orderVerdict}
 use Rattle.binder.proofs.OutcomeLaws.{first-passed, verdict-passed}
 use Rattle.binder.proofs.InsideLaws.{writable-inside, words-inside, entries-inside}
@@ -63,7 +63,7 @@ module _ (address size : ℕ) where
 
   pub count-is : (h p : File) (fs : List File) → count (objsOf (objectAt address) h p fs) ≡ length fs + 2
   unfolding layouts.objsOf
-  count-is h p fs = omega (arith, layout-length fs (layouts.next (objectAt address) p (layouts.next (objectAt address) h 0)))
+  count-is h p fs = omega (arith, layout-length fs (layouts.nextFree (objectAt address) p (layouts.nextFree (objectAt address) h 0)))
 
   object-is :
       (h p : File) (fs : List File) → loadVerdict size 0 0 (h ∷ (p ∷ fs)) ≡ passed → (k : ℕ) → k < count (objsOf (objectAt address) h p fs)
@@ -133,15 +133,15 @@ module _ (address size : ℕ) (h p : File) (fs : List File) (v : loadVerdict siz
 
   checked :
       (k : ℕ) → 1 ≤ k → k < count set
-      → (wordsVerdict k (recordOf (file k)) (wordsOf (imageOf (file k)) (recordOf (file k))) ≡ passed)
-      × (entriesVerdict set k (imageOf (file k)) (recordOf (file k)) (relasOf (imageOf (file k)) (recordOf (file k))) ≡ passed)
+      → (wordsVerdict k (fileRecord (file k)) (namedWords (fileImage (file k)) (fileRecord (file k))) ≡ passed)
+      × (entriesVerdict set k (fileImage (file k)) (fileRecord (file k)) (relasOf (fileImage (file k)) (fileRecord (file k))) ≡ passed)
   unfolding objectVerdict
   checked k a b =
-      first-passed (wordsVerdict k (recordOf (file k)) (wordsOf (imageOf (file k)) (recordOf (file k)))) _
+      first-passed (wordsVerdict k (fileRecord (file k)) (namedWords (fileImage (file k)) (fileRecord (file k)))) _
       (order-checked set (h ∷ (p ∷ fs)) order w k (in-order (count set) order once k a b))
 
   inner :
-      (k : ℕ) → k < count set → (q n : ℕ) → inWritable (recordOf (file k) .segments) q n ≡ true → q + n ≤ (obj set k) .span
+      (k : ℕ) → k < count set → (q n : ℕ) → inWritable (fileRecord (file k) .segments) q n ≡ true → q + n ≤ (obj set k) .span
   unfolding objectAt
   inner k b q n e =
       let s = ap (λ (o : Obj). o .span) (object-is address size h p fs v k b .is) in
@@ -154,17 +154,17 @@ module _ (address size : ℕ) (h p : File) (fs : List File) (v : loadVerdict siz
         apart = objs-apart (objectAt address) (λ f off. omega arith) h p fs;
         words-in = λ k a b q m.
             let s = object-is address size h p fs v k b in
-            let ws : List ℕ = placesOf (wordsOf (imageOf (file k)) (recordOf (file k))) in
+            let ws : List ℕ = placesOf (namedWords (fileImage (file k)) (fileRecord (file k))) in
             let in-file : List·Memᴰ q ws =
             from-pick (file k .host) ws (subst (λ (l : List ℕ). List·Memᴰ q l) (ap (λ (o : Obj). o .words) (s .is)) m) in
             inner k b q 8
-            (words-inside k (recordOf (file k)) (wordsOf (imageOf (file k)) (recordOf (file k))) (checked k a b .0) q in-file);
+            (words-inside k (fileRecord (file k)) (namedWords (fileImage (file k)) (fileRecord (file k))) (checked k a b .0) q in-file);
         entries-in = λ k a b x m.
             let s = object-is address size h p fs v k b in
             let es : List Entry =
-            map (entryOf (imageOf (file k)) (recordOf (file k)) (address + s .off)) (relasOf (imageOf (file k)) (recordOf (file k))) in
+            map (entryOf (fileImage (file k)) (fileRecord (file k)) (address + s .off)) (relasOf (fileImage (file k)) (fileRecord (file k))) in
             let in-file : List·Memᴰ x es =
             from-pick (file k .host) es (subst (λ (l : List Entry). List·Memᴰ x l) (ap (λ (o : Obj). o .entries) (s .is)) m) in
-            entries-inside set k (imageOf (file k)) (recordOf (file k)) (address + s .off) (inner k b)
-            (relasOf (imageOf (file k)) (recordOf (file k))) (checked k a b .1) x in-file;
+            entries-inside set k (fileImage (file k)) (fileRecord (file k)) (address + s .off) (inner k b)
+            (relasOf (fileImage (file k)) (fileRecord (file k))) (checked k a b .1) x in-file;
       }

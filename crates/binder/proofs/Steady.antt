@@ -13,7 +13,7 @@ use Rattle.object.specs.Record.{isTableOf}
 use Rattle.object.specs.Invariant.{SameReadings}
 use Rattle.object.specs.Placed.{objectSpan}
 use Rattle.object.specs.declared.hash_tables.Definition.{Definition}
-use Rattle.binder.specs.Instance.{File, imageOf, recordOf, symOf, objectAt}
+use Rattle.binder.specs.Instance.{File, fileImage, fileRecord, symOf, objectAt}
 use Rattle.binder.specs.Verdict.{passed, loadVerdict, noFile, copyOk}
 use Rattle.scope.specs.Steps.Seats.{seatAt}
 use Rattle.binder.specs.Steps.Prepared.{seatOf, placeFiles, Seated}
@@ -41,12 +41,12 @@ module _ (address size : ℕ) (table : List ℕ) (h p : File) (fs : List File) w
 
   -- the bytes of object `k` are as they were placed
   abbrev pub PlacedAt : List ℕ → ℕ → Type 0
-  PlacedAt a k = imageAt a (seatAt table k) ≡ imageOf (fileAt k)
+  PlacedAt a k = imageAt a (seatAt table k) ≡ fileImage (fileAt k)
 
   -- the table bytes of every object are
   pub record Steady (a : List ℕ) : Type 0 where
     pub size-is : length a ≡ size
-    pub tables : (k : ℕ) → k < count set → Agree (isTableOf (recordOf (fileAt k))) (imageOf (fileAt k)) (imageAt a (seatAt table k))
+    pub tables : (k : ℕ) → k < count set → Agree (isTableOf (fileRecord (fileAt k))) (fileImage (fileAt k)) (imageAt a (seatAt table k))
 
   -- where object `k` lies
   pub record At (k : ℕ) : Type 0 where
@@ -77,7 +77,7 @@ module _ (address size : ℕ) (table : List ℕ) (h p : File) (fs : List File) w
   abbrev pub Readings : Type 0
   Readings =
       LoadedSet → (a : List ℕ) → Steady a → (k : ℕ) → k < count set
-      → SameReadings (fileAt k .host) (recordOf (fileAt k)) (imageOf (fileAt k)) (imageAt a (seatAt table k))
+      → SameReadings (fileAt k .host) (fileRecord (fileAt k)) (fileImage (fileAt k)) (imageAt a (seatAt table k))
 
   abbrev pub Searches : Type 0
   Searches =
@@ -91,12 +91,12 @@ module _ (address size : ℕ) (table : List ℕ) (h p : File) (fs : List File) w
   -- a range in a writable segment ends inside the span
   abbrev pub WritableInside : Type 0
   WritableInside =
-      (k q n : ℕ) → inWritable (recordOf (fileAt k) .segments) q n ≡ true → q + n ≤ objectSpan (fileAt k .host) (fileAt k .bytes)
+      (k q n : ℕ) → inWritable (fileRecord (fileAt k) .segments) q n ≡ true → q + n ≤ objectSpan (fileAt k .host) (fileAt k .bytes)
 
   -- a write there
   abbrev pub Writes : Type 0
   Writes =
-      LoadedSet → (a : List ℕ) → Steady a → (k : ℕ) → k < count set → (q n : ℕ) → inWritable (recordOf (fileAt k) .segments) q n ≡ true
+      LoadedSet → (a : List ℕ) → Steady a → (k : ℕ) → k < count set → (q n : ℕ) → inWritable (fileRecord (fileAt k) .segments) q n ≡ true
       → (g : ℕ → ℕ)
       → Written a (patch a ((obj set k) .offset + q) n g) k
       × (mem (patch a ((obj set k) .offset + q) n g) ≡ write (mem a) ((obj set k) .offset + q) n g)
@@ -111,11 +111,11 @@ module _ (address size : ℕ) (table : List ℕ) (h p : File) (fs : List File) w
   abbrev pub Counts : Type 0
   Counts =
       LoadedSet → (k : ℕ) → 1 ≤ k → k < count set
-      → (24 * recordOf (fileAt k) .relas ≤ 2 ^ 28) × (24 * recordOf (fileAt k) .plts ≤ 2 ^ 28) × (8 * recordOf (fileAt k) .relrs ≤ 2 ^ 28)
+      → (24 * fileRecord (fileAt k) .relas ≤ 2 ^ 28) × (24 * fileRecord (fileAt k) .plts ≤ 2 ^ 28) × (8 * fileRecord (fileAt k) .relrs ≤ 2 ^ 28)
 
   -- the record that is read again at the object's turn
   abbrev pub Again : Type 0
   Again =
       LoadedSet → (a : List ℕ) (k : ℕ) → 1 ≤ k → k < count set → PlacedAt a k
       → (againRefusal (imageIn a (turnOf address table k)) (fileAt k .bytes) ≡ 0)
-      × (againRecord (imageIn a (turnOf address table k)) (fileAt k .bytes) ≡ recordOf (fileAt k))
+      × (againRecord (imageIn a (turnOf address table k)) (fileAt k .bytes) ≡ fileRecord (fileAt k))

@@ -28,7 +28,7 @@ use Rattle.object.specs.TableBytes.{isWritable, holdsRange, isTable, tableBytes
 use Rattle.object.specs.TableBytes as tables
 use Rattle.object.specs.Record.{Record, isTableOf, needsOk, relocationsOk, tablesOk, fieldsRefusal, readRefusal, recordIn}
 use Rattle.object.specs.Record as records
-use Rattle.object.specs.DynamicFields.{fieldsOf, needsOf}
+use Rattle.object.specs.DynamicFields.{fieldsOf, neededOffsets}
 use Rattle.object.specs.Placed.{segmentsOf, objectSpan, placeRefusal}
 use Rattle.object.specs.Placed as placing
 use Rattle.object.specs.Loaded.{objectRefusal}
@@ -39,7 +39,7 @@ use Rattle.object.specs.declared.program_header.Dynamic.the-variants.{Missing, 
 use Rattle.object.proofs.Ranges.{spares, seg-in, below-at, table-inside}
 use Rattle.object.proofs.RefusalLaws.{required, after-zero}
 use Rattle.object.proofs.ReadingsSame.{invariance}
-use Rattle.binder.specs.Instance.{File, imageOf, recordOf, objectAt}
+use Rattle.binder.specs.Instance.{File, fileImage, fileRecord, objectAt}
 use Rattle.binder.specs.Verdict.{noFile, copyOk}
 use Rattle.scope.specs.Steps.Seats.{seatAt}
 use Rattle.binder.specs.Steps.Prepared.{seatOf, placeFiles}
@@ -83,36 +83,36 @@ table-few span ss at (suc n) e =
     omega (arith, table-inside span ss (at + n) (below-at (λ k. isTable span ss (at + k)) (suc n) n e (omega arith)))
 
 -- the span of the record
-record-span : (image : List ℕ) (ss : List Segment) (d : Dynamic) → records.recordOf image ss d .span ≡ length image
-unfolding records.recordOf records.recordIn
+record-span : (image : List ℕ) (ss : List Segment) (d : Dynamic) → records.recordAt image ss d .span ≡ length image
+unfolding records.recordAt records.recordIn
 record-span image ss Missing = refl
 record-span image ss (At at) = refl
 
-file-span : (f : File) → recordOf f .span ≡ objectSpan (f .host) (f .bytes)
+file-span : (f : File) → fileRecord f .span ≡ objectSpan (f .host) (f .bytes)
 unfolding loading.objectRecord
-file-span f = record-span (imageOf f) (segmentsOf (f .host) (f .bytes)) (dynamicOf (f .bytes)) ∙ length-tab (objectSpan (f .host) (f .bytes)) _
+file-span f = record-span (fileImage f) (segmentsOf (f .host) (f .bytes)) (dynamicOf (f .bytes)) ∙ length-tab (objectSpan (f .host) (f .bytes)) _
 
 -- ---- a file that was loaded
 
 -- refusals 9 to 12 passed: what is read is table bytes
 read-tables :
     (host : Bool) (image : List ℕ) (ss : List Segment) (d : Dynamic) → readRefusal host image ss d ≡ 0
-    → tablesOk host image (records.recordOf image ss d) ≡ true
-unfolding records.readRefusal records.recordOf
+    → tablesOk host image (records.recordAt image ss d) ≡ true
+unfolding records.readRefusal records.recordAt
 read-tables host image ss Missing e = absurd (omega arith)
 read-tables host image ss (At at) e =
     let a = after-zero (fieldsRefusal (fieldsOf image at)) _ e in
-    let b = required (leb (length (needsOf image at)) 64) 10 _ (a .1) in
-    required (tablesOk host image (recordIn image ss (fieldsOf image at) (needsOf image at))) 11 0 (b .1) .0
+    let b = required (leb (length (neededOffsets image at)) 64) 10 _ (a .1) in
+    required (tablesOk host image (recordIn image ss (fieldsOf image at) (neededOffsets image at))) 11 0 (b .1) .0
 
 module _ (f : File) (room : ℕ) (e : objectRefusal (f .host) room (f .bytes) ≡ 0) where
-  load-read : readRefusal (f .host) (imageOf f) (segmentsOf (f .host) (f .bytes)) (dynamicOf (f .bytes)) ≡ 0
+  load-read : readRefusal (f .host) (fileImage f) (segmentsOf (f .host) (f .bytes)) (dynamicOf (f .bytes)) ≡ 0
   unfolding loading.objectRefusal
   load-read = after-zero (placeRefusal (f .host) room (f .bytes)) _ e .1
 
-  load-tables : tablesOk (f .host) (imageOf f) (recordOf f) ≡ true
+  load-tables : tablesOk (f .host) (fileImage f) (fileRecord f) ≡ true
   unfolding loading.objectRecord
-  load-tables = read-tables (f .host) (imageOf f) (segmentsOf (f .host) (f .bytes)) (dynamicOf (f .bytes)) load-read
+  load-tables = read-tables (f .host) (fileImage f) (segmentsOf (f .host) (f .bytes)) (dynamicOf (f .bytes)) load-read
 
   -- of a file that is not the host's
   module _ (z : f .host ≡ false) where
@@ -128,18 +128,18 @@ module _ (f : File) (room : ℕ) (e : objectRefusal (f .host) room (f .bytes) �
     unfolding placing.segmentsOf
     load-segments = rw z refl
 
-    load-relocations : relocationsOk (recordOf f) ≡ true
+    load-relocations : relocationsOk (fileRecord f) ≡ true
     unfolding records.tablesOk
     load-relocations =
-        let a = both-true (needsOk (imageOf f) (recordOf f)) _ load-tables in
-        let b = both-true (either (f .host) (relocationsOk (recordOf f))) _ (a .1) in
-        sym (ap (λ (host : Bool). either host (relocationsOk (recordOf f))) z) ∙ b .0
+        let a = both-true (needsOk (fileImage f) (fileRecord f)) _ load-tables in
+        let b = both-true (either (f .host) (relocationsOk (fileRecord f))) _ (a .1) in
+        sym (ap (λ (host : Bool). either host (relocationsOk (fileRecord f))) z) ∙ b .0
 
     load-counts :
-        (24 * recordOf f .relas ≤ recordOf f .span) × (24 * recordOf f .plts ≤ recordOf f .span) × (8 * recordOf f .relrs ≤ recordOf f .span)
+        (24 * fileRecord f .relas ≤ fileRecord f .span) × (24 * fileRecord f .plts ≤ fileRecord f .span) × (8 * fileRecord f .relrs ≤ fileRecord f .span)
     unfolding records.relocationsOk
     load-counts =
-        let r : Record = recordOf f in
+        let r : Record = fileRecord f in
         let a = both-true (tableBytes (isTableOf r) (r .rela) (24 * r .relas)) _ load-relocations in
         let b = both-true (tableBytes (isTableOf r) (r .plt) (24 * r .plts)) (tableBytes (isTableOf r) (r .relr) (8 * r .relrs)) (a .1) in (
           table-few (r .span) (r .segments) (r .rela) (24 * r .relas) (a .0),
@@ -228,7 +228,7 @@ module _ (address size : ℕ) (table : List ℕ) (h p : File) (fs : List File) w
 
   pub readings : steady.Readings address size table h p fs
   readings s a st k l =
-      invariance (fileAt k .host) (recordOf (fileAt k)) (imageOf (fileAt k)) (imageAt a (seatAt table k))
+      invariance (fileAt k .host) (fileRecord (fileAt k)) (fileImage (fileAt k)) (imageAt a (seatAt table k))
       (load-tables (fileAt k) (size - (obj set k) .offset) (loaded-at s k l))
       (length-at s a (st .size-is) k l ∙ sym (length-tab (spanAt k) _)) (st .tables k l)
 
@@ -277,7 +277,7 @@ module _ (address size : ℕ) (table : List ℕ) (h p : File) (fs : List File) w
       (k : ℕ)
       (l : k < count set)
       (q n : ℕ)
-      (w : inWritable (recordOf (fileAt k) .segments) q n ≡ true)
+      (w : inWritable (fileRecord (fileAt k) .segments) q n ≡ true)
       (g : ℕ → ℕ)
     where
       abbrev to : ℕ
@@ -323,26 +323,26 @@ module _ (address size : ℕ) (table : List ℕ) (h p : File) (fs : List File) w
           out i z (inr b) = inr (omega (arith, room))
 
       own-kept :
-          (i : ℕ) → isTableOf (recordOf (fileAt k)) i ≡ true
+          (i : ℕ) → isTableOf (fileRecord (fileAt k)) i ≡ true
           → mem (imageAt after (seatAt table k)) i ≡ mem (imageAt a (seatAt table k)) i
       own-kept i t =
-          kept k l i (omega (arith, table-inside (recordOf (fileAt k) .span) (recordOf (fileAt k) .segments) i t, file-span (fileAt k)))
+          kept k l i (omega (arith, table-inside (fileRecord (fileAt k) .span) (fileRecord (fileAt k) .segments) i t, file-span (fileAt k)))
           (⊎-elim
           (λ (v : In to n ((obj set k) .offset + i)).
-          absurd (table-out (recordOf (fileAt k) .span) (recordOf (fileAt k) .segments) q n i w t (omega arith)))
+          absurd (table-out (fileRecord (fileAt k) .span) (fileRecord (fileAt k) .segments) q n i w t (omega arith)))
           (λ v. v)
           (in-or-out to n ((obj set k) .offset + i)))
 
       -- so the table bytes stay
       tables-kept :
-          (j : ℕ) → j < count set → (i : ℕ) → isTableOf (recordOf (fileAt j)) i ≡ true
+          (j : ℕ) → j < count set → (i : ℕ) → isTableOf (fileRecord (fileAt j)) i ≡ true
           → mem (imageAt after (seatAt table j)) i ≡ mem (imageAt a (seatAt table j)) i
       tables-kept j x i t = go (ℕ-discrete j k)
         where
           go : Dec (j ≡ k) → mem (imageAt after (seatAt table j)) i ≡ mem (imageAt a (seatAt table j)) i
           go (yes e) =
               subst
-              (λ (c : ℕ). isTableOf (recordOf (fileAt c)) i ≡ true → mem (imageAt after (seatAt table c)) i ≡ mem (imageAt a (seatAt table c)) i)
+              (λ (c : ℕ). isTableOf (fileRecord (fileAt c)) i ≡ true → mem (imageAt after (seatAt table c)) i ≡ mem (imageAt a (seatAt table c)) i)
               (sym e) (own-kept i) t
           go (no ne) = ap (λ (image : List ℕ). mem image i) (others-kept j x ne)
 
@@ -377,7 +377,7 @@ module _ (address size : ℕ) (table : List ℕ) (h p : File) (fs : List File) w
   pub counts : steady.Counts address size table h p fs
   counts s k g l =
       let c = load-counts (fileAt k) (size - (obj set k) .offset) (loaded-at s k l) (s .others k g l) in
-      let e : recordOf (fileAt k) .span ≤ 2 ^ 28 = omega (arith, file-span (fileAt k), lies s k l .fits, s .small) in
+      let e : fileRecord (fileAt k) .span ≤ 2 ^ 28 = omega (arith, file-span (fileAt k), lies s k l .fits, s .small) in
       (omega (arith, c .0), omega (arith, c .1), omega (arith, c .2))
 
   pub again : steady.Again address size table h p fs
@@ -391,8 +391,8 @@ module _ (address size : ℕ) (table : List ℕ) (h p : File) (fs : List File) w
       let ss : loadsOf (f .bytes) ≡ segmentsOf (f .host) (f .bytes) = load-segments f room loaded host in (
         rw (load-few f room loaded host)
             (ap (λ (image : List ℕ). readRefusal false image (loadsOf (f .bytes)) d) placed
-            ∙ (ap (λ (b : Bool). readRefusal b (imageOf f) (loadsOf (f .bytes)) d) (sym host)
-            ∙ (ap (λ (x : List Segment). readRefusal (f .host) (imageOf f) x d) ss ∙ load-read f room loaded))),
-        ap (λ (image : List ℕ). records.recordOf image (loadsOf (f .bytes)) d) placed
-            ∙ ap (λ (x : List Segment). records.recordOf (imageOf f) x d) ss,
+            ∙ (ap (λ (b : Bool). readRefusal b (fileImage f) (loadsOf (f .bytes)) d) (sym host)
+            ∙ (ap (λ (x : List Segment). readRefusal (f .host) (fileImage f) x d) ss ∙ load-read f room loaded))),
+        ap (λ (image : List ℕ). records.recordAt image (loadsOf (f .bytes)) d) placed
+            ∙ ap (λ (x : List Segment). records.recordAt (fileImage f) x d) ss,
       )

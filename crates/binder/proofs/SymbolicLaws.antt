@@ -30,7 +30,7 @@ use Rattle.binder.specs.declared.turn.Turn.{Turn}
 use Rattle.binder.specs.declared.relocate.Symbols.{Symbols}
 use Rattle.binder.specs.declared.relocate.Run.{Run}
 use Rattle.binder.specs.declared.relocate.Address.the-variants.{Nowhere, At}
-use Rattle.binder.specs.Steps.Relocating.{Left, left, keeps, imageIn, foundOf, soughtFor, answeredOf, symbolicOf, runAction}
+use Rattle.binder.specs.Steps.Relocating.{Left, left, keeps, imageIn, writeFound, soughtFor, answeredOf, symbolicOf, runAction}
 use Rattle.binder.specs.Steps.RunSteps.{EntriesPassed, SymbolsOf, addressIn, SymbolsPassed}
 use Rattle.binder.proofs.RunLaws.{entriesLeft, entry-goes}
 use Rattle.binder.proofs.RelativeLaws.{number-in}
@@ -109,14 +109,14 @@ module _
         q = keeps (s .last) (s .address) p
 
         -- the search found it
-        sought : (x : Scoped) → At found ≡ addressIn x → left (keeps (e .symbol + 1) found p) b report ≡ foundOf t e i y-here x q a report
-        unfolding foundOf
+        sought : (x : Scoped) → At found ≡ addressIn x → left (keeps (e .symbol + 1) found p) b report ≡ writeFound t e i y-here x q a report
+        unfolding writeFound
         sought Absent h = at-nowhere found h
         sought (Found o d v) h = rw (written, place-here, at-same found v h)
 
         answered : (c : Bool) → eqb (s .last) (e .symbol + 1) ≡ c → (x : Scoped) → At found ≡ pick c (At (s .address)) (addressIn x)
             → left (keeps (e .symbol + 1) found p) b report
-            ≡ pick c (left q (patch a (t .offset + e .place) 8 (byteOf (s .address))) report) (foundOf t e i y-here x q a report)
+            ≡ pick c (left q (patch a (t .offset + e .place) 8 (byteOf (s .address))) report) (writeFound t e i y-here x q a report)
         answered true h x g = rw (written, place-here, at-same found (s .address) g, eqb-true (s .last) (e .symbol + 1) h)
         answered false h x g = sought x g
 

@@ -13,9 +13,9 @@ use Rattle.model.proofs.OrderLaws.{either-assoc}
 use Rattle.object.specs.Entries.{relaAt, relasFrom, actionOf}
 use Rattle.object.specs.Record.{Record}
 use Rattle.object.specs.declared.relocate.Rela.{Rela}
-use Rattle.binder.specs.Instance.{File, imageOf, recordOf, relasOf, entryOf}
+use Rattle.binder.specs.Instance.{File, fileImage, fileRecord, relasOf, entryOf}
 use Rattle.binder.specs.Verdict.{passed, first, verdict, entryRefusal, entriesVerdict}
-use Rattle.binder.specs.Report.{reportWord, isUndefined, isPassed, entryWords}
+use Rattle.binder.specs.Report.{reportWord, isUndefined, isPassed, entryReport}
 use Rattle.binder.specs.Steps.Relocating.{left, imageIn, cutTo32, turnOf, runAction, runTable, runTables}
 use Rattle.binder.specs.declared.turn.Turn.{Turn}
 use Rattle.binder.specs.declared.report.Progress.{Progress}
@@ -67,12 +67,12 @@ module _ (S : Objs) (k : ℕ) (image : List ℕ) (r : Record) where
       ∙ sym (first-assoc (verdict (entryRefusal S k image r x) k) (entriesVerdict S k image r xs) (entriesVerdict S k image r ys))
 
   words-append :
-      (i j : ℕ) (xs ys : List Rela) → j ≡ i + length xs → entryWords S k image r i (xs ++ ys) ≡ entryWords S k image r i xs ++ entryWords S k image r j ys
-  unfolding entryWords
-  words-append i j [] ys e = ap (λ (i : ℕ). entryWords S k image r i ys) (omega arith)
+      (i j : ℕ) (xs ys : List Rela) → j ≡ i + length xs → entryReport S k image r i (xs ++ ys) ≡ entryReport S k image r i xs ++ entryReport S k image r j ys
+  unfolding entryReport
+  words-append i j [] ys e = ap (λ (i : ℕ). entryReport S k image r i ys) (omega arith)
   words-append i j (x ∷ xs) ys e =
       ap (λ (l : List ℕ). entryWord S k image r i x ++ l) (words-append (i + 1) j xs ys (omega arith))
-      ∙ sym (append-assoc (entryWord S k image r i x) (entryWords S k image r (i + 1) xs) (entryWords S k image r j ys))
+      ∙ sym (append-assoc (entryWord S k image r i x) (entryReport S k image r (i + 1) xs) (entryReport S k image r j ys))
 
   effects-append :
       (g : Rela → Entry) (xs ys : List Rela) (m : Mem) → effects S k (map g (xs ++ ys)) m ≡ effects S k (map g ys) (effects S k (map g xs) m)
@@ -94,10 +94,10 @@ module _ (address size : ℕ) (table : List ℕ) (h pr : File) (fs : List File) 
   f = fileAt address size table h pr fs k
 
   abbrev r : Record
-  r = recordOf f
+  r = fileRecord f
 
   abbrev image : List ℕ
-  image = imageOf f
+  image = fileImage f
 
   abbrev Does : List ℕ → ℕ → Mem → Progress → List ℕ → List ℕ → Type 0
   Does = Doing address size table h pr fs L k lo hi n a₀
@@ -105,7 +105,7 @@ module _ (address size : ℕ) (table : List ℕ) (h pr : File) (fs : List File) 
   -- after entries, the first of which has the number `i`
   abbrev pub Entered : List ℕ → ℕ → Mem → ℕ → List Rela → Progress → List ℕ → List ℕ → Type 0
   Entered ws u m i es =
-      Does (ws ++ entryWords S k image r i es) (earlier u (pick (some (isUndefined S k image r) es) k 0))
+      Does (ws ++ entryReport S k image r i es) (earlier u (pick (some (isUndefined S k image r) es) k 0))
       (effects S k (map (entryOf image r ((obj S k) .base)) es) m)
 
   -- more entries after one, and after several
@@ -114,17 +114,17 @@ module _ (address size : ℕ) (table : List ℕ) (h pr : File) (fs : List File) 
       → Entered (ws ++ entryWord S k image r i x) (earlier u (pick (isUndefined S k image r x) k 0))
       (effect S k (entryOf image r ((obj S k) .base) x) m) (i + 1) ys p a report
       → Entered ws u m i (x ∷ ys) p a report
-  unfolding entryWords some effects
+  unfolding entryReport some effects
   entered-more ws u m i x ys p a report d =
       rw (
-        ← append-assoc ws (entryWord S k image r i x) (entryWords S k image r (i + 1) ys),
+        ← append-assoc ws (entryWord S k image r i x) (entryReport S k image r (i + 1) ys),
         ← mark-twice (isUndefined S k image r x) (some (isUndefined S k image r) ys) u k lo,
       )
       d
 
   entered-join :
       (ws : List ℕ) (u : ℕ) (m : Mem) (i j : ℕ) (xs ys : List Rela) → j ≡ i + length xs → (p : Progress) (a report : List ℕ)
-      → Entered (ws ++ entryWords S k image r i xs) (earlier u (pick (some (isUndefined S k image r) xs) k 0))
+      → Entered (ws ++ entryReport S k image r i xs) (earlier u (pick (some (isUndefined S k image r) xs) k 0))
       (effects S k (map (entryOf image r ((obj S k) .base)) xs) m) j ys p a report
       → Entered ws u m i (xs ++ ys) p a report
   entered-join ws u m i j xs ys e p a report d =
@@ -132,7 +132,7 @@ module _ (address size : ℕ) (table : List ℕ) (h pr : File) (fs : List File) 
         words-append S k image r i j xs ys e,
         some-append (isUndefined S k image r) xs ys,
         effects-append S k image r (entryOf image r ((obj S k) .base)) xs ys m,
-        ← append-assoc ws (entryWords S k image r i xs) (entryWords S k image r j ys),
+        ← append-assoc ws (entryReport S k image r i xs) (entryReport S k image r j ys),
         ← mark-twice (some (isUndefined S k image r) xs) (some (isUndefined S k image r) ys) u k lo,
       )
       d
@@ -158,7 +158,7 @@ module _ (address size : ℕ) (table : List ℕ) (h pr : File) (fs : List File) 
         (c i j : ℕ) → i ≡ start + j → j + c ≤ c′ → (ws : List ℕ) (u : ℕ) (m : Mem) (p : Progress) (a report : List ℕ) → Does ws u m p a report
         → Ran size n (entriesVerdict S k image r (relasFrom image at j c)) (Entered ws u m i (relasFrom image at j c))
         (runTable address table (count S) t r at start c j (left p a report))
-    unfolding runTable relasFrom entriesVerdict entryWords some effects
+    unfolding runTable relasFrom entriesVerdict entryReport some effects
     table-ran zero i j e b ws u m p a report d =
         plain address size table h pr fs L k lo hi n a₀ ws u m p a report d passed m a refl (d .written) (d .memory)
     table-ran (suc c) i j e b ws u m p a report d =
@@ -200,13 +200,13 @@ module _ (address size : ℕ) (table : List ℕ) (h pr : File) (fs : List File) 
       (runTable address table (count S) t r (r .plt) (r .relas) (r .plts) 0)
       (λ p′ a′ report′ d′.
       ran-weaker size n (entriesVerdict S k image r ys)
-      (Entered (ws ++ entryWords S k image r 0 xs) (earlier u (pick (some (isUndefined S k image r) xs) k 0))
+      (Entered (ws ++ entryReport S k image r 0 xs) (earlier u (pick (some (isUndefined S k image r) xs) k 0))
       (effects S k (map (entryOf image r ((obj S k) .base)) xs) m) (r .relas) ys)
       (Entered ws u m 0 (xs ++ ys))
       (entered-join ws u m 0 (r .relas) xs ys (omega (arith, relas-length image (r .rela) 0 (r .relas))))
       (runTable address table (count S) t r (r .plt) (r .relas) (r .plts) 0 (left p′ a′ report′))
       (table-ran (r .plt) (r .relas) (r .plts) (omega (arith, few .0, few .1)) (λ a s. entry-same image (imageIn a t) (r .plt) (r .plts) (readings address size table h pr fs L a s k hi .plts o)) (r .plts) (r .relas) 0 (omega arith) (omega arith)
-      (ws ++ entryWords S k image r 0 xs) (earlier u (pick (some (isUndefined S k image r) xs) k 0))
+      (ws ++ entryReport S k image r 0 xs) (earlier u (pick (some (isUndefined S k image r) xs) k 0))
       (effects S k (map (entryOf image r ((obj S k) .base)) xs) m) p′ a′ report′ d′))
       (runTable address table (count S) t r (r .rela) 0 (r .relas) 0 (left p a report))
       (table-ran (r .rela) 0 (r .relas) (omega (arith, few .0)) (λ a s. entry-same image (imageIn a t) (r .rela) (r .relas) (readings address size table h pr fs L a s k hi .relas o)) (r .relas) 0 0 (omega arith) (omega arith) ws u m p a report d))

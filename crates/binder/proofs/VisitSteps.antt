@@ -17,7 +17,7 @@ use Rattle.words.proofs.Slices.{mem-tab, length-tab}
 use Rattle.model.specs.Order as order
 use Rattle.model.specs.Order.{has, listed, fresh, lastFirst, visit}
 use Rattle.model.proofs.OrderLaws.{decide, passed, fresh-moved, visit-fresh}
-use Rattle.binder.specs.Steps.Table.{needsOf}
+use Rattle.binder.specs.Steps.Table.{needsRow}
 use Rattle.binder.specs.Steps.OrderState.{State, unmarked, ordered, used, Room, Marks, Visited}
 
 -- the loop over the needs of k: those from i on are visited, from the last
@@ -25,7 +25,7 @@ pub record Turn (table : List ℕ) (depth k : ℕ) (w₀ w : State) (i : ℕ) : 
   pub room : Room w
   pub within : used w ≤ used w₀
   pub small : i ≤ 64
-  pub same : (libs : ℕ) (path : List ℕ) → Marks libs path w₀ → ordered w ≡ lastFirst (visit (needsOf table) libs (depth - 1) path) (drop i (needsOf table k)) (ordered w₀)
+  pub same : (libs : ℕ) (path : List ℕ) → Marks libs path w₀ → ordered w ≡ lastFirst (visit (needsRow table) libs (depth - 1) path) (drop i (needsRow table k)) (ordered w₀)
   pub marked : (libs : ℕ) (path : List ℕ) → Marks libs path w₀ → Marks libs path w
 
 -- o with k marked
@@ -62,7 +62,7 @@ marked-already {table} {depth} {k} {o} h r =
     record {
       room = r;
       within = omega arith;
-      same = λ libs path m. sym (passed (needsOf table) libs depth path k (ordered o) (not-false (fresh libs path k (ordered o)) (sym h ∙ m k)));
+      same = λ libs path m. sym (passed (needsRow table) libs depth path k (ordered o) (not-false (fresh libs path k (ordered o)) (sym h ∙ m k)));
       marked = λ libs path m. m;
     }
 
@@ -87,17 +87,17 @@ first-turn {table} {depth} {k} {w} r =
       room = r;
       within = omega arith;
       small = omega arith;
-      same = λ libs path m. rw (drop-of-length-le (needsOf table k) {i = 64} (omega (arith, length-tab 64 (from (k * 64) (mem table)))));
+      same = λ libs path m. rw (drop-of-length-le (needsRow table k) {i = 64} (omega (arith, length-tab 64 (from (k * 64) (mem table)))));
       marked = λ libs path m. m;
     }
 
 -- the need j at place i of k
-need-at : (table : List ℕ) (k i : ℕ) {i′ j : ℕ} → i < 64 → suc i ≡ i′ → j ≡ mem table (k * 64 + i) → drop i (needsOf table k) ≡ j ∷ drop i′ (needsOf table k)
+need-at : (table : List ℕ) (k i : ℕ) {i′ j : ℕ} → i < 64 → suc i ≡ i′ → j ≡ mem table (k * 64 + i) → drop i (needsRow table k) ≡ j ∷ drop i′ (needsRow table k)
 unfolding memory.mem
 need-at table k i {i′} {j} hi e ej =
-    drop-cons (needsOf table k) i 0 (omega (arith, length-tab 64 (from (k * 64) (mem table))))
-    ∙ ap (λ (x : ℕ). x ∷ drop (suc i) (needsOf table k)) (mem-tab 64 (from (k * 64) (mem table)) i hi ∙ sym ej)
-    ∙ ap (λ (m : ℕ). j ∷ drop m (needsOf table k)) e
+    drop-cons (needsRow table k) i 0 (omega (arith, length-tab 64 (from (k * 64) (mem table))))
+    ∙ ap (λ (x : ℕ). x ∷ drop (suc i) (needsRow table k)) (mem-tab 64 (from (k * 64) (mem table)) i hi ∙ sym ej)
+    ∙ ap (λ (m : ℕ). j ∷ drop m (needsRow table k)) e
 
 -- a turn
 pub next-turn : {table : List ℕ} {depth k : ℕ} {w₀ w w′ : State} {i j : ℕ} → 0 < i → j ≡ mem table (k * 64 + (i - 1))
@@ -110,7 +110,7 @@ next-turn {table} {depth} {k} {w₀} {w} {w′} {i} {j} hi ej t v =
       within = omega (arith, v .within, t .within);
       small = omega (arith, t .small);
       same = λ libs path m.
-          let f : ℕ → List ℕ → List ℕ = visit (needsOf table) libs (depth - 1) path in
+          let f : ℕ → List ℕ → List ℕ = visit (needsRow table) libs (depth - 1) path in
           v .same libs path (t .marked libs path m)
           ∙ ap (λ (l : List ℕ). f j l) (t .same libs path m)
           ∙ sym (ap (λ (l : List ℕ). lastFirst f l (ordered w₀)) (need-at table k (i - 1) lt back ej));
@@ -146,9 +146,9 @@ finish {table} {depth} {k} {i} {o} {w} hl hk hs r hi t =
       within = omega (arith, t .within);
       same = λ libs path m.
           let f : fresh libs path k (ordered o) ≡ true = not-true (fresh libs path k (ordered o)) (sym hs ∙ m k) in
-          let ks : List ℕ = needsOf table k in
-          let g : ℕ → List ℕ → List ℕ = visit (needsOf table) libs (depth - 1) (k ∷ path) in
+          let ks : List ℕ = needsRow table k in
+          let g : ℕ → List ℕ → List ℕ = visit (needsRow table) libs (depth - 1) (k ∷ path) in
           let all : ordered w ≡ lastFirst g ks (ordered o) = t .same libs (k ∷ path) (marks-mark libs path k o (omega (arith, r .marks)) m) ∙ ap (λ (z : ℕ). lastFirst g (drop z ks) (ordered o)) at0 in
-          end ∙ ap (λ (l : List ℕ). l ++ (k ∷ [])) all ∙ sym (visit-fresh (needsOf table) libs depth (depth - 1) path k (ordered o) deep f);
+          end ∙ ap (λ (l : List ℕ). l ++ (k ∷ [])) all ∙ sym (visit-fresh (needsRow table) libs depth (depth - 1) path k (ordered o) deep f);
       marked = λ libs path m j. t .marked libs (k ∷ path) (marks-mark libs path k o (omega (arith, r .marks)) m) j ∙ rw (fresh-moved, end);
     }

@@ -28,19 +28,19 @@ pub record File : Type 0 where
   pub host : Bool
   pub bytes : List ℕ
 
-abbrev pub imageOf : File → List ℕ
-imageOf f = objectImage (f .host) (f .bytes)
+abbrev pub fileImage : File → List ℕ
+fileImage f = objectImage (f .host) (f .bytes)
 
-abbrev pub recordOf : File → Record
-recordOf f = objectRecord (f .host) (f .bytes)
+abbrev pub fileRecord : File → Record
+fileRecord f = objectRecord (f .host) (f .bytes)
 
 -- a symbol that answers
 abbrev pub symOf : Definition → Sym
 symOf d = record { index = d .index; value = d .value; size = d .size; protected = d .guarded; absolute = d .absolute }
 
-abbrev pub foundOf : Answer → Found
-foundOf Absent = none
-foundOf (Present d) = hit (symOf d)
+abbrev pub definitionFound : Answer → Found
+definitionFound Absent = none
+definitionFound (Present d) = hit (symOf d)
 
 -- the places of the words that RELR names; refusal 17 leaves no word before any address
 unfoldable pub placesOf : List Word → List ℕ
@@ -48,8 +48,8 @@ placesOf [] = []
 placesOf (place p ∷ ws) = p ∷ placesOf ws
 placesOf (nowhere ∷ ws) = placesOf ws
 
-unfoldable pub wordsOf : List ℕ → Record → List Word
-wordsOf image r = relrWords entries.none (relrsFrom image (r .relr) 0 (r .relrs))
+unfoldable pub namedWords : List ℕ → Record → List Word
+namedWords image r = relrWords entries.none (relrsFrom image (r .relr) 0 (r .relrs))
 
 -- RELA, then PLT
 unfoldable pub relasOf : List ℕ → Record → List Rela
@@ -76,7 +76,7 @@ objectAt address f off =
       span = objectSpan (f .host) (f .bytes);
       base = address + off;
       image = objectBytes (f .host) (f .bytes);
-      find = λ name. foundOf (answerIn (imageOf f) (viewOf (recordOf f)) name);
-      words = pick (f .host) [] (placesOf (wordsOf (imageOf f) (recordOf f)));
-      entries = pick (f .host) [] (map (entryOf (imageOf f) (recordOf f) (address + off)) (relasOf (imageOf f) (recordOf f)));
+      find = λ name. definitionFound (answerIn (fileImage f) (viewOf (fileRecord f)) name);
+      words = pick (f .host) [] (placesOf (namedWords (fileImage f) (fileRecord f)));
+      entries = pick (f .host) [] (map (entryOf (fileImage f) (fileRecord f) (address + off)) (relasOf (fileImage f) (fileRecord f)));
     }

@@ -16,7 +16,7 @@ use Rattle.object.specs.Record.{Record}
 use Rattle.object.specs.declared.relocate.Rela.{Rela}
 use Rattle.object.specs.declared.relocate.Action.{Action}
 use Rattle.object.specs.declared.relocate.Action.the-variants.{Ignored, Passed, Relative, Symbolic, Copy, Irelative}
-use Rattle.binder.specs.Instance.{File, imageOf, recordOf, relasOf}
+use Rattle.binder.specs.Instance.{File, fileImage, fileRecord, relasOf}
 use Rattle.binder.specs.Verdict.{noFile}
 
 -- a word: the top four bits are the kind, the low 28 a number
@@ -51,15 +51,15 @@ isPassed Copy = false
 isPassed Irelative = false
 
 -- the words of the entries, the first of which has the number `i`
-unfoldable pub entryWords : Objs → ℕ → List ℕ → Record → ℕ → List Rela → List ℕ
-entryWords S k image r i [] = []
-entryWords S k image r i (e ∷ es) =
+unfoldable pub entryReport : Objs → ℕ → List ℕ → Record → ℕ → List Rela → List ℕ
+entryReport S k image r i [] = []
+entryReport S k image r i (e ∷ es) =
     pick (isUndefined S k image r e) (reportWord 6 i ∷ [])
     (pick (isPassed (actionOf (e .kind))) (reportWord 7 i ∷ []) [])
-    ++ entryWords S k image r (i + 1) es
+    ++ entryReport S k image r (i + 1) es
 
 unfoldable pub objectWords : Objs → ℕ → File → List ℕ
-objectWords S k f = reportWord 5 k ∷ entryWords S k (imageOf f) (recordOf f) 0 (relasOf (imageOf f) (recordOf f))
+objectWords S k f = reportWord 5 k ∷ entryReport S k (fileImage f) (fileRecord f) 0 (relasOf (fileImage f) (fileRecord f))
 
 -- the words of the objects of an order
 unfoldable pub orderWords : Objs → List File → List ℕ → List ℕ
@@ -68,7 +68,7 @@ orderWords S files (k ∷ ks) = objectWords S k (getD files k noFile) ++ orderWo
 
 -- 19: the first object of an order that has an undefined entry; 0 where none has
 unfoldable pub hasUndefined : Objs → ℕ → File → Bool
-hasUndefined S k f = some (isUndefined S k (imageOf f) (recordOf f)) (relasOf (imageOf f) (recordOf f))
+hasUndefined S k f = some (isUndefined S k (fileImage f) (fileRecord f)) (relasOf (fileImage f) (fileRecord f))
 
 unfoldable pub firstUndefined : Objs → List File → List ℕ → ℕ
 firstUndefined S files [] = 0

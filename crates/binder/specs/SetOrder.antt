@@ -7,7 +7,7 @@ use Rattle.words.specs.Choice.{pick}
 use Rattle.words.specs.Names.{sameBytes}
 use Rattle.model.specs.Order.{orderOf}
 use Rattle.object.specs.Record.{needName}
-use Rattle.binder.specs.Instance.{File, imageOf, recordOf}
+use Rattle.binder.specs.Instance.{File, fileImage, fileRecord}
 use Rattle.binder.specs.Verdict.{noFile}
 
 -- the number of the library with that name, the first of the list having the number `k`; 0 where none has it
@@ -16,9 +16,9 @@ numberOf name k [] = 0
 numberOf name k (n ∷ names) = pick (sameBytes name n) k (numberOf name (k + 1) names)
 
 -- the objects that a file's needs name, in file order
-unfoldable pub needsOf : List (List ℕ) → File → List ℕ
-needsOf names f = map (λ n. numberOf (needName (imageOf f) (recordOf f) n) 2 names) (recordOf f .needed)
+unfoldable pub neededObjects : List (List ℕ) → File → List ℕ
+neededObjects names f = map (λ n. numberOf (needName (fileImage f) (fileRecord f) n) 2 names) (fileRecord f .needed)
 
 -- the order of a set: its files by their numbers, and its libraries' names
 unfoldable pub setOrder : List File → List (List ℕ) → List ℕ
-setOrder files names = orderOf (λ k. needsOf names (getD files k noFile)) (length names)
+setOrder files names = orderOf (λ k. neededObjects names (getD files k noFile)) (length names)

@@ -22,7 +22,7 @@ use Rattle.object.specs.declared.relocate.Action.{Action}
 use Rattle.object.specs.declared.relocate.Action.the-variants.{Ignored, Passed, Relative, Symbolic, Copy, Irelative}
 use Rattle.object.specs.declared.dynamic_fields.CheckedSymbol.{CheckedSymbol}
 use Rattle.object.specs.declared.dynamic_fields.CheckedSymbol.the-variants.{Refused, Checked}
-use Rattle.binder.specs.Instance.{File, imageOf, recordOf, wordsOf, relasOf}
+use Rattle.binder.specs.Instance.{File, fileImage, fileRecord, namedWords, relasOf}
 
 -- a refusal with its object, or none
 pub data Verdict : Type 0 where
@@ -99,8 +99,8 @@ entriesVerdict S k image r (e ∷ es) = first (verdict (entryRefusal S k image r
 
 unfoldable pub objectVerdict : Objs → ℕ → File → Verdict
 objectVerdict S k f =
-    first (wordsVerdict k (recordOf f) (wordsOf (imageOf f) (recordOf f)))
-    (entriesVerdict S k (imageOf f) (recordOf f) (relasOf (imageOf f) (recordOf f)))
+    first (wordsVerdict k (fileRecord f) (namedWords (fileImage f) (fileRecord f)))
+    (entriesVerdict S k (fileImage f) (fileRecord f) (relasOf (fileImage f) (fileRecord f)))
 
 -- what a number that is no object's stands for
 abbrev pub noFile : File

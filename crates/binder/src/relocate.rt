@@ -12,7 +12,7 @@ ghost use Rattle.object.specs.Record.{heldBy, checkedSymbol};
 ghost use Rattle.object.specs.Steps.WritableRange.{WritableRange};
 ghost use Rattle.sheet.specs.Steps.Parts.{inputsIn};
 ghost use Rattle.scope.specs.Steps.Seats.{Filtered};
-ghost use Rattle.binder.specs.Steps.Relocating.{left, wrote, started, imageIn, relativeOf, symbolRefusal, foundOf, soughtFor, soughtForCopy, symbolicOf, copyingOf, runAction, runTable, runTables, runObject, runAt, runOrder};
+ghost use Rattle.binder.specs.Steps.Relocating.{left, wrote, started, imageIn, relativeOf, symbolRefusal, writeFound, soughtFor, soughtForCopy, symbolicOf, copyingOf, runAction, runTable, runTables, runObject, runAt, runOrder};
 ghost use Rattle.binder.specs.Steps.RunSteps.{EntriesPassed, SymbolsOf, addressIn, SymbolsPassed};
 ghost use Rattle.binder.specs.declared.relocate.Address.the-variants.{At};
 use crate::order::Order;
@@ -100,7 +100,7 @@ fn write_found(
     y: Symbol,
     s: Scoped,
 ) -> Progress
-    ensures { λ r. ⌜ left r (now (arena .exit)) (now (report .exit)) ≡ foundOf t e i y s p (now (arena .entry)) (now (report .entry)) ⌝ }
+    ensures { λ r. ⌜ left r (now (arena .exit)) (now (report .exit)) ≡ writeFound t e i y s p (now (arena .entry)) (now (report .entry)) ⌝ }
 {
     let Scoped::Found {
         object: _,

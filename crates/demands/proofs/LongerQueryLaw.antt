@@ -23,7 +23,7 @@ use Rattle.binder.specs.Instance.{File, objectAt}
 use Rattle.binder.specs.Verdict.{Verdict, passed, refused, first}
 use Rattle.binder.specs.Bind.{filesOf, objectsOf, unless, prepareVerdict, replied, replyOf, repliedOf, queryOf}
 use Rattle.demands.proofs.PassedSet.{prepared}
-use Rattle.demands.specs.LongerSet.{LoadedBy, BoundBy, setObjects, LongerQuery}
+use Rattle.demands.specs.LongerSet.{PassesLoading, BoundBy, setObjects, LongerQuery}
 use Rattle.binder.proofs.OutcomeLaws.{first-passed, unless-passed, bound-passed}
 use Rattle.binder.proofs.FileLaws.{hostFile, fileOf, files-are, files-longer}
 use Rattle.binder.proofs.SoundLaws.{count-is}
@@ -65,7 +65,7 @@ kept address os os′ l r small name k s a e pos =
 -- a bound set passed refusals 1 to 12
 loaded :
     (sheet bytes : List ℕ) (size address : ℕ) (policy : Policy) (words : ℕ) (arena report : List ℕ)
-    → BoundBy sheet bytes size address policy words arena report → LoadedBy sheet bytes size address
+    → BoundBy sheet bytes size address policy words arena report → PassesLoading sheet bytes size address
 unfolding prepareVerdict unless
 loaded sheet bytes size address policy words arena report e =
     let p = bound-passed sheet bytes size address policy words arena report e in
@@ -73,7 +73,7 @@ loaded sheet bytes size address policy words arena report e =
 
 -- what a set that is not refused replies
 pub asked :
-    (sheet bytes : List ℕ) (size address requester : ℕ) (name : List ℕ) → LoadedBy sheet bytes size address → requester < length (setOf sheet bytes)
+    (sheet bytes : List ℕ) (size address requester : ℕ) (name : List ℕ) → PassesLoading sheet bytes size address → requester < length (setOf sheet bytes)
     → queryOf sheet bytes size address requester name
     ≡ replied (replyOf (resolve (setObjects address sheet bytes) requester name)) (tab size (placed (setObjects address sheet bytes)))
 unfolding queryOf repliedOf unless
@@ -82,7 +82,7 @@ asked sheet bytes size address requester name v l = rw (v, lt-ltb requester (len
 same :
     (address : ℕ) (sheet bytes : List ℕ) (size requester : ℕ) (name : List ℕ) (k i a : ℕ) (arena : List ℕ)
     → queryOf sheet bytes size address requester name ≡ replied (Found k i a) arena → k ≢ 0
-    → (f n : ℕ) (added : List ℕ) (size′ : ℕ) → LoadedBy (sheet ++ (f ∷ (n ∷ []))) (bytes ++ added) size′ address
+    → (f n : ℕ) (added : List ℕ) (size′ : ℕ) → PassesLoading (sheet ++ (f ∷ (n ∷ []))) (bytes ++ added) size′ address
     → queryOf (sheet ++ (f ∷ (n ∷ []))) (bytes ++ added) size′ address requester name
     ≡ replied (Found k i a) (tab size′ (placed (setObjects address (sheet ++ (f ∷ (n ∷ []))) (bytes ++ added))))
 unfolding queryOf

@@ -15,9 +15,9 @@ use Rattle.object.specs.Entries.{actionOf}
 use Rattle.object.specs.Record.{Record}
 use Rattle.object.specs.declared.relocate.Rela.{Rela}
 use Rattle.sheet.specs.Sheet.{Input, setOf}
-use Rattle.binder.specs.Instance.{File, imageOf, recordOf, relasOf}
+use Rattle.binder.specs.Instance.{File, fileImage, fileRecord, relasOf}
 use Rattle.binder.specs.Verdict.{noFile}
-use Rattle.binder.specs.Report.{reportWord, isUndefined, isPassed, entryWords, objectWords, orderWords}
+use Rattle.binder.specs.Report.{reportWord, isUndefined, isPassed, entryReport, objectWords, orderWords}
 use Rattle.binder.specs.SetOrder.{setOrder}
 use Rattle.binder.specs.Bind.{filesOf, namesOf}
 use Rattle.demands.specs.OrderReport.{numbersOf, needsIn, OrderReport}
@@ -62,11 +62,11 @@ entry-none i true t ws = number-other (reportWord 6 i) ws (λ e. omega arith)
 entry-none i false true ws = number-other (reportWord 7 i) ws (λ e. omega arith)
 entry-none i false false ws = refl
 
-entries-none : (S : Objs) (k : ℕ) (image : List ℕ) (r : Record) (i : ℕ) (es : List Rela) → numbersOf 5 (entryWords S k image r i es) ≡ []
-unfolding entryWords numbersOf
+entries-none : (S : Objs) (k : ℕ) (image : List ℕ) (r : Record) (i : ℕ) (es : List Rela) → numbersOf 5 (entryReport S k image r i es) ≡ []
+unfolding entryReport numbersOf
 entries-none S k image r i [] = refl
 entries-none S k image r i (e ∷ es) =
-    entry-none i (isUndefined S k image r e) (isPassed (actionOf (e .kind))) (entryWords S k image r (i + 1) es)
+    entry-none i (isUndefined S k image r e) (isPassed (actionOf (e .kind))) (entryReport S k image r (i + 1) es)
     ∙ entries-none S k image r (i + 1) es
 
 -- the words of an order whose numbers fit 28 bits
@@ -77,12 +77,12 @@ unfolding orderWords objectWords
 order-numbers S files [] small = no-zeros 0
 order-numbers S files (k ∷ ks) small =
     let f : File = getD files k noFile in
-    let es : List ℕ = entryWords S k (imageOf f) (recordOf f) 0 (relasOf (imageOf f) (recordOf f)) in
+    let es : List ℕ = entryReport S k (fileImage f) (fileRecord f) 0 (relasOf (fileImage f) (fileRecord f)) in
     number-five k (es ++ orderWords S files ks) (small k (has-head k ks))
     ∙ ap (λ (l : List ℕ). k ∷ l)
     (numbers-append 5 es (orderWords S files ks)
     ∙ (ap (λ (l : List ℕ). l ++ numbersOf 5 (orderWords S files ks))
-    (entries-none S k (imageOf f) (recordOf f) 0 (relasOf (imageOf f) (recordOf f)))
+    (entries-none S k (fileImage f) (fileRecord f) 0 (relasOf (fileImage f) (fileRecord f)))
     ∙ order-numbers S files ks (λ j h. small j (has-cons j k ks h))))
 
 append-nil : (l : List ℕ) → l ++ [] ≡ l

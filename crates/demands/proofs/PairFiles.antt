@@ -30,7 +30,7 @@ use Rattle.object.specs.Segments.{
   placedOf,
 }
 use Rattle.object.specs.Placed.{segmentsOf, objectSpan, objectBytes, placeRefusal, objectImage}
-use Rattle.object.specs.DynamicArray.{itemsIn, endIn, lastOf, firstOf, allOf}
+use Rattle.object.specs.DynamicArray.{itemsIn, endIn, lastValue, firstOf, allOf}
 use Rattle.object.specs.DynamicFields.{fieldsFrom}
 use Rattle.object.specs.TableBytes.{isTable, tableBytes, tableName}
 use Rattle.object.specs.HashTable.{walk, walkFrom}
@@ -45,7 +45,7 @@ use Rattle.object.specs.Record.{
   relocationsOk,
   tablesOk,
   readRefusal,
-  recordOf,
+  recordAt,
 }
 use Rattle.object.specs.Loaded.{objectRecord, objectRefusal}
 use Rattle.object.specs.declared.program_header.Segment.{Segment}
@@ -112,7 +112,7 @@ record Computed (host : Bool) (file : List ℕ) (segments : List Segment) (at n 
   segments-are : segmentsOf host file ≡ segments
   segments-ok : pick host (eqb (length file % pageSize) 0) (segmentsOk file (loadsOf file)) ≡ true
   array : dynamicOf file ≡ At at
-  record-of : recordOf (file ++ replicate n 0) segments (At at) ≡ r
+  record-of : recordAt (file ++ replicate n 0) segments (At at) ≡ r
   tables-ok : readRefusal host (file ++ replicate n 0) segments (At at) ≡ 0
 
 module _ (host : Bool) (file : List ℕ) (segments : List Segment) (at n span : ℕ) (r : Record) (c : Computed host file segments at n r)
@@ -218,8 +218,8 @@ record AllComputed : Type 0 where
 
 computed : AllComputed
 unfolding bytesOf every some below tab mem byteOf leAt untilZero require after headerRefusal loadsIn segmentAt dynamicIn segmentsOk holdsHeaders
-    segmentOk pagesApart allApart segmentsOf itemsIn endIn lastOf firstOf allOf fieldsFrom isTable tableBytes tableName walk walkFrom numbersOk
-    bucketOk lengthOk chainOk symbolOk walkOk tableOk tableIn tableCount countOf recordIn recordOf fieldsRefusal needsOk relocationsOk tablesOk
+    segmentOk pagesApart allApart segmentsOf itemsIn endIn lastValue firstOf allOf fieldsFrom isTable tableBytes tableName walk walkFrom numbersOk
+    bucketOk lengthOk chainOk symbolOk walkOk tableOk tableIn tableCount countOf recordIn recordAt fieldsRefusal needsOk relocationsOk tablesOk
     readRefusal
 computed =
     record {

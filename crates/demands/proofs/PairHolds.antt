@@ -17,7 +17,7 @@ use Rattle.model.specs.Objects as objects
 use Rattle.model.specs.Objects.{Obj, Objs}
 use Rattle.model.specs.Symbols.{Sym, absent, answer}
 use Rattle.model.specs.Symbols as symbols
-use Rattle.model.specs.Scope.{answerOf, protectedOf, scan, resolve}
+use Rattle.model.specs.Scope.{scopeAnswer, protectedOf, scan, resolve}
 use Rattle.model.specs.Order.{visit, orderOf}
 use Rattle.model.specs.Relocation.{addWords, addressOr0, effect, effects, relocate, run, bound, placed}
 use Rattle.model.specs.Layout as layouts
@@ -35,10 +35,10 @@ use Rattle.sheet.specs.Sheet.{Input, pairOk, libWords, total, sheetOk, cut, lib
 use Rattle.sheet.specs.Sheet as sheets
 use Rattle.binder.specs.declared.Policy.the-variants.{Lenient}
 use Rattle.binder.specs.declared.Answer.the-variants.{Bound}
-use Rattle.binder.specs.Instance.{File, foundOf, placesOf, wordsOf, relasOf, entryBy, objectAt}
+use Rattle.binder.specs.Instance.{File, definitionFound, placesOf, namedWords, relasOf, entryBy, objectAt}
 use Rattle.binder.specs.Verdict.{passed, verdict, loadVerdict, refusalBy, wordsVerdict, entriesVerdict, objectVerdict, orderVerdict}
-use Rattle.binder.specs.Report.{reportWord, isAbsent, undefinedBy, entryWords, objectWords, orderWords}
-use Rattle.binder.specs.SetOrder.{needsOf, setOrder}
+use Rattle.binder.specs.Report.{reportWord, isAbsent, undefinedBy, entryReport, objectWords, orderWords}
+use Rattle.binder.specs.SetOrder.{neededObjects, setOrder}
 use Rattle.binder.specs.Bind.{filesOf, namesOf, objectsOf, unless, prepareVerdict, relocateVerdict, outcome, outcomeOf, bindIn, bindOf, queryOf, replied, replyOf}
 use Rattle.demands.specs.LongerSet.{BoundBy, setObjects}
 use Rattle.demands.specs.PairOfSheets.{bytesOf, hostFile, programFile, libraryFile, sheet, bytes, longerSheet, longerBytes, PairOfSheets}
@@ -70,11 +70,11 @@ abbrev longerInputs : List Input
 longerInputs = input hostFile [] ∷ (input programFile [] ∷ (input (libraryFile 97) (108 ∷ []) ∷ (input (libraryFile 98) (109 ∷ []) ∷ [])))
 
 set-is : setOf sheet bytes ≡ inputs
-unfolding bytesOf tab cut sheets.objectsOf libsOf
+unfolding bytesOf tab cut sheets.inputsOf libsOf
 set-is = refl
 
 longer-is : setOf longerSheet longerBytes ≡ longerInputs
-unfolding bytesOf tab cut sheets.objectsOf libsOf
+unfolding bytesOf tab cut sheets.inputsOf libsOf
 longer-is = refl
 
 sheet-ok : sheetOk sheet (length bytes) ≡ true
@@ -98,7 +98,7 @@ objectOf host bs off span image r es =
       span = span;
       base = 0x10000000 + off;
       image = objectBytes host bs;
-      find = λ name. foundOf (answerIn image (viewOf r) name);
+      find = λ name. definitionFound (answerIn image (viewOf r) name);
       words = [];
       entries = es;
     }
@@ -119,15 +119,15 @@ unfolding objectAt
 host-is = rw (host-reads .image-is, host-reads .record-is, host-reads .span-is)
 
 program-is : objectAt 0x10000000 (file false programFile) 0x1000 ≡ programObj
-unfolding objectAt bytesOf tab mem byteOf leAt untilZero placesOf wordsOf relrWords relrsFrom relasOf relasFrom relaAt entryBy actionOf
+unfolding objectAt bytesOf tab mem byteOf leAt untilZero placesOf namedWords relrWords relrsFrom relasOf relasFrom relaAt entryBy actionOf
 program-is = rw (program-reads .image-is, program-reads .record-is, program-reads .span-is)
 
 a-is : objectAt 0x10000000 (file false (libraryFile 97)) 0x3000 ≡ libraryObj 97 0x3000
-unfolding objectAt placesOf wordsOf relrWords relrsFrom relasOf relasFrom
+unfolding objectAt placesOf namedWords relrWords relrsFrom relasOf relasFrom
 a-is = rw (a-reads .image-is, a-reads .record-is, a-reads .span-is)
 
 b-is : objectAt 0x10000000 (file false (libraryFile 98)) 0x4000 ≡ libraryObj 98 0x4000
-unfolding objectAt placesOf wordsOf relrWords relrsFrom relasOf relasFrom
+unfolding objectAt placesOf namedWords relrWords relrsFrom relasOf relasFrom
 b-is = rw (b-reads .image-is, b-reads .record-is, b-reads .span-is)
 
 abbrev S : Objs
@@ -195,22 +195,22 @@ unfolding orderOf visit
 order-two needs two three = rw (two, three)
 
 S-order : setOrder files ((108 ∷ []) ∷ []) ≡ 2 ∷ 1 ∷ []
-unfolding setOrder needsOf
+unfolding setOrder neededObjects
 S-order = order-one _ (rw (a-reads .record-is))
 
 T-order : setOrder longerFiles ((108 ∷ []) ∷ ((109 ∷ []) ∷ [])) ≡ 2 ∷ 3 ∷ 1 ∷ []
-unfolding setOrder needsOf
+unfolding setOrder neededObjects
 T-order = order-two _ (rw (a-reads .record-is)) (rw (b-reads .record-is))
 
 -- ---- refusals 14 to 18: none reads another object
 
 program-verdict : (A : Objs) → objectVerdict A 1 (file false programFile) ≡ passed
-unfolding objectVerdict wordsVerdict entriesVerdict verdict refusalBy bytesOf every some tab mem byteOf leAt untilZero wordsOf relrWords relrsFrom
+unfolding objectVerdict wordsVerdict entriesVerdict verdict refusalBy bytesOf every some tab mem byteOf leAt untilZero namedWords relrWords relrsFrom
     relasOf relasFrom relaAt actionOf checkedSymbol indexOk symbolOk isTable tableBytes tableName inWritable require below
 program-verdict A = rw (program-reads .image-is, program-reads .record-is)
 
 library-verdict : (A : Objs) (k c : ℕ) → Reads false (libraryFile c) 0x1000 (libraryImage c) libraryRecord → objectVerdict A k (file false (libraryFile c)) ≡ passed
-unfolding objectVerdict wordsVerdict entriesVerdict wordsOf relrWords relrsFrom relasOf relasFrom
+unfolding objectVerdict wordsVerdict entriesVerdict namedWords relrWords relrsFrom relasOf relasFrom
 library-verdict A k c reads = rw (reads .image-is, reads .record-is)
 
 S-entries : orderVerdict S files (2 ∷ 1 ∷ []) ≡ passed
@@ -233,8 +233,8 @@ record Lookups : Type 0 where
   b-in-T : resolve T 1 (98 ∷ []) ≡ answer 3 found 0x10004018
 
 look : Lookups
-unfolding resolve scan answerOf protectedOf symbols.address bytesOf tab mem byteOf leAt untilZero sameBytes hashBy elfHash gnuHash walk walkFrom
-    mayHold isHit firstIn findBy definition hashes.answerOf symbolFrom isExported
+unfolding resolve scan scopeAnswer protectedOf symbols.address bytesOf tab mem byteOf leAt untilZero sameBytes hashBy elfHash gnuHash walk walkFrom
+    mayHold isHit firstIn findBy definition hashes.exportedAt symbolFrom isExported
 look = record { a-in-S = refl; a-in-T = refl; b-in-S = refl; b-in-T = refl }
 
 -- ---- reports
@@ -242,14 +242,14 @@ look = record { a-in-S = refl; a-in-T = refl; b-in-S = refl; b-in-T = refl }
 program-words :
     (A : Objs) (t : Bool) → isAbsent (resolve A 1 (97 ∷ [])) ≡ false → isAbsent (resolve A 1 (98 ∷ [])) ≡ t
     → objectWords A 1 (file false programFile) ≡ 0x50000001 ∷ pick t (0x60000001 ∷ []) []
-unfolding objectWords entryWords undefinedBy bytesOf tab mem byteOf leAt untilZero relasOf relasFrom relaAt actionOf symbolFrom
+unfolding objectWords entryReport undefinedBy bytesOf tab mem byteOf leAt untilZero relasOf relasFrom relaAt actionOf symbolFrom
 program-words A true a b = rw (program-reads .image-is, program-reads .record-is, a, b)
 program-words A false a b = rw (program-reads .image-is, program-reads .record-is, a, b)
 
 library-words :
     (A : Objs) (k c : ℕ) → Reads false (libraryFile c) 0x1000 (libraryImage c) libraryRecord
     → objectWords A k (file false (libraryFile c)) ≡ reportWord 5 k ∷ []
-unfolding objectWords entryWords relasOf relasFrom
+unfolding objectWords entryReport relasOf relasFrom
 library-words A k c reads = rw (reads .image-is, reads .record-is)
 
 S-words : orderWords S files (2 ∷ 1 ∷ []) ≡ 0x50000002 ∷ (0x50000001 ∷ (0x60000001 ∷ []))

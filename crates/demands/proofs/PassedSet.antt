@@ -13,7 +13,7 @@ use Rattle.sheet.specs.Sheet.{Input, sheetOk, setOf, arenaOk, twinOf}
 use Rattle.sheet.proofs.SheetLonger.{sheet-shape}
 use Rattle.binder.specs.Instance.{File}
 use Rattle.binder.specs.Verdict.{passed, noFile, loadVerdict}
-use Rattle.binder.specs.SetOrder.{needsOf, setOrder}
+use Rattle.binder.specs.SetOrder.{neededObjects, setOrder}
 use Rattle.binder.specs.Bind.{filesOf, namesOf, unless, prepareVerdict}
 use Rattle.binder.proofs.OutcomeLaws.{first-passed, unless-passed}
 use Rattle.binder.proofs.OrderIs.{names-length}
@@ -53,4 +53,4 @@ pub order-objects :
 unfolding setOrder
 order-objects files names k h =
     ⊎-elim (λ (e : k ≡ 1). omega arith) (λ (b : (2 ≤ k) × (k < length names + 2)). omega arith)
-    (nothing-else (λ k. needsOf names (getD files k noFile)) (length names) k h)
+    (nothing-else (λ k. neededObjects names (getD files k noFile)) (length names) k h)

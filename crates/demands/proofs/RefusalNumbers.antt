@@ -36,7 +36,7 @@ use Rattle.object.specs.declared.relocate.Action.{Action}
 use Rattle.object.specs.declared.relocate.Action.the-variants.{Ignored, Passed, Relative, Symbolic, Copy, Irelative}
 use Rattle.object.specs.declared.dynamic_fields.CheckedSymbol.the-variants.{Refused, Checked}
 use Rattle.sheet.specs.Sheet.{Input, noInput, named, twinFrom, twinOf}
-use Rattle.binder.specs.Instance.{File, imageOf, recordOf, wordsOf, relasOf}
+use Rattle.binder.specs.Instance.{File, fileImage, fileRecord, namedWords, relasOf}
 use Rattle.binder.specs.Verdict.{
   Verdict,
   passed,
@@ -234,9 +234,9 @@ module _ (P : ℕ → ℕ → Type 0) where
     object-meets : (f : File) → Meets P (objectVerdict S k f)
     unfolding objectVerdict
     object-meets f =
-        first-meets (wordsVerdict k (recordOf f) (wordsOf (imageOf f) (recordOf f))) _
-        (words-meets (recordOf f) (wordsOf (imageOf f) (recordOf f)))
-        (entries-meets (imageOf f) (recordOf f) (relasOf (imageOf f) (recordOf f)))
+        first-meets (wordsVerdict k (fileRecord f) (namedWords (fileImage f) (fileRecord f))) _
+        (words-meets (fileRecord f) (namedWords (fileImage f) (fileRecord f)))
+        (entries-meets (fileImage f) (fileRecord f) (relasOf (fileImage f) (fileRecord f)))
 
   -- of the objects of an order
   pub order-meets :

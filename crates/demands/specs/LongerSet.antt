@@ -40,22 +40,22 @@ LongerSet =
 -- ---- the same for the public query
 
 -- the set meets none of refusals 1 to 12 in an arena of `size` bytes: only 13 is left to a query
-abbrev pub LoadedBy : List ℕ → List ℕ → ℕ → ℕ → Type 0
-LoadedBy sheet bytes size address = prepareVerdict sheet bytes size address ≡ passed
+abbrev pub PassesLoading : List ℕ → List ℕ → ℕ → ℕ → Type 0
+PassesLoading sheet bytes size address = prepareVerdict sheet bytes size address ≡ passed
 
 -- demand 3's clause on names, for what `query` answers; document 01: "An answer is what a lookup yields". S and T are asked in arenas of any
 -- sizes in which they meet none of refusals 1 to 12. They need not be bound; a set that is bound can be asked in the arena of that call.
 pub record LongerQuery : Type 0 where
   pub bound-loaded :
       (sheet bytes : List ℕ) (size address : ℕ) (policy : Policy) (words : ℕ) (arena report : List ℕ)
-      → BoundBy sheet bytes size address policy words arena report → LoadedBy sheet bytes size address
+      → BoundBy sheet bytes size address policy words arena report → PassesLoading sheet bytes size address
   -- "every name that S answers from its program or a library, for any object of S as requester": the answer is of an object other than
   -- 0; a requester that is no object of S is refused
   pub same-answer :
       (address : ℕ) (sheet bytes : List ℕ) (size requester : ℕ) (name : List ℕ) (k i a : ℕ) (arena : List ℕ)
       → queryOf sheet bytes size address requester name ≡ replied (Found k i a) arena → k ≢ 0
       → (fileWord nameWord : ℕ) (added : List ℕ) (size′ : ℕ)
-      → LoadedBy (sheet ++ (fileWord ∷ (nameWord ∷ []))) (bytes ++ added) size′ address
+      → PassesLoading (sheet ++ (fileWord ∷ (nameWord ∷ []))) (bytes ++ added) size′ address
       -- "has the same answer in T, the same object, symbol and address"
       → queryOf (sheet ++ (fileWord ∷ (nameWord ∷ []))) (bytes ++ added) size′ address requester name
       ≡ replied (Found k i a) (tab size′ (placed (setObjects address (sheet ++ (fileWord ∷ (nameWord ∷ []))) (bytes ++ added))))

@@ -11,7 +11,7 @@ use Rattle.model.specs.Order.{has, Before, Reach, OnceEach}
 use Rattle.binder.specs.declared.Policy.{Policy}
 use Rattle.sheet.specs.Sheet.{Input, setOf}
 use Rattle.binder.specs.Verdict.{noFile}
-use Rattle.binder.specs.SetOrder.{needsOf, setOrder}
+use Rattle.binder.specs.SetOrder.{neededObjects, setOrder}
 use Rattle.binder.specs.Bind.{filesOf, namesOf}
 use Rattle.demands.specs.LongerSet.{BoundBy}
 
@@ -22,7 +22,7 @@ numbersOf kind (w ∷ ws) = pick (eqb (w / 2 ^ 28) kind) (w % 2 ^ 28 ∷ numbers
 
 -- the objects that the needs of object `k` of a set name
 abbrev pub needsIn : List Input → ℕ → List ℕ
-needsIn os k = needsOf (namesOf os) (getD (filesOf os) k noFile)
+needsIn os k = neededObjects (namesOf os) (getD (filesOf os) k noFile)
 
 -- what the words of kind 5 of a report say of the order of a set
 pub record OrderReported (os : List Input) (report : List ℕ) : Type 0 where

@@ -20,7 +20,7 @@ use Rattle.sheet.specs.Sheet.{sheetOk, arenaOk, setOf, twinOf}
 use Rattle.binder.specs.declared.Policy.{Policy}
 use Rattle.binder.specs.declared.Answer as answers
 use Rattle.binder.specs.declared.Reply as replies
-use Rattle.binder.specs.Instance.{File, imageOf, recordOf, wordsOf, relasOf}
+use Rattle.binder.specs.Instance.{File, fileImage, fileRecord, namedWords, relasOf}
 use Rattle.binder.specs.Verdict as verdicts
 use Rattle.binder.specs.Verdict.{Verdict, passed, refused, first, verdict, noFile, loadVerdict, wordRefusal, wordsVerdict, entryRefusal, entriesVerdict, objectVerdict, orderVerdict}
 use Rattle.binder.specs.Report.{orderWords, firstUndefined}
@@ -75,8 +75,8 @@ of-entries S k image r (e ∷ es) =
 of-object : (S : Objs) (k : ℕ) (f : File) → Numbered (objectVerdict S k f)
 unfolding verdicts.objectVerdict
 of-object S k f =
-    either-one (wordsVerdict k (recordOf f) (wordsOf (imageOf f) (recordOf f))) (entriesVerdict S k (imageOf f) (recordOf f) (relasOf (imageOf f) (recordOf f)))
-    (of-words k (recordOf f) (wordsOf (imageOf f) (recordOf f))) (of-entries S k (imageOf f) (recordOf f) (relasOf (imageOf f) (recordOf f)))
+    either-one (wordsVerdict k (fileRecord f) (namedWords (fileImage f) (fileRecord f))) (entriesVerdict S k (fileImage f) (fileRecord f) (relasOf (fileImage f) (fileRecord f)))
+    (of-words k (fileRecord f) (namedWords (fileImage f) (fileRecord f))) (of-entries S k (fileImage f) (fileRecord f) (relasOf (fileImage f) (fileRecord f)))
 
 of-order : (S : Objs) (files : List File) (ks : List ℕ) → Numbered (orderVerdict S files ks)
 unfolding verdicts.orderVerdict

@@ -12,7 +12,7 @@ use Rattle.words.specs.Memory.{Mem, write}
 use Rattle.words.specs.Words.{leAt, byteOf}
 use Rattle.model.specs.Symbols.{Name, Sym, Found, none, hit, address, answer}
 use Rattle.model.specs.Objects.{Entry, fixed, symbol, copy, Obj, Objs}
-use Rattle.model.specs.Scope.{answerOf, protectedOf, scan, resolve, resolveCopy}
+use Rattle.model.specs.Scope.{scopeAnswer, protectedOf, scan, resolve, resolveCopy}
 use Rattle.model.specs.Relocation.{
   place,
   placed,
@@ -152,39 +152,39 @@ orderT = 3 ∷ 4 ∷ 2 ∷ 1 ∷ []
 
 -- a is the library's, not the host's
 a-in-S : resolve S 1 a ≡ answer 2 (symOf false 4 8) 4180
-unfolding objsOf layout resolve scan answerOf protectedOf address
+unfolding objsOf layout resolve scan scopeAnswer protectedOf address
 a-in-S = refl
 
 -- but `second` finds its own, which is protected
 a-in-second : resolve S 3 a ≡ answer 3 (protectedAt 5) 4213
-unfolding objsOf layout resolve scan answerOf protectedOf address
+unfolding objsOf layout resolve scan scopeAnswer protectedOf address
 a-in-second = refl
 
 -- c is the program's, but a library's for COPY
 c-in-S : resolve S 1 c ≡ answer 1 (symOf false 16 16) 4128
-unfolding objsOf layout resolve scan answerOf protectedOf address
+unfolding objsOf layout resolve scan scopeAnswer protectedOf address
 c-in-S = refl
 
 c-for-copy : resolveCopy S c ≡ answer 2 (symOf false 0 16) 4176
-unfolding objsOf layout resolveCopy scan answerOf address
+unfolding objsOf layout resolveCopy scan scopeAnswer address
 c-for-copy = refl
 
 -- h is the host's in S, and the added library's in T
 h-in-S : resolve S 1 h ≡ answer 0 (symOf false 3 2) 4099
-unfolding objsOf layout resolve scan answerOf protectedOf address
+unfolding objsOf layout resolve scan scopeAnswer protectedOf address
 h-in-S = refl
 
 h-in-T : resolve T 1 h ≡ answer 4 (symOf true (2 ^ 63 + 129) 2) (2 ^ 63 + 129)
-unfolding objsOf layout resolve scan answerOf protectedOf address
+unfolding objsOf layout resolve scan scopeAnswer protectedOf address
 h-in-T = refl
 
 -- so is g for COPY
 g-in-S : resolveCopy S g ≡ answer 0 (symOf false 4 2) 4100
-unfolding objsOf layout resolveCopy scan answerOf address
+unfolding objsOf layout resolveCopy scan scopeAnswer address
 g-in-S = refl
 
 g-in-T : resolveCopy T g ≡ answer 4 (symOf false 8 4) 4232
-unfolding objsOf layout resolveCopy scan answerOf address
+unfolding objsOf layout resolveCopy scan scopeAnswer address
 g-in-T = refl
 
 -- ---- bytes
@@ -200,40 +200,40 @@ differing = 24 ∷ 31 ∷ 80 ∷ 32 ∷ 74 ∷ 120 ∷ []
 
 differing-S : at (bound S orderS) differing ≡ 3 ∷ 0 ∷ 3 ∷ 3 ∷ 1 ∷ 0 ∷ []
 unfolding objsOf layout bound run relocate effects effect copied addWords addWord placed place write byteOf leAt
-    resolve resolveCopy scan answerOf protectedOf address addressOr0
+    resolve resolveCopy scan scopeAnswer protectedOf address addressOr0
 differing-S = refl
 
 differing-T : at (bound T orderT) differing ≡ 129 ∷ 128 ∷ 129 ∷ 129 ∷ 4 ∷ 130 ∷ []
 unfolding objsOf layout bound run relocate effects effect copied addWords addWord placed place write byteOf leAt
-    resolve resolveCopy scan answerOf protectedOf address addressOr0
+    resolve resolveCopy scan scopeAnswer protectedOf address addressOr0
 differing-T = refl
 
 -- each of them is excepted
 
 excepted-24 : Excepted S 24
-unfolding objsOf layout resolve scan answerOf protectedOf
+unfolding objsOf layout resolve scan scopeAnswer protectedOf
 excepted-24 =
     named (1, symbol 8 8 h (λ x. x), omega arith, omega arith, List·Memᴰ·tail (List·Memᴰ·head refl), (to-host, omega arith))
 
 excepted-31 : Excepted S 31
-unfolding objsOf layout resolve scan answerOf protectedOf
+unfolding objsOf layout resolve scan scopeAnswer protectedOf
 excepted-31 =
     named (1, symbol 8 8 h (λ x. x), omega arith, omega arith, List·Memᴰ·tail (List·Memᴰ·head refl), (to-host, omega arith))
 
 excepted-80 : Excepted S 80
-unfolding objsOf layout resolve scan answerOf protectedOf
+unfolding objsOf layout resolve scan scopeAnswer protectedOf
 excepted-80 =
     named (2, symbol 0 8 h (λ x. x), omega arith, omega arith, List·Memᴰ·head refl, (to-host, omega arith))
 
 -- a copy of the byte at 80
 excepted-32 : Excepted S 32
-unfolding objsOf layout resolve resolveCopy scan answerOf protectedOf
+unfolding objsOf layout resolve resolveCopy scan scopeAnswer protectedOf
 excepted-32 =
     copy-of 80 (copy 16 c 16) (List·Memᴰ·tail (List·Memᴰ·tail (List·Memᴰ·head refl))) (0, omega arith, refl, refl)
     (2, symbol 0 8 h (λ x. x), omega arith, omega arith, List·Memᴰ·head refl, (to-host, omega arith))
 
 excepted-74 : Excepted S 74
-unfolding objsOf layout resolveCopy scan answerOf
+unfolding objsOf layout resolveCopy scan scopeAnswer
 excepted-74 =
     named (
       1,
@@ -246,7 +246,7 @@ excepted-74 =
 
 -- u is found nowhere in S
 excepted-120 : Excepted S 120
-unfolding objsOf layout resolve scan answerOf protectedOf
+unfolding objsOf layout resolve scan scopeAnswer protectedOf
 excepted-120 =
     named (3, symbol 8 8 u (λ x. x), omega arith, omega arith, List·Memᴰ·tail (List·Memᴰ·head refl), (nowhere, omega arith))
 
@@ -256,10 +256,10 @@ equal = 16 ∷ 88 ∷ 112 ∷ 40 ∷ 64 ∷ []
 
 equal-S : at (bound S orderS) equal ≡ 84 ∷ 84 ∷ 117 ∷ 84 ∷ 17 ∷ []
 unfolding objsOf layout bound run relocate effects effect copied addWords addWord placed place write byteOf leAt
-    resolve resolveCopy scan answerOf protectedOf address addressOr0
+    resolve resolveCopy scan scopeAnswer protectedOf address addressOr0
 equal-S = refl
 
 equal-T : at (bound T orderT) equal ≡ 84 ∷ 84 ∷ 117 ∷ 84 ∷ 17 ∷ []
 unfolding objsOf layout bound run relocate effects effect copied addWords addWord placed place write byteOf leAt
-    resolve resolveCopy scan answerOf protectedOf address addressOr0
+    resolve resolveCopy scan scopeAnswer protectedOf address addressOr0
 equal-T = refl

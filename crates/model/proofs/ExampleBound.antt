@@ -7,7 +7,7 @@ use native.Mathlib.Omega.{arith}
 use borrow.Author.Tests.{ne-eqb}
 use Rattle.words.specs.Memory.{mem, tab}
 use Rattle.model.specs.Objects.{Objs, obj}
-use Rattle.model.specs.Scope.{answerOf, scan, resolveCopy}
+use Rattle.model.specs.Scope.{scopeAnswer, scan, resolveCopy}
 use Rattle.model.specs.Relocation.{bound}
 use Rattle.model.specs.Order.{times}
 use Rattle.model.specs.Sound.{Order, Inside, Sound}
@@ -43,7 +43,7 @@ abbrev EntriesIn : Objs → ℕ → Type 0
 EntriesIn A j = All (Inside A j) ((obj A j) .entries)
 
 sound-S : Sound S
-unfolding objsOf layout resolveCopy scan answerOf
+unfolding objsOf layout resolveCopy scan scopeAnswer
 sound-S =
     record {
       apart = objs-apart make (λ f off. omega arith) host program (first ∷ second ∷ []);
@@ -67,7 +67,7 @@ sound-S =
     )
 
 sound-T : Sound T
-unfolding objsOf layout resolveCopy scan answerOf
+unfolding objsOf layout resolveCopy scan scopeAnswer
 sound-T =
     record {
       apart = objs-apart make (λ f off. omega arith) host program (first ∷ second ∷ added ∷ []);

@@ -7,7 +7,7 @@ use Rattle.words.proofs.Slices.{mem-tab}
 use Rattle.model.specs.Objects.{Obj, Objs, obj}
 use Rattle.model.specs.Relocation.{bound}
 use Rattle.model.specs.Longer.{longer, Kept}
-use Rattle.model.specs.Layout.{Fits, next, end, objsOf, LongerFiles}
+use Rattle.model.specs.Layout.{Fits, nextFree, end, objsOf, LongerFiles}
 use Rattle.model.proofs.Scope.{obj-longer, count-longer}
 use Rattle.model.proofs.Laid.{objs-longer}
 use Rattle.model.proofs.Longer.{longer-holds}
@@ -38,4 +38,4 @@ longer-files make h p fs order n sound o fits only f order′ n′ soundT o′ f
     S = objsOf make h p fs
 
     x : Obj
-    x = make f (end make fs (next make p (next make h 0)))
+    x = make f (end make fs (nextFree make p (nextFree make h 0)))

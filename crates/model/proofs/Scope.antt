@@ -7,7 +7,7 @@ use native.Mathlib.Omega.{arith}
 use lib.ListN.{length, getD, length-append, List·getD-append}
 use Rattle.model.specs.Symbols.{Name, Sym, Found, none, hit, Answer, absent, answer}
 use Rattle.model.specs.Objects.{Obj, Objs, all, count, obj}
-use Rattle.model.specs.Scope.{answerOf, orElse, scan, hostAnswer, ownAnswer, resolve, resolveCopy}
+use Rattle.model.specs.Scope.{scopeAnswer, orElse, scan, hostAnswer, ownAnswer, resolve, resolveCopy}
 use Rattle.model.specs.Longer.{longer, HostOrNowhere, nowhere, to-host}
 
 -- the last element of a list
@@ -29,8 +29,8 @@ absent-not : {P : Type 0} (k : ℕ) (s : Sym) (a : ℕ) → absent ≡ answer k 
 absent-not k s a e = let z : _≡_ {A = ℕ} 0 1 = cc in absurd (omega arith)
 
 -- the number of the object that answers
-number-of : (k : ℕ) (o : Obj) (f : Found) (d : ℕ) (s : Sym) (a : ℕ) → answerOf k o f ≡ answer d s a → d ≡ k
-unfolding answerOf
+number-of : (k : ℕ) (o : Obj) (f : Found) (d : ℕ) (s : Sym) (a : ℕ) → scopeAnswer k o f ≡ answer d s a → d ≡ k
+unfolding scopeAnswer
 number-of k o none d s a e = absent-not d s a e
 number-of k o (hit s′) d s a e = cc
 
@@ -50,7 +50,7 @@ scan-range k (o ∷ os) name d s a e =
     ⊎-elim
     (λ h. let n = number-of k o (o .find name) d s a h in omega arith)
     (λ h. let r = scan-range (suc k) os name d s a (h .1) in omega arith)
-    (orElse-cases (answerOf k o (o .find name)) (scan (suc k) os name) d s a e)
+    (orElse-cases (scopeAnswer k o (o .find name)) (scan (suc k) os name) d s a e)
 
 -- objects at the end of the list change no answer
 scan-kept :
@@ -62,7 +62,7 @@ scan-kept k (o ∷ os) more name d s a e =
     ⊎-elim
     (λ h. rw h)
     (λ h. rw (h .0) (scan-kept (suc k) os more name d s a (h .1)))
-    (orElse-cases (answerOf k o (o .find name)) (scan (suc k) os name) d s a e)
+    (orElse-cases (scopeAnswer k o (o .find name)) (scan (suc k) os name) d s a e)
 
 module _ (S : Objs) (x : Obj) where
   pub obj-longer : (k : ℕ) → k < count S → obj (longer S x) k ≡ obj S k

@@ -15,23 +15,23 @@ Fits S n = (k : ℕ) → k < count S → (obj S k) .offset + (obj S k) .span ≤
 -- `make f off` is the object of the file `f` where `off` is the next free offset; the arena's address is fixed
 module _ {File : Type 0} (make : File → ℕ → Obj) where
   -- the next free offset after that object
-  abbrev pub next : File → ℕ → ℕ
-  next f off = (make f off) .offset + (make f off) .span
+  abbrev pub nextFree : File → ℕ → ℕ
+  nextFree f off = (make f off) .offset + (make f off) .span
 
   -- the objects of a list of files, one after another
   unfoldable pub layout : List File → ℕ → List Obj
   layout [] off = []
-  layout (f ∷ fs) off = make f off ∷ layout fs (next f off)
+  layout (f ∷ fs) off = make f off ∷ layout fs (nextFree f off)
 
   -- the next free offset after them
   unfoldable pub end : List File → ℕ → ℕ
   end [] off = off
-  end (f ∷ fs) off = end fs (next f off)
+  end (f ∷ fs) off = end fs (nextFree f off)
 
   -- the set of a host, a program and libraries
   unfoldable pub objsOf : File → File → List File → Objs
   objsOf h p fs =
-      record { host = make h 0; program = make p (next h 0); libs = layout fs (next p (next h 0)) }
+      record { host = make h 0; program = make p (nextFree h 0); libs = layout fs (nextFree p (nextFree h 0)) }
 
   -- demand 3 for such sets: T's files are S's and one more; their arenas, of n and n′ bytes, are lists
   abbrev pub LongerFiles : Type 0

@@ -8,9 +8,9 @@ use Rattle.model.specs.Symbols.{Name, Found, none, hit, address, Answer,
 use Rattle.model.specs.Objects.{Obj, Objs, obj}
 
 -- the answer of object `k`
-unfoldable pub answerOf : ℕ → Obj → Found → Answer
-answerOf k o none = absent
-answerOf k o (hit s) = answer k s (address (o .base) s)
+unfoldable pub scopeAnswer : ℕ → Obj → Found → Answer
+scopeAnswer k o none = absent
+scopeAnswer k o (hit s) = answer k s (address (o .base) s)
 
 -- the same, but for protected symbols only
 unfoldable pub protectedOf : ℕ → Obj → Found → Answer
@@ -25,11 +25,11 @@ orElse (answer k s a) b = answer k s a
 -- the first object of a list that has the name; `k` is the number of the list's first object
 unfoldable pub scan : ℕ → List Obj → Name → Answer
 scan k [] name = absent
-scan k (o ∷ os) name = orElse (answerOf k o (o .find name)) (scan (suc k) os name)
+scan k (o ∷ os) name = orElse (scopeAnswer k o (o .find name)) (scan (suc k) os name)
 
 -- the host's answer
 abbrev pub hostAnswer : Objs → Name → Answer
-hostAnswer S name = answerOf 0 (S .host) ((S .host) .find name)
+hostAnswer S name = scopeAnswer 0 (S .host) ((S .host) .find name)
 
 -- a protected definition of the requester `r`
 abbrev pub ownAnswer : Objs → ℕ → Name → Answer

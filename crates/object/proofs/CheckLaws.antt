@@ -11,17 +11,17 @@ use Rattle.words.proofs.Choice.{both-true}
 use Rattle.object.specs.declared.hash_tables.HashTable.{HashTable}
 use Rattle.object.specs.TableBytes.{tableBytes}
 use Rattle.object.specs.HashTable.{bucketCount, bucketAt, reached}
-use Rattle.object.specs.HashCheck.{startOf, sizeOf, numbersOk, bucketOk, lengthOk, stepOk, walkOk, tableOk}
+use Rattle.object.specs.HashCheck.{startOf, tableSize, numbersOk, bucketOk, lengthOk, stepOk, walkOk, tableOk}
 use Rattle.object.proofs.Ranges.{below-at}
 
 module _ (isT : ℕ → Bool) (m : List ℕ) (symbols strings : ℕ) (t : HashTable) (ok : tableOk isT m symbols strings t ≡ true) where
-  pub clauses : (numbersOk t ≡ true) × (tableBytes isT (startOf t) (sizeOf t) ≡ true)
+  pub clauses : (numbersOk t ≡ true) × (tableBytes isT (startOf t) (tableSize t) ≡ true)
       × (below (walkOk isT m symbols strings t) (bucketCount t) ≡ true)
   unfolding tableOk
   clauses =
       let w = below (walkOk isT m symbols strings t) (bucketCount t) in
-      let h = both-true (numbersOk t) (both (tableBytes isT (startOf t) (sizeOf t)) w) ok in
-      let h′ = both-true (tableBytes isT (startOf t) (sizeOf t)) w (h .1) in
+      let h = both-true (numbersOk t) (both (tableBytes isT (startOf t) (tableSize t)) w) ok in
+      let h′ = both-true (tableBytes isT (startOf t) (tableSize t)) w (h .1) in
       (h .0, h′ .0, h′ .1)
 
   pub walk-clauses : (i : ℕ) → i < bucketCount t

@@ -13,9 +13,9 @@ use Rattle.words.proofs.Words.{leAt-past}
 use lib.ListN.{length}
 use Rattle.object.specs.declared.hash_tables.HashTable.{HashTable}
 use Rattle.object.specs.declared.hash_tables.HashTable.the-variants.{Gnu}
-use Rattle.object.specs.HashTable.{bucketAt, chainAt, isLast, next, walk}
+use Rattle.object.specs.HashTable.{bucketAt, chainAt, isLast, nextSymbol, walk}
 use Rattle.object.specs.declared.hash_tables.SymbolCount.the-variants.{Known}
-use Rattle.object.specs.SymbolCount.{highest, lastOf, countOf}
+use Rattle.object.specs.SymbolCount.{highest, lastReached, countOf}
 use Rattle.object.proofs.Ranges.{split}
 
 pub highest-more : (m : List ℕ) (t : HashTable) (i b w r : ℕ) → b ≡ highest m t i → w ≡ leAt 4 (mem m) (bucketAt t i) → r ≡ max b w
@@ -59,18 +59,18 @@ highest-of m t P z (suc n) h = larger (highest m t n) (leAt 4 (mem m) (bucketAt 
         (split a b)
 
 module _ (m : List ℕ) (t : HashTable) (s d : ℕ) where
-  pub last-stop : (n w : ℕ) → 0 < n → w ≡ leAt 4 (mem m) (chainAt t s) → isLast t w ≡ true → lastOf (walk m t n s) d ≡ s
-  unfolding walk lastOf
+  pub last-stop : (n w : ℕ) → 0 < n → w ≡ leAt 4 (mem m) (chainAt t s) → isLast t w ≡ true → lastReached (walk m t n s) d ≡ s
+  unfolding walk lastReached
   last-stop zero w l e la = absurd (not-suc-le-zero l)
   last-stop (suc n) w l e la = rw (← e, la)
 
   pub last-on : (n w k : ℕ) → n ≡ suc k → w ≡ leAt 4 (mem m) (chainAt t s) → isLast t w ≡ false
-      → lastOf (walk m t n s) d ≡ lastOf (walk m t k (next t s w)) s
-  unfolding walk lastOf
+      → lastReached (walk m t n s) d ≡ lastReached (walk m t k (nextSymbol t s w)) s
+  unfolding walk lastReached
   last-on n w k q e la = rw (q, ← e, la)
 
-  pub last-out : (n : ℕ) → n ≤ 0 → lastOf (walk m t n s) d ≡ d
-  unfolding walk lastOf
+  pub last-out : (n : ℕ) → n ≤ 0 → lastReached (walk m t n s) d ≡ d
+  unfolding walk lastReached
   last-out zero l = refl
   last-out (suc n) l = absurd (not-suc-le-zero l)
 

@@ -15,7 +15,7 @@ use Rattle.words.specs.Memory.{mem}
 use Rattle.words.specs.Words.{leAt}
 use Rattle.object.specs.declared.dynamic_array.DynamicFields.{DynamicFields}
 use Rattle.object.specs.declared.dynamic_array.Needs.{Needs}
-use Rattle.object.specs.DynamicArray.{Item, itemAt, itemsIn, endIn, lastOf, firstOf, allOf}
+use Rattle.object.specs.DynamicArray.{Item, itemAt, itemsIn, endIn, lastValue, firstOf, allOf}
 use Rattle.object.specs.DynamicFields.{fieldsFrom, Needed}
 use Rattle.object.specs.Steps.FieldSteps.{stepOf, needStep}
 
@@ -27,7 +27,7 @@ module _ (image : List ℕ) (at left : ℕ) where
   rest o = fieldsFrom o (endIn left image at) (itemsIn left image at)
 
   pub rest-none : left ≡ 0 → (o : DynamicFields) → o .ended ≡ false → rest o ≡ o
-  unfolding rest itemsIn endIn fieldsFrom lastOf firstOf
+  unfolding rest itemsIn endIn fieldsFrom lastValue firstOf
   rest-none e o z = rw (e, ← z)
 
   pub rest-end : 0 < left → leAt 8 (mem image) at ≡ 0 → (o : DynamicFields) → rest o ≡ fieldsFrom o true []
@@ -40,7 +40,7 @@ module _ (image : List ℕ) (at left : ℕ) where
 pub rest-more :
     (image : List ℕ) (at left : ℕ) → 0 < left → (leAt 8 (mem image) at ≡ 0 → ⊥) → (o : DynamicFields)
     → rest image at left o ≡ rest image (at + 16) (left - 1) (stepOf o (leAt 8 (mem image) at) (leAt 8 (mem image) (at + 8)))
-unfolding rest itemsIn endIn fieldsFrom lastOf firstOf stepOf
+unfolding rest itemsIn endIn fieldsFrom lastValue firstOf stepOf
 rest-more image at left l ne o =
     let e : left ≡ suc (left - 1) = omega arith in
     ap (λ (n : ℕ). fieldsFrom o (endIn n image at) (itemsIn n image at)) e

@@ -16,7 +16,7 @@ use Rattle.object.specs.declared.hash_tables.HashTable.{HashTable}
 use Rattle.object.specs.declared.hash_tables.HashTable.the-variants.{SysV, Gnu}
 use Rattle.object.specs.declared.hash_tables.Found.the-variants.{Hit, Miss}
 use Rattle.object.specs.Symbol.{symbolName}
-use Rattle.object.specs.HashTable.{bucketAt, chainAt, isLast, next, fuel, walk, walkFrom, mayHold, bucketOf, isHit, firstIn, findBy}
+use Rattle.object.specs.HashTable.{bucketAt, chainAt, isLast, nextSymbol, fuel, walk, walkFrom, mayHold, bucketOf, isHit, firstIn, findBy}
 
 -- a shift by 32 or more leaves nothing of a 32-bit number
 pub shifted-out : (h k : ℕ) → h < 2 ^ 32 → 32 ≤ k → h / 2 ^ k ≡ 0
@@ -38,7 +38,7 @@ module _ (m : List ℕ) (t : HashTable) (p : ℕ → Bool) (s : ℕ) where
   find-last (suc n) w l we e la = rw (e, ← we, la)
 
   pub find-on : (n w k : ℕ) → n ≡ suc k → w ≡ leAt 4 (mem m) (chainAt t s) → p s ≡ false → isLast t w ≡ false
-      → firstIn p (walk m t n s) ≡ firstIn p (walk m t k (next t s w))
+      → firstIn p (walk m t n s) ≡ firstIn p (walk m t k (nextSymbol t s w))
   unfolding walk firstIn
   find-on n w k q we e la = rw (q, e, ← we, la)
 

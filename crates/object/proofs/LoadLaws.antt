@@ -10,7 +10,7 @@ use lib.ListN.{length, take, set, length-append}
 use lib.Seq.{take-length, take-append-le, take-suc-set}
 use Rattle.object.specs.Header.{headerCount}
 use Rattle.object.specs.ProgramHeader.{typeAt, segmentAt, loadsIn, loadsOf, dynamicIn}
-use Rattle.object.specs.Steps.LoadTable.{segmentsIn, Loaded}
+use Rattle.object.specs.Steps.LoadTable.{segmentsIn, SegmentsIn}
 use Rattle.object.specs.declared.program_header.Segment.{Segment}
 use Rattle.object.specs.declared.program_header.Loads.{Loads}
 use Rattle.object.specs.declared.program_header.Dynamic.the-variants.{At}
@@ -70,7 +70,7 @@ pub loaded-all :
     (file : List ℕ) (i : ℕ) (l : Loads) → i ≡ headerCount file → l .count ≡ length (loadsIn file i) → l .count ≤ 16
     → length (l .list) ≡ 16
     → segmentsIn l ≡ loadsIn file i
-    → Loaded (loadsOf file) l
+    → SegmentsIn (loadsOf file) l
 loaded-all file i l e c few room same =
     let g : loadsIn file i ≡ loadsOf file = ap (loadsIn file) e in
     record { count = omega (arith, ap length g); room = room; list = λ h. same ∙ g; more = λ h. absurd (omega (arith, ap length g)) }
@@ -79,7 +79,7 @@ pub loaded-over :
     (file : List ℕ) (i : ℕ) (l : Loads) → i < headerCount file → length (loadsIn file i) ≡ 16 → typeAt file i ≡ 1 → l .count ≡ 17
     → length (l .list) ≡ 16
     → l .list ≡ loadsIn file i
-    → Loaded (loadsOf file) l
+    → SegmentsIn (loadsOf file) l
 loaded-over file i l h full t c room same =
     let g = table-over file i (headerCount file) full t h in
     let f = loads-front file i (headerCount file) (omega arith) in

@@ -27,9 +27,9 @@ use Rattle.object.specs.declared.hash_tables.Found.the-variants.{Hit, Mi
 use Rattle.object.specs.declared.hash_tables.SymbolCount.the-variants.{Unknown, Known}
 use Rattle.object.specs.TableBytes.{tableBytes, tableName, Agree}
 use Rattle.object.specs.Symbol.{symbolFrom, symbolAt, symbolName}
-use Rattle.object.specs.HashTable.{sysvAt, gnuAt, bucketCount, bucketAt, chainAt, isLast, next, fuel, walk, walkFrom, reached, mayHold, bucketOf, isHit, firstIn, findBy, lookupBy, lookupIn, answerOf, answerBy, answerIn}
-use Rattle.object.specs.HashCheck.{startOf, sizeOf, numbersOk, bucketOk, lengthOk, chainOk, symbolOk, stepOk, walkOk, tableOk}
-use Rattle.object.specs.SymbolCount.{highest, lastOf, pastWalk, tableCount, countOf}
+use Rattle.object.specs.HashTable.{sysvAt, gnuAt, bucketCount, bucketAt, chainAt, isLast, nextSymbol, fuel, walk, walkFrom, reached, mayHold, bucketOf, isHit, firstIn, findBy, lookupBy, lookupIn, exportedAt, answerBy, answerIn}
+use Rattle.object.specs.HashCheck.{startOf, tableSize, numbersOk, bucketOk, lengthOk, chainOk, symbolOk, stepOk, walkOk, tableOk}
+use Rattle.object.specs.SymbolCount.{highest, lastReached, pastWalk, tableCount, countOf}
 use Rattle.object.proofs.Ranges.{split, below-at, below-all}
 use Rattle.object.proofs.CountLaws.{highest-of}
 use Rattle.object.proofs.CheckLaws.{clauses, walk-clauses}
@@ -174,8 +174,8 @@ module _ (isT : ℕ → Bool) (m m′ : List ℕ) (agree : Agree isT m m′) whe
   walk-same t ok same zero s e = refl
   walk-same t ok same (suc n) s e =
       let w = leAt 4 (mem m) (chainAt t s) in
-      let h = both-true (ok s) (every ok (pick (isLast t w) [] (walk m t n (next t s w)))) e in
-      rw (same s (h .0)) (go (isLast t w) (h .1) (λ e′. walk-same t ok same n (next t s w) e′))
+      let h = both-true (ok s) (every ok (pick (isLast t w) [] (walk m t n (nextSymbol t s w)))) e in
+      rw (same s (h .0)) (go (isLast t w) (h .1) (λ e′. walk-same t ok same n (nextSymbol t s w) e′))
     where
       go : (b : Bool) {l l′ : List ℕ} → every ok (pick b [] l) ≡ true → (every ok l ≡ true → l′ ≡ l)
           → s ∷ pick b [] l′ ≡ s ∷ pick b [] l
@@ -188,13 +188,13 @@ module _ (isT : ℕ → Bool) (m m′ : List ℕ) (agree : Agree isT m m′) whe
   fuel-same (Gnu at n first b shift) e = rw e
 
   -- the words of a bucket, and those of a chain that a walk may read
-  bucket-word : (t : HashTable) → tableBytes isT (startOf t) (sizeOf t) ≡ true → (i : ℕ) → i < bucketCount t
+  bucket-word : (t : HashTable) → tableBytes isT (startOf t) (tableSize t) ≡ true → (i : ℕ) → i < bucketCount t
       → leAt 4 (mem m′) (bucketAt t i) ≡ leAt 4 (mem m) (bucketAt t i)
   bucket-word Without b i l = absurd (not-suc-le-zero l)
   bucket-word (SysV at n c) b i l = number-same 4 at (8 + 4 * n + 4 * c) (8 + 4 * i) b (omega arith)
   bucket-word (Gnu at n first w shift) b i l = number-same 4 at (16 + 8 * w + 4 * n) (16 + 8 * w + 4 * i) b (omega arith)
 
-  chain-word : (t : HashTable) → tableBytes isT (startOf t) (sizeOf t) ≡ true → (s : ℕ) → chainOk isT t s ≡ true
+  chain-word : (t : HashTable) → tableBytes isT (startOf t) (tableSize t) ≡ true → (s : ℕ) → chainOk isT t s ≡ true
       → leAt 4 (mem m′) (chainAt t s) ≡ leAt 4 (mem m) (chainAt t s)
   unfolding chainOk
   chain-word Without b s o = let z : _≡_ {A = ℕ} 0 1 = cc in absurd (omega arith)
@@ -211,7 +211,7 @@ module _ (isT : ℕ → Bool) (m m′ : List ℕ) (agree : Agree isT m m′) whe
   bucket-in (Gnu at n first w shift) k g e h =
       mod-lt g (not-zero n (both-true (not (eqb n 0)) (both (not (eqb w 0)) (leb shift 31)) k .0))
 
-  may-same : (t : HashTable) → numbersOk t ≡ true → tableBytes isT (startOf t) (sizeOf t) ≡ true → (g : ℕ) → mayHold m′ t g ≡ mayHold m t g
+  may-same : (t : HashTable) → numbersOk t ≡ true → tableBytes isT (startOf t) (tableSize t) ≡ true → (g : ℕ) → mayHold m′ t g ≡ mayHold m t g
   unfolding numbersOk mayHold
   may-same Without k b g = refl
   may-same (SysV at n c) k b g = refl
@@ -223,7 +223,7 @@ module _ (isT : ℕ → Bool) (m m′ : List ℕ) (agree : Agree isT m m′) whe
   -- ---- a table that is not refused
 
   module _ (symbols strings : ℕ) (t : HashTable) (ok : tableOk isT m symbols strings t ≡ true) (len : length m′ ≡ length m) where
-    bytes : tableBytes isT (startOf t) (sizeOf t) ≡ true
+    bytes : tableBytes isT (startOf t) (tableSize t) ≡ true
     bytes = clauses isT m symbols strings t ok .1
 
     numbers : numbersOk t ≡ true
@@ -309,15 +309,15 @@ module _ (isT : ℕ → Bool) (m m′ : List ℕ) (agree : Agree isT m m′) whe
 
     -- the object's answer
     answer-of : (f : Found) → ((s : ℕ) → f ≡ Hit s → symbolOk isT m symbols strings s ≡ true)
-        → answerOf m′ symbols f ≡ answerOf m symbols f
-    unfolding answerOf
+        → exportedAt m′ symbols f ≡ exportedAt m symbols f
+    unfolding exportedAt
     answer-of Miss o = refl
     answer-of (Hit s) o = rw (symbol-same symbols strings s (o s refl))
 
     pub answer-same : (name : List ℕ) (g e : ℕ)
-        → answerOf m′ symbols (findBy m′ symbols strings t name g e) ≡ answerOf m symbols (findBy m symbols strings t name g e)
+        → exportedAt m′ symbols (findBy m′ symbols strings t name g e) ≡ exportedAt m symbols (findBy m symbols strings t name g e)
     answer-same name g e =
-        ap (answerOf m′ symbols) (find-same name g e)
+        ap (exportedAt m′ symbols) (find-same name g e)
         ∙ answer-of (findBy m symbols strings t name g e) (λ s f. found-ok name g e s f)
 
     -- the symbol count
@@ -326,10 +326,10 @@ module _ (isT : ℕ → Bool) (m m′ : List ℕ) (agree : Agree isT m m′) whe
     past-same w e = rw (fuel-same t len) (go (eqb w 0) e)
       where
         go : (z : Bool) → every (stepOk isT m symbols strings t) (pick z [] (walk m t (fuel m t) w)) ≡ true
-            → pick z Unknown (Known (lastOf (walk m′ t (fuel m t) w) w + 1)) ≡ pick z Unknown (Known (lastOf (walk m t (fuel m t) w) w + 1))
+            → pick z Unknown (Known (lastReached (walk m′ t (fuel m t) w) w + 1)) ≡ pick z Unknown (Known (lastReached (walk m t (fuel m t) w) w + 1))
         go true e = refl
         go false e =
-            ap (λ (l : List ℕ). Known (lastOf l w + 1))
+            ap (λ (l : List ℕ). Known (lastReached l w + 1))
             (walk-same t (stepOk isT m symbols strings t) (λ s o. chain-word t bytes s (step-parts s o .0)) (fuel m t) w e)
 
     highest-same : (n : ℕ) → n ≤ bucketCount t → highest m′ t n ≡ highest m t n

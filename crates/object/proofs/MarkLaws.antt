@@ -15,7 +15,7 @@ use Rattle.words.specs.Memory.{mem}
 use Rattle.words.specs.Words.{leAt}
 use Rattle.words.proofs.Choice.{both-true}
 use Rattle.object.specs.declared.hash_tables.HashTable.{HashTable}
-use Rattle.object.specs.HashTable.{chainAt, isLast, next, walk}
+use Rattle.object.specs.HashTable.{chainAt, isLast, nextSymbol, walk}
 use Rattle.object.specs.Steps.Marks.{MarkAt, NewMark, Marked, within, Passes}
 use Rattle.object.proofs.WalkEnds.{walk-ended}
 use Rattle.object.proofs.WalkLaws.{within-no, within-out, within-last, within-on, every-no, every-out, left-on}
@@ -62,13 +62,13 @@ module _ (m : List ℕ) (t : HashTable) (p : ℕ → Bool) where
 
   -- the symbol after one whose walk passes
   pub within-next : (s k w : ℕ) → within m t p s k ≡ true → w ≡ leAt 4 (mem m) (chainAt t s) → isLast t w ≡ false
-      → within m t p (next t s w) k ≡ true
+      → within m t p (nextSymbol t s w) k ≡ true
   within-next s zero w h e la = never (sym (within-out m t p s zero (omega arith)) ∙ h)
   within-next s (suc k) w h e la = go (p s) refl
     where
-      go : (b : Bool) → p s ≡ b → within m t p (next t s w) (suc k) ≡ true
+      go : (b : Bool) → p s ≡ b → within m t p (nextSymbol t s w) (suc k) ≡ true
       go false f = never (sym (within-no m t p s (suc k) f) ∙ h)
-      go true f = within-more (next t s w) k (suc k) (sym (within-on m t p s (suc k) w k refl e f la) ∙ h) (omega arith)
+      go true f = within-more (nextSymbol t s w) k (suc k) (sym (within-on m t p s (suc k) w k refl e f la) ∙ h) (omega arith)
 
   -- ---- a walk by itself
 
@@ -77,16 +77,16 @@ module _ (m : List ℕ) (t : HashTable) (p : ℕ → Bool) where
   passes-last s w we e la zero = refl
   passes-last s w we e la (suc n) = rw (e, ← we, la)
 
-  pub passes-on : (s w : ℕ) → w ≡ leAt 4 (mem m) (chainAt t s) → p s ≡ true → isLast t w ≡ false → Passes m t p (next t s w) → Passes m t p s
+  pub passes-on : (s w : ℕ) → w ≡ leAt 4 (mem m) (chainAt t s) → p s ≡ true → isLast t w ≡ false → Passes m t p (nextSymbol t s w) → Passes m t p s
   unfolding walk every
   passes-on s w we e la h zero = refl
   passes-on s w we e la h (suc n) = rw (e, ← we, la) (h n)
 
-  pub passes-next : (s w : ℕ) → w ≡ leAt 4 (mem m) (chainAt t s) → isLast t w ≡ false → Passes m t p s → Passes m t p (next t s w)
+  pub passes-next : (s w : ℕ) → w ≡ leAt 4 (mem m) (chainAt t s) → isLast t w ≡ false → Passes m t p s → Passes m t p (nextSymbol t s w)
   unfolding walk every
   passes-next s w we la h n =
       let e = h (suc n) in
-      both-true (p s) (every p (walk m t n (next t s w))) (rw (← we, la) at e) .1
+      both-true (p s) (every p (walk m t n (nextSymbol t s w))) (rw (← we, la) at e) .1
 
 -- ---- the turns of a System V walk from `word`, of which `left` symbols of `c` are left at `s`
 
@@ -127,7 +127,7 @@ module _ (m : List ℕ) (t : HashTable) (p : ℕ → Bool) (c word : ℕ) where
         within-more m t p word (1 + (c - left)) (total + (c - left + 1)) (r .on 1 (within-last m t p s 1 w (omega arith) we e la)) (omega arith),
       )
 
-      pub sysv-turn : isLast t w ≡ false → SysvAt m t p c word (next t s w) (left - 1)
+      pub sysv-turn : isLast t w ≡ false → SysvAt m t p c word (nextSymbol t s w) (left - 1)
       sysv-turn la =
           let q : left ≡ suc (left - 1) = omega arith in record {
             fits = omega (arith, r .fits);
@@ -158,7 +158,7 @@ module _ (m : List ℕ) (t : HashTable) (p : ℕ → Bool) (all : Bool) (word s 
     pub gnu-ends-at : isLast t w ≡ true → (true ≡ all) × Passes m t p word
     gnu-ends-at la = gnu-known (passes-last m t p s w we e la)
 
-    pub gnu-turn : isLast t w ≡ false → GnuAt m t p all word (next t s w) (left - 1)
+    pub gnu-turn : isLast t w ≡ false → GnuAt m t p all word (nextSymbol t s w) (left - 1)
     gnu-turn la = record {
       same = left-on m t p all s left w (r .same) more we e la;
       on = λ h. r .on (passes-on m t p s w we e la h);

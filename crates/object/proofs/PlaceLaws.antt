@@ -16,7 +16,7 @@ use Rattle.object.specs.Refusal.{require, after}
 use Rattle.object.specs.Header.{headerRefusal, tableEnd}
 use Rattle.object.proofs.RefusalLaws.{after-met}
 use Rattle.object.specs.ProgramHeader.{loadsOf}
-use Rattle.object.specs.Steps.LoadTable.{segmentsIn, Loaded}
+use Rattle.object.specs.Steps.LoadTable.{segmentsIn, SegmentsIn}
 use Rattle.object.specs.Segments.{holdsHeaders, segmentOk, allApart, segmentsOk, spanOf, placeSegments, placedOf}
 use Rattle.object.specs.Placed.{segmentsOf, objectSpan, objectBytes, placeRefusal, placedPart, PlacedBy}
 use Rattle.object.specs.declared.program_header.Segment.{Segment}
@@ -25,7 +25,7 @@ use Rattle.object.specs.declared.object_data.Placed.{Placed}
 
 -- ---- the segments of a file and the table that holds them
 
-module _ (file : List ℕ) (ss : List Segment) (l : Loads) (loaded : Loaded ss l) where
+module _ (file : List ℕ) (ss : List Segment) (l : Loads) (loaded : SegmentsIn ss l) where
   pub many : 16 < l .count → segmentsOk file ss ≡ false
   unfolding segmentsOk
   many h = let g : 16 < length ss = omega (arith, loaded .count) in rw (lt-leb _ _ g)
@@ -165,7 +165,7 @@ module _ (file entry : List ℕ) (z : headerRefusal file ≡ 0) where
   pub file-seven : segmentsOk file (loadsOf file) ≡ false → placeRefusal false (length entry) file ≡ 7
   file-seven e = refusal-seven false file (length entry) z e
 
-  module _ (l : Loads) (loaded : Loaded (loadsOf file) l) (ok : segmentsOk file (loadsOf file) ≡ true) {span : ℕ} (is : span ≡ spanOf (segmentsIn l)) where
+  module _ (l : Loads) (loaded : SegmentsIn (loadsOf file) l) (ok : segmentsOk file (loadsOf file) ≡ true) {span : ℕ} (is : span ≡ spanOf (segmentsIn l)) where
     span-is : span ≡ objectSpan false file
     unfolding objectSpan
     span-is = is ∙ ap (λ (ss : List Segment). spanOf ss) (ok-table file (loadsOf file) l loaded ok)

@@ -10,9 +10,9 @@ use Rattle.object.specs.Refusal.{require}
 use Rattle.object.specs.declared.program_header.Segment.{Segment}
 use Rattle.object.specs.declared.program_header.Dynamic.the-variants.{Missing, At}
 use Rattle.object.specs.declared.dynamic_array.Needs.{Needs}
-use Rattle.object.specs.DynamicFields.{fieldsOf, needsOf, Needed}
+use Rattle.object.specs.DynamicFields.{fieldsOf, neededOffsets, Needed}
 use Rattle.object.proofs.RefusalLaws.{after-met, after-none}
-use Rattle.object.specs.Record.{recordIn, fieldsRefusal, tablesOk, readRefusal, recordOf}
+use Rattle.object.specs.Record.{recordIn, fieldsRefusal, tablesOk, readRefusal, recordAt}
 
 -- what the table of needs tells of the needs
 pub needs-few : (needs : List ℕ) (n : Needs) → Needed needs n → n .count ≤ 64 → (length needs ≤ 64) × (take (n .count) (n .list) ≡ needs)
@@ -34,18 +34,18 @@ module _ (host : Bool) (image : List ℕ) (segments : List Segment) where
     read-fields n e ne = rw (← e) (after-met n _ ne)
 
     module _ (n : ℕ) (e : n ≡ fieldsRefusal (fieldsOf image at)) (z : n ≡ 0) where
-      pub read-many : 64 < length (needsOf image at) → readRefusal host image segments (At at) ≡ 11
+      pub read-many : 64 < length (neededOffsets image at) → readRefusal host image segments (At at) ≡ 11
       unfolding readRefusal require
-      read-many l = after-none (fieldsRefusal (fieldsOf image at)) _ (sym e ∙ z) ∙ rw (lt-leb (length (needsOf image at)) 64 l)
+      read-many l = after-none (fieldsRefusal (fieldsOf image at)) _ (sym e ∙ z) ∙ rw (lt-leb (length (neededOffsets image at)) 64 l)
 
       pub read-tables :
-          (t : Bool) → length (needsOf image at) ≤ 64
-          → t ≡ tablesOk host image (recordIn image segments (fieldsOf image at) (needsOf image at))
+          (t : Bool) → length (neededOffsets image at) ≤ 64
+          → t ≡ tablesOk host image (recordIn image segments (fieldsOf image at) (neededOffsets image at))
           → readRefusal host image segments (At at) ≡ require t 12 0
       unfolding readRefusal require
       read-tables t l h =
-          after-none (fieldsRefusal (fieldsOf image at)) _ (sym e ∙ z) ∙ rw (le-leb (length (needsOf image at)) 64 l, ← h)
+          after-none (fieldsRefusal (fieldsOf image at)) _ (sym e ∙ z) ∙ rw (le-leb (length (neededOffsets image at)) 64 l, ← h)
 
-    pub record-at : recordOf image segments (At at) ≡ recordIn image segments (fieldsOf image at) (needsOf image at)
-    unfolding recordOf
+    pub record-at : recordAt image segments (At at) ≡ recordIn image segments (fieldsOf image at) (neededOffsets image at)
+    unfolding recordAt
     record-at = refl

@@ -16,7 +16,7 @@ use Rattle.words.proofs.Choice.{both-true}
 use Rattle.object.specs.declared.hash_tables.HashTable.{HashTable}
 use Rattle.object.specs.declared.hash_tables.HashTable.the-variants.{Without, SysV, Gnu}
 use Rattle.object.specs.HashCheck.{bucketOk, lengthOk, chainOk, symbolOk, stepOk, tableOk}
-use Rattle.object.specs.HashTable.{bucketCount, bucketAt, chainAt, isLast, next, fuel, walk, walkFrom, reached}
+use Rattle.object.specs.HashTable.{bucketCount, bucketAt, chainAt, isLast, nextSymbol, fuel, walk, walkFrom, reached}
 use Rattle.object.specs.TableBytes.{tableBytes}
 use Rattle.object.specs.WalksEnd.{WalksEnd}
 use Rattle.object.proofs.Ranges.{below-at}
@@ -30,8 +30,8 @@ walk-ended m t k (suc n) s h =
     let w = leAt 4 (mem m) (chainAt t s) in
     let q : suc n + k ≡ suc (n + k) = omega arith in
     rw q
-    (ap (λ (l : List ℕ). s ∷ l) (go (isLast t w) (walk m t n (next t s w)) (walk m t (n + k) (next t s w)) h
-    (λ h′. walk-ended m t k n (next t s w) h′)))
+    (ap (λ (l : List ℕ). s ∷ l) (go (isLast t w) (walk m t n (nextSymbol t s w)) (walk m t (n + k) (nextSymbol t s w)) h
+    (λ h′. walk-ended m t k n (nextSymbol t s w) h′)))
   where
     go : (b : Bool) (l l′ : List ℕ) → suc (length (pick b [] l)) < suc n → (length l < n → l′ ≡ l) → pick b [] l′ ≡ pick b [] l
     go true l l′ h ih = refl

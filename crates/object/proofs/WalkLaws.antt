@@ -17,7 +17,7 @@ use Rattle.object.specs.declared.hash_tables.HashTable.{HashTable}
 use Rattle.object.specs.declared.hash_tables.HashTable.the-variants.{SysV, Gnu}
 use Rattle.object.specs.TableBytes.{tableBytes}
 use Rattle.object.specs.HashCheck.{bucketOk, lengthOk, chainOk, symbolOk, stepOk, walkOk}
-use Rattle.object.specs.HashTable.{chainAt, isLast, next, fuel, walk, walkFrom}
+use Rattle.object.specs.HashTable.{chainAt, isLast, nextSymbol, fuel, walk, walkFrom}
 use Rattle.object.specs.Steps.Marks.{within}
 
 module _ (m : List ℕ) (t : HashTable) (p : ℕ → Bool) (s : ℕ) where
@@ -27,7 +27,7 @@ module _ (m : List ℕ) (t : HashTable) (p : ℕ → Bool) (s : ℕ) where
   every-no (suc n) l e = rw e
 
   pub every-on : (n w k : ℕ) → n ≡ suc k → w ≡ leAt 4 (mem m) (chainAt t s) → p s ≡ true → isLast t w ≡ false
-      → every p (walk m t n s) ≡ every p (walk m t k (next t s w))
+      → every p (walk m t n s) ≡ every p (walk m t k (nextSymbol t s w))
   unfolding walk every
   every-on n w k q we e la = rw (q, e, ← we, la)
 
@@ -51,7 +51,7 @@ module _ (m : List ℕ) (t : HashTable) (p : ℕ → Bool) (s : ℕ) where
   within-last n w l we e la = rw (e, ← we, la, le-leb 1 n l)
 
 pub within-on : (m : List ℕ) (t : HashTable) (p : ℕ → Bool) (s n w k : ℕ) → n ≡ suc k → w ≡ leAt 4 (mem m) (chainAt t s)
-    → p s ≡ true → isLast t w ≡ false → within m t p s n ≡ within m t p (next t s w) k
+    → p s ≡ true → isLast t w ≡ false → within m t p s n ≡ within m t p (nextSymbol t s w) k
 unfolding within walk every
 within-on m t p s n w k q we e la =
     rw (q, e, ← we, la) (rw leb·suc-suc)
@@ -95,5 +95,5 @@ gnu-step isT m symbols strings at n first blooms shift s d y de ye nd ny = rw (�
 
 module _ (m : List ℕ) (t : HashTable) (p : ℕ → Bool) (f : Bool) (s k w : ℕ) (left : f ≡ every p (walk m t k s)) (more : 0 < k)
     (we : w ≡ leAt 4 (mem m) (chainAt t s)) (st : p s ≡ true) where
-  pub left-on : isLast t w ≡ false → f ≡ every p (walk m t (k - 1) (next t s w))
+  pub left-on : isLast t w ≡ false → f ≡ every p (walk m t (k - 1) (nextSymbol t s w))
   left-on la = left ∙ every-on m t p s k w (k - 1) (omega arith) we st la

@@ -48,9 +48,9 @@ abbrev pub field : ℕ → Field
 field v = record { given = true; value = v }
 
 -- "A repeated tag: the last counts"; `d` where there is none
-unfoldable pub lastOf : ℕ → Field → List Item → Field
-lastOf tag d [] = d
-lastOf tag d (x ∷ xs) = lastOf tag (pick (eqb (x .tag) tag) (field (x .value)) d) xs
+unfoldable pub lastValue : ℕ → Field → List Item → Field
+lastValue tag d [] = d
+lastValue tag d (x ∷ xs) = lastValue tag (pick (eqb (x .tag) tag) (field (x .value)) d) xs
 
 -- the first counts; `d` where it is given
 unfoldable pub firstOf : ℕ → Field → List Item → Field

@@ -8,7 +8,7 @@ use Prim.Native.Nat.{ℕ, _≤_, _<_, min}
 use lib.ListN.{length, take}
 use Rattle.object.specs.declared.dynamic_array.DynamicFields.{DynamicFields}
 use Rattle.object.specs.declared.dynamic_array.Needs.{Needs}
-use Rattle.object.specs.DynamicArray.{Item, noField, lastOf, firstOf, allOf, itemsOf, endsInside}
+use Rattle.object.specs.DynamicArray.{Item, noField, lastValue, firstOf, allOf, itemsOf, endsInside}
 
 -- the fields that more entries give after `o`
 unfoldable pub fieldsFrom : DynamicFields → Bool → List Item → DynamicFields
@@ -17,29 +17,29 @@ fieldsFrom o ended items =
       -- DT_HASH
       hash = firstOf 4 (o .hash) items;
       -- DT_GNU_HASH
-      gnu = lastOf 0x6ffffef5 (o .gnu) items;
+      gnu = lastValue 0x6ffffef5 (o .gnu) items;
       -- DT_STRTAB
-      strtab = lastOf 5 (o .strtab) items;
+      strtab = lastValue 5 (o .strtab) items;
       -- DT_SYMTAB
-      symtab = lastOf 6 (o .symtab) items;
+      symtab = lastValue 6 (o .symtab) items;
       -- DT_SYMENT
-      syment = lastOf 11 (o .syment) items;
+      syment = lastValue 11 (o .syment) items;
       -- DT_RELA
-      rela = lastOf 7 (o .rela) items;
+      rela = lastValue 7 (o .rela) items;
       -- DT_RELASZ
-      relasz = lastOf 8 (o .relasz) items;
+      relasz = lastValue 8 (o .relasz) items;
       -- DT_RELAENT
-      relaent = lastOf 9 (o .relaent) items;
+      relaent = lastValue 9 (o .relaent) items;
       -- DT_JMPREL
-      jmprel = lastOf 23 (o .jmprel) items;
+      jmprel = lastValue 23 (o .jmprel) items;
       -- DT_PLTRELSZ
-      pltrelsz = lastOf 2 (o .pltrelsz) items;
+      pltrelsz = lastValue 2 (o .pltrelsz) items;
       -- DT_PLTREL
-      pltrel = lastOf 20 (o .pltrel) items;
+      pltrel = lastValue 20 (o .pltrel) items;
       -- DT_RELR
-      relr = lastOf 36 (o .relr) items;
+      relr = lastValue 36 (o .relr) items;
       -- DT_RELRSZ
-      relrsz = lastOf 35 (o .relrsz) items;
+      relrsz = lastValue 35 (o .relrsz) items;
       ended = ended;
     }
 
@@ -68,8 +68,8 @@ abbrev pub fieldsOf : List ℕ → ℕ → DynamicFields
 fieldsOf image at = fieldsFrom noFields (endsInside image at) (itemsOf image at)
 
 -- DT_NEEDED: the offsets of the needs' names, in file order
-abbrev pub needsOf : List ℕ → ℕ → List ℕ
-needsOf image at = allOf 1 (itemsOf image at)
+abbrev pub neededOffsets : List ℕ → ℕ → List ℕ
+neededOffsets image at = allOf 1 (itemsOf image at)
 
 -- the table of needs that the code keeps: "up to 64 needed offsets"; a count of 65 says that there are more, and the first 64 are held
 pub record Needed (needs : List ℕ) (n : Needs) : Type 0 where

@@ -82,9 +82,9 @@ bitWords location bitmap k (suc n) =
     pick (eqb (bitmap / 2 ^ k % 2) 1) (wordAfter location k ∷ []) [] ++ bitWords location bitmap (k + 1) n
 
 -- the words that an entry names, and the location after it: "location becomes the word after it"
-abbrev pub entryWords : Location → Relr → List Word
-entryWords location (Address p) = place p ∷ []
-entryWords location (Bitmap bits) = bitWords location bits 0 63
+abbrev pub relrEntryWords : Location → Relr → List Word
+relrEntryWords location (Address p) = place p ∷ []
+relrEntryWords location (Bitmap bits) = bitWords location bits 0 63
 
 abbrev pub nextLocation : Location → Relr → Location
 nextLocation location (Address p) = word (p + 8)
@@ -93,4 +93,4 @@ nextLocation location (Bitmap bits) = moved location
 -- the words that the entries name, in order
 unfoldable pub relrWords : Location → List ℕ → List Word
 relrWords location [] = []
-relrWords location (e ∷ es) = entryWords location (relrOf e) ++ relrWords (nextLocation location (relrOf e)) es
+relrWords location (e ∷ es) = relrEntryWords location (relrOf e) ++ relrWords (nextLocation location (relrOf e)) es

@@ -22,10 +22,10 @@ startOf (SysV at n c) = at
 startOf (Gnu at n first b shift) = at
 
 -- header, bloom words, buckets, the SysV chain: how many bytes they are
-abbrev pub sizeOf : HashTable → ℕ
-sizeOf Without = 0
-sizeOf (SysV at n c) = 8 + 4 * n + 4 * c
-sizeOf (Gnu at n first b shift) = 16 + 8 * b + 4 * n
+abbrev pub tableSize : HashTable → ℕ
+tableSize Without = 0
+tableSize (SysV at n c) = 8 + 4 * n + 4 * c
+tableSize (Gnu at n first b shift) = 16 + 8 * b + 4 * n
 
 -- not: no buckets, no bloom word, shift over 31
 unfoldable pub numbersOk : HashTable → Bool
@@ -70,4 +70,4 @@ walkOk isT image symbols strings t i =
 unfoldable pub tableOk : (ℕ → Bool) → List ℕ → ℕ → ℕ → HashTable → Bool
 tableOk isT image symbols strings t =
     both (numbersOk t)
-    (both (tableBytes isT (startOf t) (sizeOf t)) (below (walkOk isT image symbols strings t) (bucketCount t)))
+    (both (tableBytes isT (startOf t) (tableSize t)) (below (walkOk isT image symbols strings t) (bucketCount t)))

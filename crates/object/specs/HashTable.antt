@@ -62,10 +62,10 @@ isLast (SysV at n c) w = eqb w 0
 isLast (Gnu at n first b shift) w = eqb (w % 2) 1
 
 -- the symbol after `s`, whose chain word is `w`
-abbrev pub next : HashTable → ℕ → ℕ → ℕ
-next Without s w = 0
-next (SysV at n c) s w = w
-next (Gnu at n first b shift) s w = s + 1
+abbrev pub nextSymbol : HashTable → ℕ → ℕ → ℕ
+nextSymbol Without s w = 0
+nextSymbol (SysV at n c) s w = w
+nextSymbol (Gnu at n first b shift) s w = s + 1
 
 -- how many symbols a walk has at most: one more than the chain count; in a GNU table one for each byte of the image, which has at most
 -- 2^28 (proofs/WalkEnds: no walk of a table that is not refused is cut off)
@@ -78,7 +78,7 @@ fuel image (Gnu at n first b shift) = min (length image) (2 ^ 28)
 unfoldable pub walk : List ℕ → HashTable → ℕ → ℕ → List ℕ
 walk image t zero s = []
 walk image t (suc n) s =
-    s ∷ pick (isLast t (leAt 4 (mem image) (chainAt t s))) [] (walk image t n (next t s (leAt 4 (mem image) (chainAt t s))))
+    s ∷ pick (isLast t (leAt 4 (mem image) (chainAt t s))) [] (walk image t n (nextSymbol t s (leAt 4 (mem image) (chainAt t s))))
 
 -- the symbols that the walk from a bucket's word reaches; 0 is no symbol
 unfoldable pub walkFrom : List ℕ → HashTable → ℕ → List ℕ
@@ -150,13 +150,13 @@ definition s y =
     record { index = s; value = y .value; size = y .size; guarded = isProtected y; absolute = isAbsolute y }
 
 -- the first hit decides for its object: "exported ..; else that object has none"
-unfoldable pub answerOf : List ℕ → ℕ → Found → Answer
-answerOf image symbols Miss = Absent
-answerOf image symbols (Hit s) =
+unfoldable pub exportedAt : List ℕ → ℕ → Found → Answer
+exportedAt image symbols Miss = Absent
+exportedAt image symbols (Hit s) =
     pick (isExported (symbolAt image symbols s)) (Present (definition s (symbolAt image symbols s))) Absent
 
 abbrev pub answerBy : List ℕ → View → List ℕ → ℕ → ℕ → Answer
-answerBy image v name g e = answerOf image (v .symbols) (lookupBy image v name g e)
+answerBy image v name g e = exportedAt image (v .symbols) (lookupBy image v name g e)
 
 abbrev pub answerIn : List ℕ → View → List ℕ → Answer
 answerIn image v name = answerBy image v name (gnuHash name) (elfHash name)

@@ -9,12 +9,12 @@ use lib.ListN.{length}
 use Rattle.object.specs.Refusal.{after}
 use Rattle.object.specs.ProgramHeader.{dynamicOf}
 use Rattle.object.specs.Placed.{segmentsOf, objectSpan, objectImage, placeRefusal, placedPart}
-use Rattle.object.specs.Record.{Record, heldBy, noRecord, readRefusal, recordOf}
+use Rattle.object.specs.Record.{Record, heldBy, noRecord, readRefusal, recordAt}
 use Rattle.object.specs.declared.dynamic_fields.Read.{Read}
 
 -- the record of a file
 unfoldable pub objectRecord : Bool → List ℕ → Record
-objectRecord host file = recordOf (objectImage host file) (segmentsOf host file) (dynamicOf file)
+objectRecord host file = recordAt (objectImage host file) (segmentsOf host file) (dynamicOf file)
 
 -- refusals 4 to 12, where `room` bytes are left in the arena
 unfoldable pub objectRefusal : Bool → ℕ → List ℕ → ℕ

@@ -25,7 +25,7 @@ use Rattle.object.specs.declared.dynamic_fields.CheckedSymbol.the-varian
 use Rattle.object.specs.declared.dynamic_fields.ObjectData.{ObjectData}
 use Rattle.object.specs.declared.dynamic_fields.Read.{Read}
 use Rattle.object.specs.declared.table_bytes.Bounds.{Bounds}
-use Rattle.object.specs.DynamicFields.{fieldsOf, needsOf}
+use Rattle.object.specs.DynamicFields.{fieldsOf, neededOffsets}
 use Rattle.object.specs.TableBytes.{isTable, tableBytes, tableName}
 use Rattle.object.specs.HashTable.{sysvAt, gnuAt}
 use Rattle.object.specs.Symbol.{symbolAt}
@@ -176,17 +176,17 @@ unfoldable pub readRefusal : Bool → List ℕ → List Segment → Dynamic → 
 readRefusal host image segments Missing = 9
 readRefusal host image segments (At at) =
     after (fieldsRefusal (fieldsOf image at))
-    (require (leb (length (needsOf image at)) 64) 11
-    (require (tablesOk host image (recordIn image segments (fieldsOf image at) (needsOf image at))) 12 0))
+    (require (leb (length (neededOffsets image at)) 64) 11
+    (require (tablesOk host image (recordIn image segments (fieldsOf image at) (neededOffsets image at))) 12 0))
 
-unfoldable pub recordOf : List ℕ → List Segment → Dynamic → Record
-recordOf image segments Missing = recordIn image segments (fieldsOf image 0) (needsOf image 0)
-recordOf image segments (At at) = recordIn image segments (fieldsOf image at) (needsOf image at)
+unfoldable pub recordAt : List ℕ → List Segment → Dynamic → Record
+recordAt image segments Missing = recordIn image segments (fieldsOf image 0) (neededOffsets image 0)
+recordAt image segments (At at) = recordIn image segments (fieldsOf image at) (neededOffsets image at)
 
 -- what reading answers
 pub record ReadBy (host : Bool) (image : List ℕ) (segments : List Segment) (d : Dynamic) (r : Read) : Type 0 where
   pub refusal : r .refusal ≡ readRefusal host image segments d
-  pub object : r .refusal ≡ 0 → heldBy (r .object) ≡ recordOf image segments d
+  pub object : r .refusal ≡ 0 → heldBy (r .object) ≡ recordAt image segments d
   -- refused: no record
   pub none : (r .refusal ≡ 0 → ⊥) → heldBy (r .object) ≡ noRecord
 

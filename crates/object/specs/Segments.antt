@@ -82,5 +82,5 @@ placeSegments file (s ∷ ss) m = placeSegments file ss (placeSegment file s m)
 unfoldable pub placedOf : List ℕ → Mem
 placedOf file = placeSegments file (loadsOf file) (λ _. 0)
 
-abbrev pub imageOf : List ℕ → List ℕ
-imageOf file = tab (spanOf (loadsOf file)) (placedOf file)
+abbrev pub segmentsImage : List ℕ → List ℕ
+segmentsImage file = tab (spanOf (loadsOf file)) (placedOf file)

@@ -21,13 +21,13 @@ highest image t zero = 0
 highest image t (suc n) = max (highest image t n) (leAt 4 (mem image) (bucketAt t n))
 
 -- the last of a list, or `d`
-unfoldable pub lastOf : List ℕ → ℕ → ℕ
-lastOf [] d = d
-lastOf (s ∷ l) d = lastOf l s
+unfoldable pub lastReached : List ℕ → ℕ → ℕ
+lastReached [] d = d
+lastReached (s ∷ l) d = lastReached l s
 
 -- one past the last index of the walk from a bucket's word; none where the word is 0
 abbrev pub pastWalk : List ℕ → HashTable → ℕ → SymbolCount
-pastWalk image t w = pick (eqb w 0) Unknown (Known (lastOf (walk image t (fuel image t) w) w + 1))
+pastWalk image t w = pick (eqb w 0) Unknown (Known (lastReached (walk image t (fuel image t) w) w + 1))
 
 -- what the hash table says
 unfoldable pub tableCount : List ℕ → HashTable → SymbolCount

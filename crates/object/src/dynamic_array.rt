@@ -1,7 +1,7 @@
 // The dynamic array: port of dynamic_array.rs, and of the walk in dynamic_fields.rs.
 ghost use mathlib.Core.Path.{_≡_};
 ghost use Prim.Native.Nat.{_≤_, _<_};
-ghost use Rattle.object.specs.DynamicFields.{fieldsOf, noFields, needsOf, Needed};
+ghost use Rattle.object.specs.DynamicFields.{fieldsOf, noFields, neededOffsets, Needed};
 ghost use Rattle.object.specs.Steps.FieldSteps.{stepOf, needStep};
 
 // What the entries of one tag give: whether there is one, and the value that counts.
@@ -168,7 +168,7 @@ fn with_need(o: Needs, tag: u64, v: usize) -> Needs
 
 // The needs of the array at `at`.
 pub fn read_needs(image: &[u8], at: usize) -> Needs
-    ensures { λ r. ⌜ Needed (needsOf (now (image .entry)) at) r ⌝ }
+    ensures { λ r. ⌜ Needed (neededOffsets (now (image .entry)) at) r ⌝ }
 {
     let mut n = Needs {
         list: [0usize; 64],

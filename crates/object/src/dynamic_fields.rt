@@ -4,7 +4,7 @@ ghost use mathlib.Core.Bool.{true};
 ghost use Prim.Native.Nat.{ℕ, _*_, _^_, _≤_, _<_};
 ghost use lib.Dec.{ltb};
 ghost use lib.ListN.{take};
-ghost use Rattle.object.specs.DynamicFields.{needsOf, Needed};
+ghost use Rattle.object.specs.DynamicFields.{neededOffsets, Needed};
 ghost use Rattle.object.specs.Steps.LoadTable.{segmentsIn};
 ghost use Rattle.object.specs.Steps.FineRange.{FineOf};
 ghost use Rattle.object.specs.Record.{heldBy, noRecord, viewOf, entryCount, tableIn, recordIn, fieldsRefusal, fieldIs, needsOk, relocationsOk, tablesOk, BoundsOf, RelocationCounts, ReadBy, indexOk, checkedSymbol};

@@ -10,7 +10,7 @@ ghost use Rattle.words.specs.Words.{leAt};
 ghost use Rattle.words.specs.Names.{sameBytes};
 ghost use Rattle.object.specs.Symbol.{symbolName};
 ghost use Rattle.object.specs.HashTable.{sysvAt, gnuAt, fuel, walk, bloomAt, hasBits, findBy, lookupBy, small, answerBy, addressOf};
-ghost use Rattle.object.specs.SymbolCount.{highest, lastOf, tableCount, countOf};
+ghost use Rattle.object.specs.SymbolCount.{highest, lastReached, tableCount, countOf};
 
 // The chosen hash table: its offset, and the numbers of its header.
 pub enum HashTable {
@@ -344,7 +344,7 @@ fn walk_last(
     word: usize,
 ) -> usize
     requires { ⌜ word < 2 ^ 32 ⌝ }
-    ensures { λ r. ⌜ (r ≡ lastOf (walk (now (image .entry)) (HashTable.Gnu at buckets first blooms shift) (fuel (now (image .entry)) (HashTable.Gnu at buckets first blooms shift)) word) word) × (r < 2 ^ 40) ⌝ }
+    ensures { λ r. ⌜ (r ≡ lastReached (walk (now (image .entry)) (HashTable.Gnu at buckets first blooms shift) (fuel (now (image .entry)) (HashTable.Gnu at buckets first blooms shift)) word) word) × (r < 2 ^ 40) ⌝ }
 {
     let chain = 16 + 8 * (blooms as usize) + 4 * (buckets as usize);
     let low = first as usize;

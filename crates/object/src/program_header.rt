@@ -4,7 +4,7 @@ ghost use Prim.Native.Nat.{_+_, _*_, _≤_, _<_, min};
 ghost use lib.ListN.{length, take};
 ghost use Rattle.object.specs.Header.{tableStart};
 ghost use Rattle.object.specs.ProgramHeader.{typeAt, segmentAt, loadsOf, dynamicOf};
-ghost use Rattle.object.specs.Steps.LoadTable.{Loaded};
+ghost use Rattle.object.specs.Steps.LoadTable.{SegmentsIn};
 use crate::header::header_count;
 use crate::header::table_start;
 
@@ -71,7 +71,7 @@ pub(crate) fn no_loads() -> Loads
 
 // The PT_LOAD headers, in their order.
 pub fn read_loads(file: &[u8]) -> Loads
-    ensures { λ r. ⌜ Loaded (loadsOf (now (file .entry))) r ⌝ }
+    ensures { λ r. ⌜ SegmentsIn (loadsOf (now (file .entry))) r ⌝ }
 {
     let start = table_start(file);
     let n = header_count(file);

@@ -22,7 +22,7 @@ use Rattle.binder.specs.SetOrder.{setOrder}
 use Rattle.binder.specs.Bind as binding
 use Rattle.binder.specs.Bind.{filesOf, namesOf, objectsOf, unless, prepareVerdict, allows, relocateVerdict, Outcome, outcome, outcomeOf, bindOf}
 use Rattle.binder.proofs.OutcomeLaws.{first-passed, unless-passed}
-use Rattle.program.specs.Program.{arenaBytes, arenaAddress, reportWords, countIn, wordIn, startIn, whole, answerIn, programOf, digits, widthFrom, decimalOf, hexLine, hexLines, refusedText, objectText, refusalLine, linesOf, written, print, AllPrinted}
+use Rattle.program.specs.Program.{arenaBytes, arenaAddress, reportWords, countIn, wordIn, startIn, whole, answerTo, programOf, digits, widthFrom, decimalOf, hexLine, hexLines, refusedText, objectText, refusalLine, linesOf, written, print, AllPrinted}
 use Rattle.program.proofs.PrintLaws.{digits-length, width-most, next-place}
 
 -- ---- the report is as long as it was
@@ -59,7 +59,7 @@ picked true a b n h g = h
 picked false a b n h g = g
 
 of-program : (input : List ℕ) → length (reportIn (programOf input)) ≡ reportWords
-unfolding programOf answerIn
+unfolding programOf answerTo
 of-program input =
     picked (whole input) _ _ reportWords
     (of-bind (tab (countIn input) (wordIn input)) (drop (startIn input) input) arenaBytes arenaAddress Lenient reportWords) (length-replicate {A = ℕ} reportWords 0)

@@ -12,21 +12,21 @@ use Rattle.words.proofs.Slices.{length-patch, take-patch}
 use Rattle.binder.specs.declared.Policy.the-variants.{Lenient}
 use Rattle.binder.specs.declared.Answer.the-variants.{Refused}
 use Rattle.binder.specs.Bind.{outcome, bindOf}
-use Rattle.program.specs.Program.{arenaAddress, inputLimit, countIn, wordIn, startIn, answerIn}
+use Rattle.program.specs.Program.{arenaAddress, inputLimit, countIn, wordIn, startIn, answerTo}
 
 module _ (input : List ℕ) (size words : ℕ) where
-  pub short-refused : length input < startIn input → answerIn input size words ≡ outcome (Refused 1 0) (replicate size 0) (replicate words 0)
-  unfolding answerIn
+  pub short-refused : length input < startIn input → answerTo input size words ≡ outcome (Refused 1 0) (replicate size 0) (replicate words 0)
+  unfolding answerTo
   short-refused h = rw (lt-leb (startIn input) (length input) h)
 
-  pub long-refused : inputLimit < length input → answerIn input size words ≡ outcome (Refused 1 0) (replicate size 0) (replicate words 0)
-  unfolding answerIn
+  pub long-refused : inputLimit < length input → answerTo input size words ≡ outcome (Refused 1 0) (replicate size 0) (replicate words 0)
+  unfolding answerTo
   long-refused h = rw (both-false (leb (startIn input) (length input)) (leb (length input) inputLimit) (lt-leb (length input) inputLimit h))
 
   pub whole-bound :
       startIn input ≤ length input → length input ≤ inputLimit
-      → answerIn input size words ≡ bindOf (tab (countIn input) (wordIn input)) (drop (startIn input) input) size arenaAddress Lenient words
-  unfolding answerIn
+      → answerTo input size words ≡ bindOf (tab (countIn input) (wordIn input)) (drop (startIn input) input) size arenaAddress Lenient words
+  unfolding answerTo
   whole-bound h g = rw (le-leb (startIn input) (length input) h, le-leb (length input) inputLimit g)
 
 -- words that are written from the start, as a list

@@ -49,13 +49,13 @@ abbrev pub whole : List ℕ → Bool
 whole input = both (leb (startIn input) (length input)) (leb (length input) inputLimit)
 
 -- what is answered, in an arena of `size` bytes and a report of `words` words; a refusal leaves zeros
-unfoldable pub answerIn : List ℕ → ℕ → ℕ → Outcome
-answerIn input size words =
+unfoldable pub answerTo : List ℕ → ℕ → ℕ → Outcome
+answerTo input size words =
     pick (whole input) (bindOf (tab (countIn input) (wordIn input)) (drop (startIn input) input) size arenaAddress Lenient words)
     (outcome (Refused 1 0) (replicate size 0) (replicate words 0))
 
 unfoldable pub programOf : List ℕ → Outcome
-programOf input = answerIn input arenaBytes reportWords
+programOf input = answerTo input arenaBytes reportWords
 
 -- ---- what is printed, in ASCII: 48 is '0', 97 is 'a', 10 ends a line
 

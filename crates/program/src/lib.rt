@@ -6,7 +6,7 @@ ghost use Rattle.words.specs.Memory.{tab, patch};
 ghost use Rattle.binder.specs.declared.Policy.the-variants.{Lenient};
 ghost use Rattle.binder.specs.declared.Answer.the-variants.{Bound, Refused};
 ghost use Rattle.binder.specs.Bind.{outcome, bindOf};
-ghost use Rattle.program.specs.Program.{arenaAddress, wordIn, answerIn, programOf, digit, widthFrom, decimalOf, hexLine, hexLines, refusalLine, answerLines, linesOf, written, print};
+ghost use Rattle.program.specs.Program.{arenaAddress, wordIn, answerTo, programOf, digit, widthFrom, decimalOf, hexLine, hexLines, refusalLine, answerLines, linesOf, written, print};
 use binder::Answer;
 use binder::Policy;
 
@@ -54,7 +54,7 @@ fn refuse(arena: &mut [u8], report: &mut [u32]) -> Answer
 
 // Binds the set that the input holds. 65,536 bytes hold a sheet of at most 16,383 words.
 fn bind_input(input: &[u8], arena: &mut [u8], report: &mut [u32]) -> Answer
-    ensures { λ r. ⌜ outcome r (now (arena .exit)) (now (report .exit)) ≡ answerIn (now (input .entry)) (length (now (arena .entry))) (length (now (report .entry))) ⌝ }
+    ensures { λ r. ⌜ outcome r (now (arena .exit)) (now (report .exit)) ≡ answerTo (now (input .entry)) (length (now (arena .entry))) (length (now (report .entry))) ⌝ }
 {
     let n = input.len();
     let count = words::bytes::u32_at(input, 0) as usize;

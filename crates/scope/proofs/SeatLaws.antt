@@ -16,7 +16,7 @@ use Rattle.object.proofs.Ranges.{split}
 use Rattle.object.specs.declared.hash_tables.HashTable.{HashTable}
 use Rattle.object.specs.declared.hash_tables.HashTable.the-variants.{Without, SysV, Gnu}
 use Rattle.scope.specs.declared.seats.Seat.{Seat}
-use Rattle.scope.specs.Steps.Seats.{hashWords, hashOf, narrow, nth, logFrom, logOf, untested, testable, filterWords, filterOf, filterAt, wordsOf, seatAt, FilteredAt, Filtered, spliced, withSeat}
+use Rattle.scope.specs.Steps.Seats.{hashWords, hashOf, narrow, nth, logFrom, logOf, untested, testable, filterWords, filterOf, filterAt, seatWords, seatAt, FilteredAt, Filtered, spliced, withSeat}
 
 module _ (d : List ℕ) (at : ℕ) (s : List ℕ) (n : ℕ) (hd : at + n ≤ length d) (hs : n ≤ length s) where
   -- an element that was pasted
@@ -96,18 +96,18 @@ filter-three offset span (SysV a b c) = refl
 filter-three offset span (Gnu at b first blooms shift) =
     three (testable offset span at blooms shift) (offset + at + 16) (logOf blooms) shift (filterWords offset span at blooms shift) refl
 
-pub words-length : (s : Seat) → length (wordsOf s) ≡ 16
-unfolding wordsOf
+pub words-length : (s : Seat) → length (seatWords s) ≡ 16
+unfolding seatWords
 words-length s = refl
 
 module _ (t : List ℕ) (k : ℕ) (s : Seat) (h : 16 * k + 16 ≤ length t) where
-  one : (j : ℕ) → j < 16 → getD (spliced t (16 * k) (wordsOf s)) (16 * k + j) 0 ≡ getD (wordsOf s) j 0
+  one : (j : ℕ) → j < 16 → getD (spliced t (16 * k) (seatWords s)) (16 * k + j) 0 ≡ getD (seatWords s) j 0
   unfolding spliced
-  one j l = paste-in t (16 * k) (wordsOf s) 16 h (omega (arith, words-length s)) j l
+  one j l = paste-in t (16 * k) (seatWords s) 16 h (omega (arith, words-length s)) j l
 
   -- what was put is read back
-  pub splice-get : narrow (s .view .table) → seatAt (spliced t (16 * k) (wordsOf s)) k ≡ s
-  unfolding seatAt wordsOf
+  pub splice-get : narrow (s .view .table) → seatAt (spliced t (16 * k) (seatWords s)) k ≡ s
+  unfolding seatAt seatWords
   splice-get f =
       rw (
         one 0 (omega arith),
@@ -124,20 +124,20 @@ module _ (t : List ℕ) (k : ℕ) (s : Seat) (h : 16 * k + 16 ≤ length t) wher
       )
 
   -- a word of another object
-  beside : (i : ℕ) → (i ≡ k → ⊥) → (j : ℕ) → j < 16 → getD (spliced t (16 * k) (wordsOf s)) (16 * i + j) 0 ≡ getD t (16 * i + j) 0
+  beside : (i : ℕ) → (i ≡ k → ⊥) → (j : ℕ) → j < 16 → getD (spliced t (16 * k) (seatWords s)) (16 * i + j) 0 ≡ getD t (16 * i + j) 0
   unfolding spliced
   beside i ne j l = go (split i k) (split k i)
     where
-      go : (i < k) ⊎ (k ≤ i) → (k < i) ⊎ (i ≤ k) → getD (paste t (16 * k) (wordsOf s) 16) (16 * i + j) 0 ≡ getD t (16 * i + j) 0
-      go (inl q) z = paste-below t (16 * k) (wordsOf s) 16 h (omega (arith, words-length s)) (16 * i + j) (omega arith)
+      go : (i < k) ⊎ (k ≤ i) → (k < i) ⊎ (i ≤ k) → getD (paste t (16 * k) (seatWords s) 16) (16 * i + j) 0 ≡ getD t (16 * i + j) 0
+      go (inl q) z = paste-below t (16 * k) (seatWords s) 16 h (omega (arith, words-length s)) (16 * i + j) (omega arith)
       go (inr q) (inl z) =
           let e : 16 * i + j ≡ 16 * k + 16 + (16 * i + j - (16 * k + 16)) = omega arith in
-          subst⁻¹ (λ (m : ℕ). getD (paste t (16 * k) (wordsOf s) 16) m 0 ≡ getD t m 0) e
-          (paste-above t (16 * k) (wordsOf s) 16 h (omega (arith, words-length s)) (16 * i + j - (16 * k + 16)))
+          subst⁻¹ (λ (m : ℕ). getD (paste t (16 * k) (seatWords s) 16) m 0 ≡ getD t m 0) e
+          (paste-above t (16 * k) (seatWords s) 16 h (omega (arith, words-length s)) (16 * i + j - (16 * k + 16)))
       go (inr q) (inr z) = absurd (ne (omega arith))
 
   -- the seat of another object is as it was
-  pub splice-other : (i : ℕ) → (i ≡ k → ⊥) → seatAt (spliced t (16 * k) (wordsOf s)) i ≡ seatAt t i
+  pub splice-other : (i : ℕ) → (i ≡ k → ⊥) → seatAt (spliced t (16 * k) (seatWords s)) i ≡ seatAt t i
   unfolding seatAt
   splice-other i ne =
       rw (
@@ -154,19 +154,19 @@ module _ (t : List ℕ) (k : ℕ) (s : Seat) (h : 16 * k + 16 ≤ length t) wher
       )
 
   -- words 10 to 12
-  splice-filter : narrow (s .view .table) → FilteredAt (spliced t (16 * k) (wordsOf s)) k
-  unfolding wordsOf
+  splice-filter : narrow (s .view .table) → FilteredAt (spliced t (16 * k) (seatWords s)) k
+  unfolding seatWords
   splice-filter f =
       rw (splice-get f, one 10 (omega arith), one 11 (omega arith), one 12 (omega arith)) (filter-three (s .offset) (s .span) (s .view .table))
 
-  splice-beside : (i : ℕ) → (i ≡ k → ⊥) → FilteredAt t i → FilteredAt (spliced t (16 * k) (wordsOf s)) i
+  splice-beside : (i : ℕ) → (i ≡ k → ⊥) → FilteredAt t i → FilteredAt (spliced t (16 * k) (seatWords s)) i
   splice-beside i ne before =
       rw (splice-other i ne, beside i ne 10 (omega arith), beside i ne 11 (omega arith), beside i ne 12 (omega arith)) before
 
 -- ---- a table with a seat put
 
 module _ (t : List ℕ) (k : ℕ) (s : Seat) where
-  pub with-room : 16 * k + 16 ≤ length t → withSeat t k s ≡ spliced t (16 * k) (wordsOf s)
+  pub with-room : 16 * k + 16 ≤ length t → withSeat t k s ≡ spliced t (16 * k) (seatWords s)
   unfolding withSeat
   with-room h = rw (le-leb _ _ h)
 
@@ -188,7 +188,7 @@ module _ (t : List ℕ) (k : ℕ) (s : Seat) where
   pub put-filtered : narrow (s .view .table) → 16 * k + 16 ≤ length t → Filtered t k → Filtered (withSeat t k s) (k + 1)
   put-filtered f h before = rw (with-room h) (λ i l. go i l (split i k))
     where
-      go : (i : ℕ) → i < k + 1 → (i < k) ⊎ (k ≤ i) → FilteredAt (spliced t (16 * k) (wordsOf s)) i
+      go : (i : ℕ) → i < k + 1 → (i < k) ⊎ (k ≤ i) → FilteredAt (spliced t (16 * k) (seatWords s)) i
       go i l (inl q) = splice-beside t k s h i (omega arith) (before i q)
       go i l (inr q) =
           let e : i ≡ k = omega arith in

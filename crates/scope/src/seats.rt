@@ -2,7 +2,7 @@
 ghost use mathlib.Core.Path.{_≡_};
 ghost use Prim.Native.Nat.{ℕ, _+_, _*_, _≤_, _%_, _<_, _^_};
 ghost use lib.ListN.{length, getD};
-ghost use Rattle.scope.specs.Steps.Seats.{hashWords, hashOf, narrow, logOf, filterWords, filterOf, wordsOf, seatAt, Filtered, spliced, withSeat};
+ghost use Rattle.scope.specs.Steps.Seats.{hashWords, hashOf, narrow, logOf, filterWords, filterOf, seatWords, seatAt, Filtered, spliced, withSeat};
 use object::hash_tables::HashTable;
 use object::hash_tables::View;
 
@@ -141,7 +141,7 @@ fn filter_of(offset: usize, span: usize, h: HashTable) -> [u64; 3]
 
 // The 16 words of a seat.
 fn words_of(s: Seat) -> [u64; 16]
-    ensures { λ r. ⌜ (r ≡ wordsOf s) × narrow (s .view .table) ⌝ }
+    ensures { λ r. ⌜ (r ≡ seatWords s) × narrow (s .view .table) ⌝ }
 {
     let v = s.view;
     let h = v.table;

@@ -11,7 +11,7 @@ use lib.Seq.{drop-drop, take-suc-set, getD-take, take-all}
 use Rattle.words.specs.Choice as choice
 use Rattle.words.specs.Choice.{pick, either, some}
 use Rattle.words.specs.Names.{sameBytes}
-use Rattle.sheet.specs.Sheet.{sizeOf, cut, libsOf, objectsOf, setOf, Input, noInput, named, twinFrom, sheetOk}
+use Rattle.sheet.specs.Sheet.{lengthIn, cut, libsOf, inputsOf, setOf, Input, noInput, named, twinFrom, sheetOk}
 use Rattle.sheet.specs.Steps.Parts.{noPart, inputIn, inputsIn, handedIn, Tabled}
 use Rattle.sheet.specs.declared.sheet.Part.{Part}
 use Rattle.sheet.specs.declared.sheet.Parts.{Parts}
@@ -27,14 +27,14 @@ unfoldable pub libParts : List ℕ → ℕ → List Part
 libParts [] at = []
 libParts (f ∷ []) at = []
 libParts (f ∷ (n ∷ ws)) at =
-    record { at = at; len = sizeOf f; name = at + sizeOf f; chars = sizeOf n } ∷ libParts ws (at + sizeOf f + sizeOf n)
+    record { at = at; len = lengthIn f; name = at + lengthIn f; chars = lengthIn n } ∷ libParts ws (at + lengthIn f + lengthIn n)
 
 unfoldable pub partsOf : List ℕ → List Part
 partsOf [] = []
 partsOf (h ∷ []) = []
 partsOf (h ∷ (p ∷ ws)) =
-    record { at = 0; len = sizeOf h; name = 0; chars = 0 }
-    ∷ (record { at = sizeOf h; len = sizeOf p; name = 0; chars = 0 } ∷ libParts ws (sizeOf h + sizeOf p))
+    record { at = 0; len = lengthIn h; name = 0; chars = 0 }
+    ∷ (record { at = lengthIn h; len = lengthIn p; name = 0; chars = 0 } ∷ libParts ws (lengthIn h + lengthIn p))
 
 -- the parts are the sheet's objects
 libs-are : (bs ws : List ℕ) (at : ℕ) → map (inputIn bs) (libParts ws at) ≡ libsOf (cut ws (drop at bs))
@@ -42,20 +42,20 @@ unfolding libParts libsOf cut
 libs-are bs [] at = refl
 libs-are bs (f ∷ []) at = refl
 libs-are bs (f ∷ (n ∷ ws)) at =
-    rw (drop-drop, drop-drop, libs-are bs ws (at + sizeOf f + sizeOf n))
+    rw (drop-drop, drop-drop, libs-are bs ws (at + lengthIn f + lengthIn n))
 
 pub parts-are : (bs xs : List ℕ) → map (inputIn bs) (partsOf xs) ≡ setOf xs bs
-unfolding partsOf objectsOf cut
+unfolding partsOf inputsOf cut
 parts-are bs [] = refl
 parts-are bs (h ∷ []) = refl
-parts-are bs (h ∷ (p ∷ ws)) = rw (libs-are bs ws (sizeOf h + sizeOf p), drop-drop)
+parts-are bs (h ∷ (p ∷ ws)) = rw (libs-are bs ws (lengthIn h + lengthIn p), drop-drop)
 
 pub inputs-are : (bs xs : List ℕ) (p : Parts) → take (p .count) (p .list) ≡ partsOf xs → inputsIn bs p ≡ setOf xs bs
 unfolding inputsIn
 inputs-are bs xs p e = rw e (parts-are bs xs)
 
 -- the loop that fills the table
-pub parts-start : (xs : List ℕ) (l : List Part) (h p : ℕ) → 2 ≤ length xs → 64 ≡ length l → h ≡ sizeOf (getD xs 0 0) → p ≡ sizeOf (getD xs 1 0)
+pub parts-start : (xs : List ℕ) (l : List Part) (h p : ℕ) → 2 ≤ length xs → 64 ≡ length l → h ≡ lengthIn (getD xs 0 0) → p ≡ lengthIn (getD xs 1 0)
     → take 2 (set (set l 0 (record { at = 0; len = h; name = 0; chars = 0 })) 1 (record { at = h; len = p; name = 0; chars = 0 })) ++ libParts (drop 2 xs) (h + p) ≡ partsOf xs
 unfolding partsOf
 parts-start [] l h p lo e eh ep = absurd (omega arith)
@@ -64,7 +64,7 @@ parts-start (x ∷ (y ∷ xs)) [] h p lo e eh ep = absurd (omega arith)
 parts-start (x ∷ (y ∷ xs)) (a ∷ []) h p lo e eh ep = absurd (omega arith)
 parts-start (x ∷ (y ∷ xs)) (a ∷ (b ∷ l)) h p lo e eh ep = rw (eh, ep)
 
-pub parts-more : (xs : List ℕ) (l : List Part) (k i at f n : ℕ) {whole : List Part} → i + 2 ≤ length xs → k < length l → f ≡ sizeOf (getD xs i 0) → n ≡ sizeOf (getD xs (i + 1) 0)
+pub parts-more : (xs : List ℕ) (l : List Part) (k i at f n : ℕ) {whole : List Part} → i + 2 ≤ length xs → k < length l → f ≡ lengthIn (getD xs i 0) → n ≡ lengthIn (getD xs (i + 1) 0)
     → take k l ++ libParts (drop i xs) at ≡ whole
     → take (k + 1) (set l k (record { at = at; len = f; name = at + f; chars = n })) ++ libParts (drop (i + 2) xs) (at + f + n) ≡ whole
 unfolding libParts
@@ -115,7 +115,7 @@ pub handed-in : {sheet : List ℕ} {n : ℕ} {p : Parts} → Tabled sheet n p �
 handed-in {sheet} {n} {p} t ok bytes = t .same bytes ∙ rw ok
 
 set-two : (sheet bytes : List ℕ) → 2 ≤ length sheet → 2 ≤ length (setOf sheet bytes)
-unfolding objectsOf cut
+unfolding inputsOf cut
 set-two [] bytes h = absurd (omega arith)
 set-two (x ∷ []) bytes h = absurd (omega arith)
 set-two (x ∷ (y ∷ ws)) bytes h = omega arith

@@ -5,7 +5,7 @@ use mathlib.Core.Path.{_≡_, refl}
 use mathlib.Core.List.{List, [], _∷_}
 use Rattle.words.specs.Choice as choice
 use Rattle.words.specs.Names as names
-use Rattle.sheet.specs.Sheet.{pairOk, libWords, total, sheetOk, cut, Input, libsOf, objectsOf, setOf, arenaOk, twinFrom, twinOf}
+use Rattle.sheet.specs.Sheet.{pairOk, libWords, total, sheetOk, cut, Input, libsOf, inputsOf, setOf, arenaOk, twinFrom, twinOf}
 
 abbrev word : ℕ → ℕ → ℕ
 word kind size = kind * 2 ^ 28 + size
@@ -16,7 +16,7 @@ sheet = word 1 2 ∷ (word 2 1 ∷ (word 3 1 ∷ (word 4 1 ∷ [])))
 
 pub set : setOf sheet (10 ∷ (11 ∷ (20 ∷ (30 ∷ (97 ∷ []))))) ≡
     record { file = 10 ∷ (11 ∷ []); name = [] } ∷ (record { file = 20 ∷ []; name = [] } ∷ (record { file = 30 ∷ []; name = 97 ∷ [] } ∷ []))
-unfolding objectsOf libsOf cut
+unfolding inputsOf libsOf cut
 set = refl
 
 -- refusal 1: a good sheet; one of two words, with files of no bytes; one word; a word missing; a kind at a wrong place; names of 0, 255 and

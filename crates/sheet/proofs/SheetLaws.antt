@@ -11,7 +11,7 @@ use lib.Seq.{drop-cons}
 use borrow.Author.Tests.{eq-eqb, le-leb, leb-true, eqb-true}
 use Rattle.words.specs.Choice.{both}
 use Rattle.words.proofs.Choice.{both-true}
-use Rattle.sheet.specs.Sheet.{kindOf, sizeOf, pairOk, libWords, total, sheetOk}
+use Rattle.sheet.specs.Sheet.{kindOf, lengthIn, pairOk, libWords, total, sheetOk}
 
 pub drop-next {ℓ} : {A : Type ℓ} (l : List A) (i : ℕ) (d : A) → i < length l → drop i l ≡ getD l i d ∷ drop (i + 1) l
 drop-next l i d h = rw (add-one, drop-cons l i d)
@@ -31,7 +31,7 @@ sheet-short (x ∷ (y ∷ xs)) n h = absurd (omega arith)
 -- a sheet of two words or more
 pub sheet-is : (xs : List ℕ) (n : ℕ) → 2 ≤ length xs
     → sheetOk xs n ≡ both (eqb (kindOf (getD xs 0 0)) 1) (both (eqb (kindOf (getD xs 1 0)) 2) (both (leb (length xs - 2) 124)
-    (both (libWords (drop 2 xs)) (eqb (sizeOf (getD xs 0 0) + (sizeOf (getD xs 1 0) + total (drop 2 xs))) n))))
+    (both (libWords (drop 2 xs)) (eqb (lengthIn (getD xs 0 0) + (lengthIn (getD xs 1 0) + total (drop 2 xs))) n))))
 unfolding sheetOk total
 sheet-is [] n h = absurd (omega arith)
 sheet-is (x ∷ []) n h = absurd (omega arith)
@@ -44,9 +44,9 @@ abbrev pub leftOk : List ℕ → ℕ → ℕ → ℕ → Bool
 leftOk xs i sum n = both (libWords (drop i xs)) (eqb (sum + total (drop i xs)) n)
 
 pub sheet-start : (xs : List ℕ) (n h p : ℕ) → 2 ≤ length xs → kindOf (getD xs 0 0) ≡ 1 → kindOf (getD xs 1 0) ≡ 2 → length xs ≤ 126
-    → h ≡ sizeOf (getD xs 0 0) → p ≡ sizeOf (getD xs 1 0) → leftOk xs 2 (h + p) n ≡ sheetOk xs n
+    → h ≡ lengthIn (getD xs 0 0) → p ≡ lengthIn (getD xs 1 0) → leftOk xs 2 (h + p) n ≡ sheetOk xs n
 sheet-start xs n h p l e0 e1 m eh ep =
-    let s : sizeOf (getD xs 0 0) + (sizeOf (getD xs 1 0) + total (drop 2 xs)) ≡ h + p + total (drop 2 xs) = omega arith in
+    let s : lengthIn (getD xs 0 0) + (lengthIn (getD xs 1 0) + total (drop 2 xs)) ≡ h + p + total (drop 2 xs) = omega arith in
     sym (sheet-is xs n l ∙ rw (eq-eqb _ _ e0, eq-eqb _ _ e1, le-leb (length xs - 2) 124 (omega arith), s))
 
 pub left-odd : (xs : List ℕ) (i sum n : ℕ) → i < length xs → length xs - i < 2 → leftOk xs i sum n ≡ false
@@ -59,10 +59,10 @@ unfolding libWords
 left-bad xs i sum n h e = rw (pair-at xs i h, e)
 
 pub left-more : (xs : List ℕ) (i sum n a b : ℕ) → i + 2 ≤ length xs → pairOk (getD xs i 0) (getD xs (i + 1) 0) ≡ true
-    → a ≡ sizeOf (getD xs i 0) → b ≡ sizeOf (getD xs (i + 1) 0) → leftOk xs (i + 2) (sum + a + b) n ≡ leftOk xs i sum n
+    → a ≡ lengthIn (getD xs i 0) → b ≡ lengthIn (getD xs (i + 1) 0) → leftOk xs (i + 2) (sum + a + b) n ≡ leftOk xs i sum n
 unfolding libWords total
 left-more xs i sum n a b h e ea eb =
-    let s : sum + a + b + total (drop (i + 2) xs) ≡ sum + (sizeOf (getD xs i 0) + (sizeOf (getD xs (i + 1) 0) + total (drop (i + 2) xs))) = omega arith in
+    let s : sum + a + b + total (drop (i + 2) xs) ≡ sum + (lengthIn (getD xs i 0) + (lengthIn (getD xs (i + 1) 0) + total (drop (i + 2) xs))) = omega arith in
     rw (pair-at xs i h, e, s)
 
 pub left-end : (xs : List ℕ) (i sum n : ℕ) (t : Bool) → length xs ≤ i → eqb sum n ≡ t → leftOk xs i sum n ≡ t

@@ -12,12 +12,12 @@ use Rattle.words.specs.Names.{sameBytes}
 abbrev pub kindOf : ℕ → ℕ
 kindOf w = w / 2 ^ 28
 
-abbrev pub sizeOf : ℕ → ℕ
-sizeOf w = w % 2 ^ 28
+abbrev pub lengthIn : ℕ → ℕ
+lengthIn w = w % 2 ^ 28
 
 -- "each library adds kind 3 (file) and kind 4 (name, 1 to 255 bytes)"
 unfoldable pub pairOk : ℕ → ℕ → Bool
-pairOk f n = both (eqb (kindOf f) 3) (both (eqb (kindOf n) 4) (both (leb 1 (sizeOf n)) (leb (sizeOf n) 255)))
+pairOk f n = both (eqb (kindOf f) 3) (both (eqb (kindOf n) 4) (both (leb 1 (lengthIn n)) (leb (lengthIn n) 255)))
 
 -- the words of the libraries, two by two; where the second is not there, "a word missing"
 unfoldable pub libWords : List ℕ → Bool
@@ -28,7 +28,7 @@ libWords (f ∷ (n ∷ ws)) = both (pairOk f n) (libWords ws)
 -- how many bytes the words name
 unfoldable pub total : List ℕ → ℕ
 total [] = 0
-total (w ∷ ws) = sizeOf w + total ws
+total (w ∷ ws) = lengthIn w + total ws
 
 -- Refusal 1: "a kind wrong for its position, a word missing, over 62 libraries, a bad name length, or a sum other than the byte slice's
 -- length". "Word 0 has kind 1 (host image), word 1 kind 2 (program file)". True where it is not met; n is the byte slice's length.
@@ -41,7 +41,7 @@ sheetOk (h ∷ (p ∷ ws)) n =
 -- "One byte slice holds all of these end to end; a file is handed on as the part of the byte slice that its word names."
 unfoldable pub cut : List ℕ → List ℕ → List (List ℕ)
 cut [] bs = []
-cut (w ∷ ws) bs = take (sizeOf w) bs ∷ cut ws (drop (sizeOf w) bs)
+cut (w ∷ ws) bs = take (lengthIn w) bs ∷ cut ws (drop (lengthIn w) bs)
 
 -- an object as it is handed in
 pub record Input : Type 0 where
@@ -59,14 +59,14 @@ libsOf (f ∷ []) = []
 libsOf (f ∷ (n ∷ ps)) = record { file = f; name = n } ∷ libsOf ps
 
 -- "Objects are numbered host 0, program 1, libraries from 2."
-unfoldable pub objectsOf : List (List ℕ) → List Input
-objectsOf [] = []
-objectsOf (h ∷ []) = []
-objectsOf (h ∷ (p ∷ ps)) = record { file = h; name = [] } ∷ (record { file = p; name = [] } ∷ libsOf ps)
+unfoldable pub inputsOf : List (List ℕ) → List Input
+inputsOf [] = []
+inputsOf (h ∷ []) = []
+inputsOf (h ∷ (p ∷ ps)) = record { file = h; name = [] } ∷ (record { file = p; name = [] } ∷ libsOf ps)
 
 -- the set of a sheet and a byte slice: its objects, by number
 abbrev pub setOf : List ℕ → List ℕ → List Input
-setOf sheet bytes = objectsOf (cut sheet bytes)
+setOf sheet bytes = inputsOf (cut sheet bytes)
 
 -- Refusal 2: "Arena address not a multiple of 4,096, arena over 2^28 bytes, or their sum over 2^63." True where it is not met.
 unfoldable pub arenaOk : ℕ → ℕ → Bool

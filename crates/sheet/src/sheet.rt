@@ -3,7 +3,7 @@ ghost use mathlib.Core.Path.{_≡_};
 ghost use mathlib.Core.List.{List};
 ghost use Prim.Native.Nat.{ℕ, _≤_, _<_};
 ghost use lib.ListN.{length, take, drop, getD};
-ghost use Rattle.sheet.specs.Sheet.{kindOf, sizeOf, pairOk, sheetOk, setOf, arenaOk, noInput, named, twinOf};
+ghost use Rattle.sheet.specs.Sheet.{kindOf, lengthIn, pairOk, sheetOk, setOf, arenaOk, noInput, named, twinOf};
 ghost use Rattle.sheet.specs.Steps.Parts.{inputsIn, Tabled};
 
 // Where an object's file and name lie in the byte slice.
@@ -31,7 +31,7 @@ fn kind(w: u32) -> u32
 }
 
 fn size(w: u32) -> usize
-    ensures { λ r. ⌜ (r ≡ sizeOf w) × (r < 268435456) ⌝ }
+    ensures { λ r. ⌜ (r ≡ lengthIn w) × (r < 268435456) ⌝ }
 {
     (w % 0x1000_0000) as usize
 }

@@ -21,7 +21,7 @@ use Rattle.binder.specs.declared.order.Order.{Order}
 -- the offsets of the needs' names in an image whose dynamic array stands there
 abbrev pub neededAt : List ℕ → Dynamic → List ℕ
 neededAt image Missing = []
-neededAt image (At at) = fields.needsOf image at
+neededAt image (At at) = fields.neededOffsets image at
 
 -- the libraries that they name, in file order
 unfoldable pub numbersAt : List Input → List ℕ → ℕ → Dynamic → List ℕ

@@ -5,7 +5,7 @@ use mathlib.Core.Bool.{Bool, true, false, not}
 use mathlib.Core.List.{List, [], _∷_}
 use lib.ListN.{length, getD, take}
 use Rattle.model.specs.Order.{listed, fresh, visit}
-use Rattle.binder.specs.Steps.Table.{needsOf}
+use Rattle.binder.specs.Steps.Table.{needsRow}
 
 -- the first `count` of `list` are ordered; `seen` marks the libraries that are ordered or whose needs are being visited, and the numbers that
 -- are no library's
@@ -43,7 +43,7 @@ Marks libs path o = (j : ℕ) → getD (o .seen) j true ≡ not (fresh libs path
 pub record Visited (table : List ℕ) (depth k : ℕ) (o r : State) : Type 0 where
   pub room : Room r
   pub within : used r ≤ used o
-  pub same : (libs : ℕ) (path : List ℕ) → Marks libs path o → ordered r ≡ visit (needsOf table) libs depth path k (ordered o)
+  pub same : (libs : ℕ) (path : List ℕ) → Marks libs path o → ordered r ≡ visit (needsRow table) libs depth path k (ordered o)
   pub marked : (libs : ℕ) (path : List ℕ) → Marks libs path o → Marks libs path r
 
 -- the marks at the start: the numbers that are no library's

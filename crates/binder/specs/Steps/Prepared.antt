@@ -9,7 +9,7 @@ use Rattle.words.specs.Memory.{Mem, mem, write}
 use Rattle.object.specs.Placed.{objectSpan, objectBytes}
 use Rattle.object.specs.Record.{viewOf}
 use Rattle.object.specs.Loaded.{objectRefusal}
-use Rattle.binder.specs.Instance.{File, recordOf}
+use Rattle.binder.specs.Instance.{File, fileRecord}
 use Rattle.binder.specs.Verdict.{Verdict, passed, refused, loadVerdict}
 use Rattle.scope.specs.Steps.Seats.{seatAt, Filtered}
 use Rattle.scope.specs.declared.seats.Seat.{Seat}
@@ -25,7 +25,7 @@ metBy (Refused n k) = refused n k
 
 -- the seat of a file at an offset
 abbrev pub seatOf : File → ℕ → Seat
-seatOf f off = record { offset = off; span = objectSpan (f .host) (f .bytes); view = viewOf (recordOf f) }
+seatOf f off = record { offset = off; span = objectSpan (f .host) (f .bytes); view = viewOf (fileRecord f) }
 
 -- the files placed one after another from `off` on
 unfoldable pub placeFiles : List File → ℕ → Mem → Mem

@@ -15,7 +15,7 @@ use Rattle.object.specs.TableBytes.{inWritable}
 use Rattle.object.specs.Symbol.{bindingOf}
 use Rattle.object.specs.ProgramHeader.{loadsOf, dynamicOf}
 use Rattle.object.specs.Entries.{relaAt, relrAt, relrOf, actionOf}
-use Rattle.object.specs.Record.{Record, checkedSymbol, nameOf, readRefusal, recordOf}
+use Rattle.object.specs.Record.{Record, checkedSymbol, nameOf, readRefusal, recordAt}
 use Rattle.object.specs.declared.program_header.Segment.{Segment}
 use Rattle.object.specs.declared.hash_tables.Definition.{Definition}
 use Rattle.object.specs.declared.symbol.Symbol.{Symbol}
@@ -213,10 +213,10 @@ abbrev pub keepsWeak : ℕ → Symbol → Noted → Noted
 keepsWeak last y (noted p report) = noted (pick (eqb (bindingOf y) 2) (keeps last 0 p) p) report
 
 -- 6 and 7: the address that was found, which is kept, or 0 and a report word
-unfoldable pub foundOf : Turn → Rela → ℕ → Symbol → Scoped → Progress → List ℕ → List ℕ → Left
-foundOf t e i y Absent p a report =
+unfoldable pub writeFound : Turn → Rela → ℕ → Symbol → Scoped → Progress → List ℕ → List ℕ → Left
+writeFound t e i y Absent p a report =
     withArena (patch a (t .offset + e .place) 8 (byteOf 0)) (keepsWeak (e .symbol + 1) y (unresolvedOf y (t .number) i p report))
-foundOf t e i y (Found k d x) p a report = left (keeps (e .symbol + 1) x p) (patch a (t .offset + e .place) 8 (byteOf x)) report
+writeFound t e i y (Found k d x) p a report = left (keeps (e .symbol + 1) x p) (patch a (t .offset + e .place) 8 (byteOf x)) report
 
 -- the `n` bytes of the definition `d`, in the object at the seat `s`, may be copied to the place `to` of the object whose turn it is: the
 -- tests of refusal 18, and both ranges end inside an arena of `size` bytes
@@ -261,7 +261,7 @@ unfoldable pub againRefusal : List ℕ → List ℕ → ℕ
 againRefusal image file = pick (leb (length (loadsOf file)) 16) (readRefusal false image (loadsOf file) (dynamicOf file)) 7
 
 abbrev pub againRecord : List ℕ → List ℕ → Record
-againRecord image file = recordOf image (loadsOf file) (dynamicOf file)
+againRecord image file = recordAt image (loadsOf file) (dynamicOf file)
 
 module _ (address : ℕ) (table : List ℕ) (count : ℕ) where
   -- the search for a symbol's name, and COPY's
@@ -275,7 +275,7 @@ module _ (address : ℕ) (table : List ℕ) (count : ℕ) where
   unfoldable pub answeredOf : Turn → Record → Rela → ℕ → Symbol → Progress → List ℕ → List ℕ → Left
   answeredOf t r e i y p a report =
       pick (eqb (p .last) (e .symbol + 1)) (left p (patch a (t .offset + e .place) 8 (byteOf (p .address))) report)
-      (foundOf t e i y (soughtFor t a (nameOf (imageIn a t) r y)) p a report)
+      (writeFound t e i y (soughtFor t a (nameOf (imageIn a t) r y)) p a report)
 
   unfoldable pub symbolicOf : Turn → Record → Rela → ℕ → CheckedSymbol → Progress → List ℕ → List ℕ → Left
   symbolicOf t r e i (Refused n) p a report = left (refusedBy t n p) a report

@@ -12,7 +12,7 @@ use Rattle.scope.specs.declared.scope.Scoped.{Scoped}
 use Rattle.scope.specs.declared.scope.Scoped.the-variants.{Absent, Found}
 use Rattle.scope.specs.Steps.Seats.{seatAt}
 use Rattle.scope.specs.Steps.ScopeCode.{answerAt}
-use Rattle.binder.specs.Instance.{symOf, foundOf}
+use Rattle.binder.specs.Instance.{symOf, definitionFound}
 
 -- ---- what the code's enum stands for
 
@@ -27,7 +27,7 @@ scopedOf (Found k d a) = model.answer k (symOf d) a
 pub record SeatOf (address : ℕ) (arena : List ℕ) (o : Obj) (s : Seat) : Type 0 where
   pub base : o .base ≡ address + s .offset
   pub small : address + s .offset < 2 ^ 64
-  pub find : (name : List ℕ) → o .find name ≡ foundOf (answerAt arena s name (gnuHash name) (elfHash name))
+  pub find : (name : List ℕ) → o .find name ≡ definitionFound (answerAt arena s name (gnuHash name) (elfHash name))
 
 -- the table has a seat for each object of the set
 abbrev pub SeatedFor : ℕ → List ℕ → List ℕ → Objs → Type 0

@@ -16,7 +16,7 @@ abbrev pub segmentsIn : Loads → List Segment
 segmentsIn l = take (l .count) (l .list)
 
 -- the table holds those segments, or the first 16 and a count of 17 where there are more
-pub record Loaded (segments : List Segment) (l : Loads) : Type 0 where
+pub record SegmentsIn (segments : List Segment) (l : Loads) : Type 0 where
   pub count : l .count ≡ min (length segments) 17
   pub room : length (l .list) ≡ 16
   pub list : length segments ≤ 16 → segmentsIn l ≡ segments

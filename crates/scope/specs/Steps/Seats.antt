@@ -94,8 +94,8 @@ filterOf offset span (Gnu at b first blooms shift) = filterWords offset span at 
 abbrev pub filterAt : Seat → List ℕ
 filterAt s = filterOf (s .offset) (s .span) (s .view .table)
 
-unfoldable pub wordsOf : Seat → List ℕ
-wordsOf s =
+unfoldable pub seatWords : Seat → List ℕ
+seatWords s =
     s .offset ∷ s .span ∷ s .view .symbols ∷ s .view .strings ∷ nth (hashWords (s .view .table)) 0 ∷ nth (hashWords (s .view .table)) 1
     ∷ nth (hashWords (s .view .table)) 2 ∷ nth (hashWords (s .view .table)) 3 ∷ nth (hashWords (s .view .table)) 4
     ∷ nth (hashWords (s .view .table)) 5 ∷ nth (filterAt s) 0 ∷ nth (filterAt s) 1 ∷ nth (filterAt s) 2 ∷ 0 ∷ 0 ∷ 0 ∷ []
@@ -114,4 +114,4 @@ spliced table p w = paste table p w 16
 
 -- the table with the seat of object `k`, where there is room for it
 unfoldable pub withSeat : List ℕ → ℕ → Seat → List ℕ
-withSeat table k s = pick (leb (16 * k + 16) (length table)) (spliced table (16 * k) (wordsOf s)) table
+withSeat table k s = pick (leb (16 * k + 16) (length table)) (spliced table (16 * k) (seatWords s)) table

@@ -1,16 +1,16 @@
 -- `binder::relocate::write_found` meets its contract. Assumes nothing.
-use Rattle.binder.specs.Steps.Relocating.{foundOf}
+use Rattle.binder.specs.Steps.Relocating.{writeFound}
 use borrow.Author.Needs.{needs}
 use Rattle.binder.proofs.relocate.write_found.Statement.{statement}
 use Rattle.binder.proofs.relocate.write_found.Tie as tie
 
 returns : tie.Need-returns
-unfolding foundOf
+unfolding writeFound
 returns c =
     rw (c .before .before .before .before .before .before .before .before .before .before .enum-told .given .1, ← c .before .before .before .before .before .before .before .before .write-word .ensures, ← c .before .before .before .before .unresolved .ensures, c .keep-weak .ensures)
 
 returns-2 : tie.Need-returns-2
-unfolding foundOf
+unfolding writeFound
 returns-2 c =
     rw (c .before .before .before .before .before .before .before .s .given .1, c .before .before .before .before .write-word2 .ensures, c .keep .ensures)
 

@@ -2,7 +2,7 @@ use Prim.Native.Nat.{_<_, _^_}
 use borrow.Author.Needs.{needs}
 use Rattle.object.proofs.FieldLaws.{rest, rest-none, rest-end, rest-more, ended-step}
 use Rattle.object.specs.DynamicFields.{fieldsFrom, fieldsOf}
-use Rattle.object.specs.DynamicArray.{lastOf, firstOf}
+use Rattle.object.specs.DynamicArray.{lastValue, firstOf}
 use lib.ListN.{length}
 use denote.Ref.{now}
 use native.Mathlib.Omega.{arith}
@@ -42,7 +42,7 @@ u64-at-requires : tie.Need-u64-at-requires Inv-loop μ-loop
 u64-at-requires c κs = search needs
 
 returns : tie.Need-returns Inv-loop μ-loop
-unfolding fieldsFrom lastOf firstOf
+unfolding fieldsFrom lastValue firstOf
 returns c =
     let a = c .before .before .before .before .before .before .before .args in
     let l = c .before .before .before .loop in

@@ -1,6 +1,6 @@
 use borrow.Author.Needs.{needs}
 use Rattle.object.proofs.FieldLaws.{Left, left-none, left-all, left-step, items-none, items-end, items-more}
-use Rattle.object.specs.DynamicFields.{needsOf, Needed}
+use Rattle.object.specs.DynamicFields.{neededOffsets, Needed}
 use Rattle.object.specs.DynamicArray.{Item, itemAt, itemsIn, allOf}
 use lib.ListN.{length}
 use denote.Ref.{now}
@@ -18,7 +18,7 @@ use Rattle.words.proofs.bytes.u64_at.Reads as u64-at-reads
 
 abbrev Inv-loop : tie.InvT-loop
 Inv-loop image at n₀ i₀ left₀ n i left =
-    (16 * left ≤ length image - i) × Left (needsOf image at) n (allOf 1 (itemsIn left image i))
+    (16 * left ≤ length image - i) × Left (neededOffsets image at) n (allOf 1 (itemsIn left image i))
 
 abbrev μ-loop : tie.MeasureT-loop
 μ-loop image at n₀ i₀ left₀ n i left =
@@ -65,7 +65,7 @@ loop-again c =
     let l = c .before .before .before .before .before .loop in
     let m = now (a .image) in (
       omega arith,
-      left-step (needsOf m (a .at)) (l .n) _ (itemAt m (l .i)) (itemsIn (l .left - 1) m (l .i + 16))
+      left-step (neededOffsets m (a .at)) (l .n) _ (itemAt m (l .i)) (itemsIn (l .left - 1) m (l .i + 16))
           (rw (items-more m (l .i) (l .left) (omega arith) (λ z. c .before .before .if1 .left (c .before .before .before .u64-at .ensures ∙ z))) at (l .inv .1))
           (rw (← c .before .before .before .u64-at .ensures, ← c .before .u64-at2 .ensures) (c .with-need .ensures)),
     )

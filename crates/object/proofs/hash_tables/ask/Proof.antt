@@ -3,7 +3,7 @@ use mathlib.Core.Path.{sym, _∙_}
 use native.Mathlib.Omega.{arith}
 use borrow.Author.Tests.{not-true, not-false}
 use borrow.Author.Needs.{needs}
-use Rattle.object.specs.HashTable.{answerOf, definition}
+use Rattle.object.specs.HashTable.{exportedAt, definition}
 use Rattle.object.proofs.hash_tables.ask.Statement.{statement}
 use Rattle.object.proofs.hash_tables.ask.Tie as tie
 
@@ -17,7 +17,7 @@ enum-told : tie.Need-enum-told
 enum-told c = search needs
 
 returns : tie.Need-returns
-unfolding answerOf
+unfolding exportedAt
 returns c =
     rw (← c .before .before .lookup .ensures .0, c .enum-told .given .1)
 
@@ -33,12 +33,12 @@ is-exported-requires : tie.Need-is-exported-requires
 is-exported-requires c κs = search needs
 
 returns-2 : tie.Need-returns-2
-unfolding answerOf
+unfolding exportedAt
 returns-2 c =
     rw (← c .before .before .before .before .before .before .lookup .ensures .0, c .before .before .before .before .f .given .1, ← c .before .before .symbol-off .ensures, sym (c .before .is-exported .ensures) ∙ not-true _ (c .if1 .taken))
 
 returns-3 : tie.Need-returns-3
-unfolding answerOf definition
+unfolding exportedAt definition
 returns-3 c =
     rw (← c .before .before .before .before .before .before .before .before .lookup .ensures .0, c .before .before .before .before .before .before .f .given .1, ← c .before .before .before .before .symbol-off .ensures, sym (c .before .before .before .is-exported .ensures) ∙ not-false _ (c .before .before .if1 .left))
 

@@ -5,7 +5,7 @@ use native.Mathlib.Omega.{arith}
 use borrow.Author.Needs.{needs}
 use borrow.Author.Tests.{eq-eqb, ne-eqb}
 use denote.Ref.{now}
-use Rattle.object.specs.SymbolCount.{lastOf}
+use Rattle.object.specs.SymbolCount.{lastReached}
 use Rattle.object.specs.HashTable.{walk, fuel}
 use Rattle.object.specs.declared.hash_tables.HashTable.the-variants.{Gnu}
 use Rattle.object.proofs.CountLaws.{last-stop, last-on, last-out}
@@ -15,8 +15,8 @@ use Rattle.object.proofs.hash_tables.walk_last.Tie as tie
 abbrev Inv-loop : tie.InvT-loop
 Inv-loop image at buckets first blooms shift word chain low last₀ s₀ left₀ last s left =
     (s + left ≤ 2 ^ 32 + 2 ^ 28) × (last ≤ s)
-    × (lastOf (walk image (Gnu at buckets first blooms shift) (fuel image (Gnu at buckets first blooms shift)) word) word
-    ≡ lastOf (walk image (Gnu at buckets first blooms shift) left s) last)
+    × (lastReached (walk image (Gnu at buckets first blooms shift) (fuel image (Gnu at buckets first blooms shift)) word) word
+    ≡ lastReached (walk image (Gnu at buckets first blooms shift) left s) last)
 
 abbrev μ-loop : tie.MeasureT-loop
 μ-loop image at buckets first blooms shift word chain low last₀ s₀ left₀ last s left =
@@ -42,7 +42,7 @@ loop-holds c =
     let a = c .before .before .args in
     let m = now (a .image) in
     let t = Gnu (a .at) (a .buckets) (a .first) (a .blooms) (a .shift) in
-    (omega arith, search needs, ap (λ (f : ℕ). lastOf (walk m t f (a .word)) (a .word)) (sym (c .smaller .ensures)))
+    (omega arith, search needs, ap (λ (f : ℕ). lastReached (walk m t f (a .word)) (a .word)) (sym (c .smaller .ensures)))
 
 monus-requires : tie.Need-monus-requires Inv-loop μ-loop
 monus-requires c κs = search needs

@@ -1,11 +1,11 @@
 -- `scope::seats::words_of` meets its contract. Assumes nothing.
 use borrow.Author.Needs.{needs}
-use Rattle.scope.specs.Steps.Seats.{wordsOf}
+use Rattle.scope.specs.Steps.Seats.{seatWords}
 use Rattle.scope.proofs.seats.words_of.Statement.{statement}
 use Rattle.scope.proofs.seats.words_of.Tie as tie
 
 returns : tie.Need-returns
-unfolding wordsOf
+unfolding seatWords
 returns c =
     (simp (c .before .hash-words .ensures .0, c .filter-of .ensures), c .before .hash-words .ensures .1)
 
