@@ -25,14 +25,14 @@ use Rattle.object.specs.ProgramHeader.{dynamicOf}
 use Rattle.sheet.specs.declared.sheet.Part.{Part}
 use Rattle.sheet.specs.declared.sheet.Parts.{Parts}
 use Rattle.sheet.specs.Sheet.{Input, noInput}
-use Rattle.sheet.specs.Parts as parts
+use Rattle.sheet.specs.Steps.Parts as parts
 use Rattle.sheet.specs.Steps.Parts.{noPart, inputIn, inputsIn}
 use Rattle.sheet.proofs.SheetLaws.{drop-next}
 use Rattle.sheet.proofs.PartLaws.{take-short, input-at, inputs-length}
 use Rattle.scope.specs.declared.seats.Seat.{Seat}
 use Rattle.binder.specs.declared.order.Order.{Order}
 use Rattle.scope.specs.Steps.Seats.{seatAt}
-use Rattle.binder.specs.Table as rows
+use Rattle.binder.specs.Steps.Table as rows
 use Rattle.binder.specs.Steps.Table.{Ordered}
 use Rattle.binder.specs.SetOrder.{numberOf}
 use Rattle.binder.specs.Bind.{namesOf}

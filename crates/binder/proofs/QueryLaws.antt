@@ -22,7 +22,7 @@ use Rattle.binder.specs.Instance.{File, fileImage, fileRecord, definitio
 use Rattle.binder.specs.Verdict.{passed, verdict, loadVerdict, noFile}
 use Rattle.scope.specs.Steps.Seats.{seatAt}
 use Rattle.binder.specs.Steps.Prepared.{seatOf, placeFiles, Seated}
-use Rattle.scope.specs.ScopeCode as searches
+use Rattle.scope.specs.Steps.ScopeCode as searches
 use Rattle.scope.specs.Steps.ScopeCode.{imageAt}
 use Rattle.binder.specs.Steps.ScopeModel.{SeatOf, SeatedFor}
 use Rattle.scope.specs.declared.seats.Seat.{Seat}

@@ -19,10 +19,10 @@ use Rattle.object.specs.declared.hash_tables.Answer.the-variants as object
 use Rattle.scope.specs.declared.seats.Seat.{Seat}
 use Rattle.scope.specs.declared.scope.Scoped.{Scoped}
 use Rattle.scope.specs.declared.scope.Scoped.the-variants.{Absent, Found}
-use Rattle.scope.specs.Seats as seats-specs
+use Rattle.scope.specs.Steps.Seats as seats-specs
 use Rattle.scope.specs.Steps.Seats.{seatAt, seatsFrom}
 use Rattle.binder.specs.Instance.{symOf, definitionFound}
-use Rattle.scope.specs.ScopeCode as searches
+use Rattle.scope.specs.Steps.ScopeCode as searches
 use Rattle.scope.specs.Steps.ScopeCode.{answerAt, scopedBy, guardedBy, orElse, seatAnswer, ownAnswer, scanSeats, resolveSeats, resolveCopySeats}
 use Rattle.binder.specs.Steps.ScopeModel.{scopedOf, SeatOf, SeatedFor}
 
