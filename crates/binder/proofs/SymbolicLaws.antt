@@ -31,7 +31,7 @@ use Rattle.binder.specs.declared.relocate.Symbols.{Symbols}
 use Rattle.binder.specs.declared.relocate.Run.{Run}
 use Rattle.binder.specs.declared.relocate.Address.the-variants.{Nowhere, At}
 use Rattle.binder.specs.Steps.Relocating.{Left, left, keeps, imageIn, writeFound, soughtFor, answeredOf, symbolicOf, runAction}
-use Rattle.binder.specs.Steps.RunSteps.{EntriesPassed, SymbolsOf, addressIn, SymbolsPassed}
+use Rattle.binder.specs.Steps.RunSteps.{EntriesPassed, SymbolsOf, EntryHere, addressIn, SymbolsPassed}
 use Rattle.binder.proofs.RunLaws.{entriesLeft, entry-goes}
 use Rattle.binder.proofs.RelativeLaws.{number-in}
 use Rattle.binder.proofs.KeptLaws.{kept-then, kept-symbols, entry-kept}
@@ -53,21 +53,13 @@ module _
     (at n low high : ℕ)
     (s : Run)
     (a : List ℕ)
-    {k kind place index name number found : ℕ}
+    {k place index name number found : ℕ}
     {b : List ℕ}
     (some : s .next < n)
     (fits : at + 24 * n ≤ t .span)
     (inside : y .symbols + 24 * y .fits ≤ t .span)
     (stands : k ≡ t .offset + at + 24 * s .next)
-    (kind-is : kind ≡ leAt 4 (mem a) (k + 8))
-    (acts-so : actionOf kind ≡ Symbolic)
-    (place-is : place ≡ leAt 8 (mem a) k)
-    (above : low ≤ place)
-    (below : place + 8 ≤ high)
-    (index-is : index ≡ leAt 4 (mem a) (k + 12))
-    (few : index < y .fits)
-    (name-is : name ≡ leAt 4 (mem a) (t .offset + y .symbols + 24 * index))
-    (named : name < y .ends)
+    (here : EntryHere a t y k low high place index name)
     (number-is : number ≡ index + 1)
     (found-is : At found
     ≡ pick (eqb (s .last) number) (At (s .address)) (addressIn (soughtFor address table count t a (nameAt (imageIn a t) (y .strings + name)))))
@@ -76,20 +68,20 @@ module _
     abbrev e : Rela
     e = relaAt (imageIn a t) at (s .next)
 
-    kind-here : e .kind ≡ kind
+    kind-here : e .kind ≡ leAt 4 (mem a) (k + 8)
     unfolding entries.relaAt
-    kind-here = number-in t a 4 (at + (24 * s .next + 8)) (k + 8) (omega arith) (omega arith) kind-is
+    kind-here = number-in t a 4 (at + (24 * s .next + 8)) (k + 8) (omega arith) (omega arith) refl
 
     place-here : e .place ≡ place
     unfolding entries.relaAt
-    place-here = number-in t a 8 (at + 24 * s .next) k (omega arith) (omega arith) place-is
+    place-here = number-in t a 8 (at + 24 * s .next) k (omega arith) (omega arith) (here .place-is)
 
     index-here : e .symbol ≡ index
     unfolding entries.relaAt
-    index-here = number-in t a 4 (at + (24 * s .next + 12)) (k + 12) (omega arith) (omega arith) index-is
+    index-here = number-in t a 4 (at + (24 * s .next + 12)) (k + 12) (omega arith) (omega arith) (here .index-is)
 
     acts : Symbolic ≡ actionOf (e .kind)
-    acts = sym (ap actionOf kind-here ∙ acts-so)
+    acts = sym (ap actionOf kind-here ∙ here .acts)
 
     module _ (r : Record) (of : SymbolsOf t r y a) where
       abbrev y-here : Symbol
@@ -99,10 +91,10 @@ module _
       unfolding symbols.symbolFrom
       name-here =
           rw (of .symbols, index-here)
-          (number-in t a 4 (y .symbols + 24 * index + 0) (t .offset + y .symbols + 24 * index) (omega arith) (omega arith) name-is)
+          (number-in t a 4 (y .symbols + 24 * index + 0) (t .offset + y .symbols + 24 * index) (omega (arith, here .few)) (omega arith) (here .name-is))
 
       checked : checkedSymbol (imageIn a t) r (e .symbol) ≡ Checked y-here
-      checked = fine-checked (imageIn a t) r (y .fits) (y .ends) (of .fine) (e .symbol) (omega (arith, index-here)) (omega (arith, name-here))
+      checked = fine-checked (imageIn a t) r (y .fits) (y .ends) (of .fine) (e .symbol) (omega (arith, index-here, here .few)) (omega (arith, name-here, here .named))
 
       module _ (p : Progress) (report : List ℕ) (i : ℕ) where
         abbrev q : Progress
@@ -126,7 +118,7 @@ module _
         ran : WritableRange (r .segments) low high → left (keeps number found p) b report ≡ runAction address table count t r i e Symbolic q a report
         unfolding runAction symbolicOf answeredOf
         ran wr =
-            let w : inWritable (r .segments) (e .place) 8 ≡ true = rw place-here (wr place 8 above below (omega arith)) in
+            let w : inWritable (r .segments) (e .place) 8 ≡ true = rw place-here (wr place 8 (here .above) (here .below) (omega arith)) in
             let g : At found ≡ pick (eqb (s .last) (e .symbol + 1)) (At (s .address)) (addressIn (soughtFor address table count t a (nameAt (imageIn a t) (r .strings + y-here .name)))) =
             rw (name-here, of .strings, ← number-here) found-is in
             rw (checked, w, number-here)
@@ -137,11 +129,11 @@ module _
         → SymbolsPassed address table count t y at n low high s₀ a₀ (record { next = s .next + 1; last = number; address = found }) b
     symbolic-turn s₀ a₀ passed r first p report wr of fine =
         let so-far = passed r first p report wr of fine in
-        let here = kept-symbols t r y a₀ a (so-far .1) of in
+        let so = kept-symbols t r y a₀ a (so-far .1) of in
         let i : ℕ = (first + s .next) % 2 ^ 32 in
-        let run = ran r here p report i wr in (
+        let run = ran r so p report i wr in (
           entry-goes address table count t r at first n (s .next) (keeps (s .last) (s .address) p) a report {b = b} {noted = report} some refl acts refl run
-              (so-far .0) (fine (omega arith)),
+              (so-far .0) (fine (omega (arith, here .below))),
           kept-then t r a₀ a b (so-far .1)
               (entry-kept t r address table count i e (keeps (s .last) (s .address) p) a report Symbolic (keeps number found p) b report run),
         )

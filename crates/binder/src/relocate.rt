@@ -3,7 +3,7 @@ ghost use mathlib.Core.Path.{_≡_};
 ghost use mathlib.Core.Bool.{true};
 ghost use Prim.Native.Nat.{_+_, _*_, _≤_};
 ghost use lib.Dec.{eqb};
-ghost use lib.ListN.{take};
+ghost use lib.ListN.{length, take};
 ghost use Rattle.words.specs.Choice.{pick};
 ghost use Rattle.words.specs.Names.{nameAt};
 ghost use Rattle.object.specs.Entries.{relaAt, actionOf};
@@ -13,7 +13,7 @@ ghost use Rattle.object.specs.Steps.WritableRange.{WritableRange};
 ghost use Rattle.sheet.specs.Steps.Parts.{inputsIn};
 ghost use Rattle.scope.specs.Steps.Seats.{Filtered};
 ghost use Rattle.binder.specs.Steps.Relocating.{left, wrote, started, imageIn, relativeOf, symbolRefusal, writeFound, soughtFor, soughtForCopy, symbolicOf, copyingOf, runAction, runTable, runTables, runObject, runAt, runOrder};
-ghost use Rattle.binder.specs.Steps.RunSteps.{EntriesPassed, SymbolsOf, addressIn, SymbolsPassed};
+ghost use Rattle.binder.specs.Steps.RunSteps.{InReach, EntriesPassed, SymbolsOf, EntryRead, addressIn, SymbolsPassed};
 ghost use Rattle.binder.specs.declared.relocate.Address.the-variants.{At};
 use crate::order::Order;
 use crate::report::Progress;
@@ -218,6 +218,29 @@ fn rela_in(arena: &[u8], t: Turn, table: usize, i: u32) -> Rela
     object::relocate::rela_at(crate::turn::image_of(arena, t), table, i)
 }
 
+// Whether the `n` entries of the table at `at` lie in the object's span and the span in an arena of `len` bytes, and `high` ends a word of
+// the span.
+fn in_reach(len: usize, t: Turn, at: usize, n: u32, high: usize) -> bool
+    ensures { λ r. ⌜ (r ≡ true → InReach len t at n high) ⌝ }
+{
+    if high < 8 {
+        return false;
+    }
+    if t.span < high {
+        return false;
+    }
+    if len < t.offset {
+        return false;
+    }
+    if len - t.offset < t.span {
+        return false;
+    }
+    if t.span < at {
+        return false;
+    }
+    n as usize <= (t.span - at) / 24
+}
+
 // As many entries of type 8 as follow one another from entry `start` on, below `n`, with places in low .. high, which is in a writable
 // segment: base + addend. The first entry that is not of this kind. The entries are read where the table is inside the span, and nothing is
 // done elsewhere.
@@ -233,30 +256,12 @@ fn relatives(
     requires { ⌜ start ≤ n ⌝ }
     ensures { λ r. ⌜ (start ≤ r) × (r ≤ n) × EntriesPassed t at n low high start (now (arena .entry)) r (now (arena .exit)) ⌝ }
 {
-    let off = t.offset;
-    let span = t.span;
-    let base = t.base;
-    if high < 8 {
-        return start;
-    }
-    if span < high {
-        return start;
-    }
-    if arena.len() < off {
-        return start;
-    }
-    if arena.len() - off < span {
-        return start;
-    }
-    if span < at {
-        return start;
-    }
-    if (span - at) / 24 < n as usize {
+    if !in_reach(arena.len(), t, at, n, high) {
         return start;
     }
     let last = high - 8;
     let mut i = start;
-    let mut k = off + at + 24 * (start as usize);
+    let mut k = t.offset + at + 24 * (start as usize);
     while i < n {
         if words::bytes::u32_in(arena, k + 8) != 8 {
             return i;
@@ -268,8 +273,8 @@ fn relatives(
         if last < place {
             return i;
         }
-        let v = words::bytes::sum_u64(base, words::bytes::u64_in(arena, k + 16));
-        words::bytes::store_in(arena, off + place, v);
+        let v = words::bytes::sum_u64(t.base, words::bytes::u64_in(arena, k + 16));
+        words::bytes::store_in(arena, t.offset + place, v);
         k += 24;
         i += 1;
     }
@@ -321,6 +326,52 @@ fn is_symbolic(kind: u32) -> bool
     false
 }
 
+// Whether the symbols that need no test lie in the span.
+fn symbols_in(t: Turn, y: Symbols) -> bool
+    ensures { λ r. ⌜ (r ≡ true → y .symbols + 24 * y .fits ≤ t .span) ⌝ }
+{
+    if t.span < y.symbols {
+        return false;
+    }
+    y.fits <= (t.span - y.symbols) / 24
+}
+
+// An entry of type 6 or 7 whose place is in low .. high and whose symbol needs no further test: its place, its symbol and the symbol's name.
+pub enum SymbolEntry {
+    Other,
+    Here { place: usize, index: u32, name: u32 },
+}
+
+// The entry that stands at `k` of the arena.
+fn symbol_entry(arena: &[u8], t: Turn, y: Symbols, k: usize, low: usize, high: usize) -> SymbolEntry
+    requires { ⌜ (k + 24 ≤ length (now arena)) × (t .offset + y .symbols + 24 * y .fits ≤ length (now arena)) × (8 ≤ high) ⌝ }
+    ensures { λ r. ⌜ EntryRead (now (arena .entry)) t y k low high r ⌝ }
+{
+    if !is_symbolic(words::bytes::u32_in(arena, k + 8)) {
+        return SymbolEntry::Other;
+    }
+    let place = words::bytes::u64_in(arena, k) as usize;
+    if place < low {
+        return SymbolEntry::Other;
+    }
+    if high - 8 < place {
+        return SymbolEntry::Other;
+    }
+    let index = words::bytes::u32_in(arena, k + 12);
+    if y.fits <= index as usize {
+        return SymbolEntry::Other;
+    }
+    let name = words::bytes::u32_in(arena, t.offset + y.symbols + 24 * (index as usize));
+    if y.ends <= name as usize {
+        return SymbolEntry::Other;
+    }
+    SymbolEntry::Here {
+        place: place,
+        index: index,
+        name: name,
+    }
+}
+
 // The kept address, where it is that of the symbol with this number, or what a search finds.
 fn address_of(
     arena: &[u8],
@@ -369,52 +420,19 @@ fn symbolics(
     requires { ⌜ (s .next ≤ n) × Filtered (now table) count ⌝ }
     ensures { λ r. ⌜ (s .next ≤ r .next) × (r .next ≤ n) × SymbolsPassed address (now (table .entry)) count t y at n low high s (now (arena .entry)) r (now (arena .exit)) ⌝ }
 {
-    if high < 8 {
+    if !in_reach(arena.len(), t, at, n, high) {
         return s;
     }
-    if t.span < high {
+    if !symbols_in(t, y) {
         return s;
     }
-    if arena.len() < t.offset {
-        return s;
-    }
-    if arena.len() - t.offset < t.span {
-        return s;
-    }
-    if t.span < at {
-        return s;
-    }
-    if (t.span - at) / 24 < n as usize {
-        return s;
-    }
-    if t.span < y.symbols {
-        return s;
-    }
-    if (t.span - y.symbols) / 24 < y.fits {
-        return s;
-    }
-    let end = high - 8;
     let mut p = s;
     let mut k = t.offset + at + 24 * (s.next as usize);
     while p.next < n {
-        if !is_symbolic(words::bytes::u32_in(arena, k + 8)) {
+        let e = symbol_entry(arena, t, y, k, low, high);
+        let SymbolEntry::Here { place, index, name } = e else {
             return p;
-        }
-        let place = words::bytes::u64_in(arena, k) as usize;
-        if place < low {
-            return p;
-        }
-        if end < place {
-            return p;
-        }
-        let index = words::bytes::u32_in(arena, k + 12);
-        if y.fits <= index as usize {
-            return p;
-        }
-        let name = words::bytes::u32_in(arena, t.offset + y.symbols + 24 * (index as usize));
-        if y.ends <= name as usize {
-            return p;
-        }
+        };
         let number = index as u64 + 1;
         let a = address_of(
             arena,

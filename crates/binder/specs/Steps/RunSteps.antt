@@ -2,19 +2,25 @@
 -- bitmap, where all places lie in one writable segment. Nothing that is stated of `bind` and `query` rests on it. Assumes nothing.
 use mathlib.Core.List.{List}
 use mathlib.Core.Path.{_≡_}
-use Prim.Native.Nat.{ℕ, _+_, _-_, _<_}
+use Prim.Native.Nat.{ℕ, _+_, _-_, _*_, _≤_, _<_}
 use lib.ListN.{length}
 use Rattle.object.specs.TableBytes.{Agree}
 use Rattle.object.specs.Steps.WritableRange.{WritableRange}
 use Rattle.object.specs.Steps.FineRange.{FineOf}
 use Rattle.object.specs.Record.{Record, isTableOf}
 use Rattle.object.specs.declared.program_header.Segment.{Segment}
+use Rattle.words.specs.Memory.{mem}
+use Rattle.words.specs.Words.{leAt}
+use Rattle.object.specs.Entries.{actionOf}
+use Rattle.object.specs.declared.relocate.Action.the-variants.{Symbolic}
 use Rattle.scope.specs.declared.scope.Scoped.{Scoped}
 use Rattle.scope.specs.declared.scope.Scoped.the-variants.{Absent, Found}
 use Rattle.binder.specs.declared.report.Progress.{Progress}
 use Rattle.binder.specs.declared.turn.Turn.{Turn}
 use Rattle.binder.specs.declared.relocate.Symbols.{Symbols}
 use Rattle.binder.specs.declared.relocate.Run.{Run}
+use Rattle.binder.specs.declared.relocate.SymbolEntry.{SymbolEntry}
+use Rattle.binder.specs.declared.relocate.SymbolEntry.the-variants.{Other, Here}
 use Rattle.binder.specs.declared.relocate.Address.{Address}
 use Rattle.binder.specs.declared.relocate.Address.the-variants.{Nowhere, At}
 use Rattle.binder.specs.Steps.Relocating.{left, keeps, imageIn, summed, addBits, runTable}
@@ -23,6 +29,13 @@ use Rattle.binder.specs.Steps.Relocating.{left, keeps, imageIn, summed, 
 pub record TablesKept (t : Turn) (r : Record) (a b : List ℕ) : Type 0 where
   pub long : length b ≡ length a
   pub bytes : Agree (isTableOf r) (imageIn a t) (imageIn b t)
+
+-- the `n` entries of the table at `at` lie in the object's span, which lies in an arena of `len` bytes, and `high` ends a word of the span
+pub record InReach (len : ℕ) (t : Turn) (at n high : ℕ) : Type 0 where
+  pub entries : at + 24 * n ≤ t .span
+  pub span : t .offset + t .span ≤ len
+  pub word : 8 ≤ high
+  pub inside : high ≤ t .span
 
 -- of the table of `n` entries at `at`, what is left from entry `i` on over the arena `a` is what is left from entry `j` on over `b`, for an
 -- object in which low .. high is writable, and where no refusal was met
@@ -39,6 +52,21 @@ pub record SymbolsOf (t : Turn) (r : Record) (y : Symbols) (a : List ℕ) : Type
   pub symbols : r .symbols ≡ y .symbols
   pub strings : r .strings ≡ y .strings
   pub fine : FineOf (imageIn a t) r (y .fits) (y .ends)
+
+-- the entry that stands at `k` of the arena `a` is of type 6 or 7, its place is in low .. high, and its symbol needs no further test
+pub record EntryHere (a : List ℕ) (t : Turn) (y : Symbols) (k low high place index name : ℕ) : Type 0 where
+  pub acts : actionOf (leAt 4 (mem a) (k + 8)) ≡ Symbolic
+  pub place-is : place ≡ leAt 8 (mem a) k
+  pub above : low ≤ place
+  pub below : place + 8 ≤ high
+  pub index-is : index ≡ leAt 4 (mem a) (k + 12)
+  pub few : index < y .fits
+  pub name-is : name ≡ leAt 4 (mem a) (t .offset + y .symbols + 24 * index)
+  pub named : name < y .ends
+
+abbrev pub EntryRead : List ℕ → Turn → Symbols → ℕ → ℕ → ℕ → SymbolEntry → Type 0
+EntryRead a t y k low high Other = Unit {0}
+EntryRead a t y k low high (Here place index name) = EntryHere a t y k low high place index name
 
 -- what a search found
 abbrev pub addressIn : Scoped → Address

@@ -1,95 +1,167 @@
--- `binder::relocate::symbolics` meets its contract. The invariant: what is left from entry `p .next` on, over the arena as it is and with the
--- answer that is kept, comes to what was left from entry `s .next` on. Assumes nothing.
-use mathlib.Core.Path.{_≡_, refl, sym, _∙_}
-use Prim.Native.Nat.{_+_, _-_, _*_, _^_, _≤_, _<_}
-use native.Mathlib.Omega.{arith}
-use borrow.Author.Tests.{not-false}
-use denote.Ref.{now}
-use lib.ListN.{length}
-use Rattle.binder.specs.Steps.RunSteps.{SymbolsPassed}
-use Rattle.binder.proofs.LoopLaws.{counts-down}
-use Rattle.binder.proofs.KeptLaws.{kept-none}
-use Rattle.binder.proofs.SymbolicLaws.{symbolic-turn}
+use Rattle.binder.specs.Steps.RunSteps.{EntryHere}
+use mathlib.Core.Path.{subst}
 use borrow.Author.Needs.{needs}
+use Rattle.binder.proofs.LoopLaws.{counts-down}
+use Rattle.binder.proofs.SymbolicLaws.{symbolic-turn}
+use Rattle.binder.proofs.KeptLaws.{kept-none}
+use Rattle.binder.specs.Steps.RunSteps.{InReach, EntryRead, SymbolsPassed}
+use lib.ListN.{length}
+use denote.Ref.{now}
+use borrow.Author.Tests.{not-false}
+use native.Mathlib.Omega.{arith}
+use Prim.Native.Nat.{_+_, _-_, _*_, _≤_}
+use mathlib.Core.Path.{_≡_, refl, sym, _∙_}
 use Rattle.binder.proofs.relocate.symbolics.Statement.{statement}
 use Rattle.binder.proofs.relocate.symbolics.Tie as tie
+use Rattle.binder.proofs.relocate.symbolics.Reads as reads
+use Rattle.binder.proofs.relocate.symbolics.Lts as lts
+use Rattle.binder.proofs.relocate.address_of.Reads as address-of-reads
+use Rattle.binder.proofs.relocate.in_reach.Reads as in-reach-reads
+use Rattle.binder.proofs.relocate.symbol_entry.Reads as symbol-entry-reads
+use Rattle.binder.proofs.relocate.symbols_in.Reads as symbols-in-reads
+use Rattle.words.proofs.bytes.store_in.Reads as store-in-reads
 
 abbrev Inv-loop : tie.InvT-loop
-Inv-loop arena₀ table count address t y at n low high end p₀ k₀ arena p k =
-    (length arena ≡ length arena₀) × (p₀ .next ≤ p .next) × (p .next ≤ n) × (k ≡ t .offset + at + 24 * p .next)
-    × (at + 24 * n ≤ t .span) × (t .offset + t .span ≤ length arena₀) × (end + 8 ≡ high) × (high ≤ t .span)
-    × (y .symbols + 24 * y .fits ≤ t .span)
-    × SymbolsPassed address table count t y at n low high p₀ arena₀ p arena
+Inv-loop arena₀ table count address t y at n low high p₀ k₀ arena p k =
+    (length arena ≡ length arena₀) × (p₀ .next ≤ p .next) × (p .next ≤ n) × (k ≡ t .offset + at + 24 * p .next) × InReach (length arena₀) t at n high
+    × (y .symbols + 24 * y .fits ≤ t .span) × SymbolsPassed address table count t y at n low high p₀ arena₀ p arena
 
 abbrev μ-loop : tie.MeasureT-loop
-μ-loop arena₀ table count address t y at n low high end p₀ k₀ arena p k =
+μ-loop arena₀ table count address t y at n low high p₀ k₀ arena p k =
     n - p .next
 
--- what the guards say
-guarded :
-    (c : tie.Else8 Inv-loop μ-loop)
-    → let a = c .before .before .before .before .before .before .before .before .before .before .before .before .before .before .before .before .before .before .before .before .before .args in
-    (a .at + 24 * a .n ≤ a .t .span) × (a .t .offset + a .t .span ≤ length (now (a .arena))) × (8 ≤ a .high) × (a .high ≤ a .t .span)
-    × (a .y .symbols + 24 * a .y .fits ≤ a .t .span) × (length (now (a .arena)) < 2 ^ 64)
-guarded c = (
-  omega (arith, c .before .before .before .before .before .before .before .before .before .if5 .left, c .before .before .before .before .before .before .before .if6 .left),
-  omega (arith, c .before .before .before .before .before .before .before .before .before .before .before .before .before .before .if3 .left, c .before .before .before .before .before .before .before .before .before .before .before .if4 .left),
-  omega (arith, c .before .before .before .before .before .before .before .before .before .before .before .before .before .before .before .before .before .before .if1 .left),
-  omega (arith, c .before .before .before .before .before .before .before .before .before .before .before .before .before .before .before .before .if2 .left),
-  omega (arith, c .before .before .before .before .if7 .left, c .if8 .left),
-  omega (arith, c .before .before .before .before .before .before .before .before .before .before .before .before .before .before .before .before .before .before .before .before .before .good .0),
-)
+-- the entry was read
+here-in :
+    (c : tie.After-known-told Inv-loop μ-loop)
+    → let a = c .before .before .before .before .before .before .before .before .before .before .before .before .before .before .before .before .args in
+    let l = c .before .before .before .before .before .before .before .loop in
+    let e = c .before .e .given in
+    EntryHere (l .arena) (a .t) (a .y) (l .k) (a .low) (a .high) (e .0 .0) (e .0 .1 .0) (e .0 .1 .1 .0)
+here-in c =
+    let a = c .before .before .before .before .before .before .before .before .before .before .before .before .before .before .before .before .args in
+    let l = c .before .before .before .before .before .before .before .loop in
+    subst (EntryRead (l .arena) (a .t) (a .y) (l .k) (a .low) (a .high)) (c .before .e .given .1) (c .before .before .before .symbol-entry .ensures)
 
--- in the loop: entry, symbol and place are in the arena
-entry-in :
-    (c : tie.Then9 Inv-loop μ-loop)
-    → let l = c .before .before .loop in
-    (l .k + 24 ≤ length (l .arena)) × (length (l .arena) < 2 ^ 64)
-entry-in c =
-    let l = c .before .before .loop in (
-      omega (arith, l .inv .0, l .inv .3, l .inv .4, l .inv .5, c .if9 .taken),
-      omega (arith, l .inv .0, c .before .before .before .before .before .before .before .before .before .before .before .before .before .before .before .before .before .before .before .before .before .before .before .before .before .before .good .0),
-    )
+in-reach-requires : tie.Need-in-reach-requires Inv-loop μ-loop
+in-reach-requires c κs = search needs
 
-symbol-in :
-    (c : tie.Else13 Inv-loop μ-loop)
-    → let a = c .before .before .before .before .before .before .before .before .before .before .before .before .before .before .before .before .before .before .before .before .before .before .before .before .before .before .before .before .before .before .before .before .before .before .before .before .before .before .args in
-    a .t .offset + a .y .symbols + 24 * c .before .before .u32-in2 .result + 24 ≤ length (c .before .before .before .before .before .before .before .before .before .before .before .before .before .before .loop .arena)
-symbol-in c = let l = c .before .before .before .before .before .before .before .before .before .before .before .before .before .before .loop in omega (arith, l .inv .0, l .inv .5, l .inv .8, c .if13 .left)
+returns : tie.Need-returns Inv-loop μ-loop
+returns c =
+    (omega arith, c .before .before .before .before .pre .0, λ r _ _ _ _ _ _. (refl, kept-none _ r _))
 
-place-in :
-    (c : tie.Else12 Inv-loop μ-loop)
-    → let a = c .before .before .before .before .before .before .before .before .before .before .before .before .before .before .before .before .before .before .before .before .before .before .before .before .before .before .before .before .before .before .before .before .before .before .args in
-    a .t .offset + c .before .before .u64-in .result + 8 ≤ length (c .before .before .before .before .before .before .before .before .before .before .loop .arena)
-place-in c = let l = c .before .before .before .before .before .before .before .before .before .before .loop in omega (arith, l .inv .0, l .inv .5, l .inv .6, l .inv .7, c .if12 .left)
+symbols-in-requires : tie.Need-symbols-in-requires Inv-loop μ-loop
+symbols-in-requires c κs = search needs
+
+returns-2 : tie.Need-returns-2 Inv-loop μ-loop
+returns-2 c =
+    (omega arith, c .before .before .before .before .before .before .pre .0, λ r _ _ _ _ _ _. (refl, kept-none _ r _))
+
+add-k : tie.Need-add-k Inv-loop μ-loop
+add-k c =
+    let g = c .before .before .before .before .in-reach .ensures (not-false _ (c .before .before .before .if1 .left)) in search (needs, g .span, g .entries)
+
+cast-k : tie.Need-cast-k Inv-loop μ-loop
+cast-k c = search needs
+
+mul-k : tie.Need-mul-k Inv-loop μ-loop
+mul-k c =
+    let g = c .before .before .before .before .before .in-reach .ensures (not-false _ (c .before .before .before .before .if1 .left)) in search (needs, g .span, g .entries)
+
+add-k-2 : tie.Need-add-k-2 Inv-loop μ-loop
+add-k-2 c =
+    let g = c .before .before .before .before .before .in-reach .ensures (not-false _ (c .before .before .before .before .if1 .left)) in search (needs, g .span, g .entries, c .before .before .before .before .before .before .before .before .pre .0)
 
 loop-holds : tie.Need-loop-holds Inv-loop μ-loop
 loop-holds c =
-    let g = guarded (c .before .before) in
-    (refl, omega arith, c .before .before .before .before .before .before .before .before .before .before .before .before .before .before .before .before .before .before .before .before .before .before .before .pre .0, refl, g .0, g .1, omega (arith, g .2), g .3, g .4, λ r _ _ _ _ _ _. (refl, kept-none _ r _))
+    let g = c .before .before .before .before .before .in-reach .ensures (not-false _ (c .before .before .before .before .if1 .left)) in (refl, omega arith, c .before .before .before .before .before .before .before .before .pre .0, refl, g, c .before .before .before .symbols-in .ensures (not-false _ (c .before .before .if2 .left)), λ r _ _ _ _ _ _. (refl, kept-none _ r _))
+
+symbol-entry-requires : tie.Need-symbol-entry-requires Inv-loop μ-loop
+symbol-entry-requires c κs =
+    let l = c .before .before .before .loop in let g = l .inv .4 in (omega (arith, l .inv .0, l .inv .3, g .entries, g .span, c .before .if3 .taken), omega (arith, l .inv .0, l .inv .5, g .span), g .word)
+
+enum-known-e : tie.Need-enum-known-e Inv-loop μ-loop
+enum-known-e c = search needs
+
+enum-told : tie.Need-enum-told Inv-loop μ-loop
+enum-told c = search needs
+
+same-length : tie.Need-same-length Inv-loop μ-loop
+same-length c =
+    c .before .before .before .before .before .before .loop .inv .0
+
+returns-3 : tie.Need-returns-3 Inv-loop μ-loop
+returns-3 c =
+    (c .before .before .before .before .before .before .loop .inv .1, c .before .before .before .before .before .before .loop .inv .2, c .before .before .before .before .before .before .loop .inv .6)
+
+cast-number : tie.Need-cast-number Inv-loop μ-loop
+cast-number c = search needs
+
+add-number : tie.Need-add-number Inv-loop μ-loop
+add-number c = search needs
+
+address-of-requires : tie.Need-address-of-requires Inv-loop μ-loop
+address-of-requires c κs =
+    c .before .before .before .before .before .before .before .before .before .before .before .before .before .before .before .before .before .pre .1
+
+enum-known-a : tie.Need-enum-known-a Inv-loop μ-loop
+enum-known-a c = search needs
+
+enum-told-2 : tie.Need-enum-told-2 Inv-loop μ-loop
+enum-told-2 c = search needs
+
+same-length-2 : tie.Need-same-length-2 Inv-loop μ-loop
+same-length-2 c =
+    c .before .before .before .before .before .before .before .before .before .before .before .loop .inv .0
+
+returns-4 : tie.Need-returns-4 Inv-loop μ-loop
+returns-4 c =
+    (c .before .before .before .before .before .before .before .before .before .before .before .loop .inv .1, c .before .before .before .before .before .before .before .before .before .before .before .loop .inv .2, c .before .before .before .before .before .before .before .before .before .before .before .loop .inv .6)
+
+add-store-in : tie.Need-add-store-in Inv-loop μ-loop
+add-store-in c =
+    let l = c .before .before .before .before .before .before .before .before .before .before .before .before .before .before .loop in let g = l .inv .4 in let h = here-in (c .before .before .before .before .before .before .before) in search (needs, g .span, g .inside, h .below, l .inv .0, c .before .before .before .before .before .before .before .before .before .before .before .before .before .before .before .before .before .before .before .before .before .before .before .good .0)
+
+store-in-requires : tie.Need-store-in-requires Inv-loop μ-loop
+store-in-requires c κs =
+    let l = c .before .before .before .before .before .before .before .before .before .before .before .before .before .before .loop in let g = l .inv .4 in let h = here-in (c .before .before .before .before .before .before .before) in search (needs, g .span, g .inside, h .below, l .inv .0, c .before .before .before .before .before .before .before .before .before .before .before .before .before .before .before .before .before .before .before .before .before .before .before .good .0)
+
+add-t36 : tie.Need-add-t36 Inv-loop μ-loop
+add-t36 c =
+    search (needs, c .before .before .before .before .before .before .before .before .before .before .before .before .before .before .before .before .if3 .taken, c .before .before .before .before .before .before .before .before .before .before .before .before .before .before .before .before .before .before .before .before .before .before .before .before .before .before .before .fits .n)
+
+add-k-3 : tie.Need-add-k-3 Inv-loop μ-loop
+add-k-3 c =
+    let l = c .before .before .before .before .before .before .before .before .before .before .before .before .before .before .before .before .before .before .loop in let g = l .inv .4 in search (needs, g .span, g .entries, l .inv .0, l .inv .3, c .before .before .before .before .before .before .before .before .before .before .before .before .before .before .before .before .before .before .before .before .before .before .before .before .before .before .before .good .0, c .before .before .before .before .before .before .before .before .before .before .before .before .before .before .before .before .if3 .taken)
+
+loop-less : tie.Need-loop-less Inv-loop μ-loop
+loop-less c =
+    counts-down (c .before .before .before .before .before .before .before .before .before .before .before .before .before .before .before .before .if3 .taken)
 
 loop-again : tie.Need-loop-again Inv-loop μ-loop
 loop-again c =
-    let a = c .before .before .before .before .before .before .before .before .before .before .before .before .before .before .before .before .before .before .before .before .before .before .before .before .before .before .before .before .before .before .before .before .before .before .before .before .before .before .before .before .before .before .before .before .before .before .before .before .before .before .before .before .before .before .before .args in
-    let l = c .before .before .before .before .before .before .before .before .before .before .before .before .before .before .before .before .before .before .before .before .before .before .before .before .before .before .before .before .before .before .before .loop in
+    let a = c .before .before .before .before .before .before .before .before .before .before .before .before .before .before .before .before .before .before .before .before .before .before .before .before .before .before .before .args in
+    let l = c .before .before .before .before .before .before .before .before .before .before .before .before .before .before .before .before .before .before .loop in
+    let g = l .inv .4 in
     let s = c .before .before .before .store-in in
-    let some = c .before .before .before .before .before .before .before .before .before .before .before .before .before .before .before .before .before .before .before .before .before .before .before .before .before .before .before .before .before .if9 .taken in (
+    let h = here-in (c .before .before .before .before .before .before .before .before .before .before .before) in (
       s .kept .0 ∙ l .inv .0,
       omega (arith, l .inv .1),
-      omega (arith, some),
+      omega (arith, c .before .before .before .before .before .before .before .before .before .before .before .before .before .before .before .before .if3 .taken),
       omega (arith, l .inv .3),
-      l .inv .4,
+      g,
       l .inv .5,
-      l .inv .6,
-      l .inv .7,
-      l .inv .8,
-      symbolic-turn (a .address) (now (a .table)) (a .count) (a .t) (a .y) (a .at) (a .n) (a .low) (a .high) (l .p) (l .arena) {found = c .before .before .before .before .before .before .before .a .given .0 .0} {b = s .last .0} some (l .inv .4) (l .inv .8) (l .inv .3)
-          (c .before .before .before .before .before .before .before .before .before .before .before .before .before .before .before .before .before .before .before .before .before .before .before .before .before .before .before .u32-in .ensures) (c .before .before .before .before .before .before .before .before .before .before .before .before .before .before .before .before .before .before .before .before .before .before .before .before .before .before .is-symbolic .ensures (not-false _ (c .before .before .before .before .before .before .before .before .before .before .before .before .before .before .before .before .before .before .before .before .before .before .before .before .before .if10 .left)))
-          (c .before .before .before .before .before .before .before .before .before .before .before .before .before .before .before .before .before .before .before .before .before .before .before .u64-in .ensures) (omega (arith, c .before .before .before .before .before .before .before .before .before .before .before .before .before .before .before .before .before .before .before .before .before .before .if11 .left)) (omega (arith, c .before .before .before .before .before .before .before .before .before .before .before .before .before .before .before .before .before .before .before .before .before .if12 .left, l .inv .6))
-          (c .before .before .before .before .before .before .before .before .before .before .before .before .before .before .before .before .before .before .before .u32-in2 .ensures) (omega (arith, c .before .before .before .before .before .before .before .before .before .before .before .before .before .before .before .before .before .if13 .left))
-          (c .before .before .before .before .before .before .before .before .before .before .before .before .before .u32-in3 .ensures) (omega (arith, c .before .before .before .before .before .before .before .before .before .before .before .if14 .left)) refl
-          (sym (c .before .before .before .before .before .before .before .a .given .1) ∙ c .before .before .before .before .before .before .before .before .before .address-of .ensures) (s .ensures) (a .s) (now (a .arena)) (l .inv .9),
+      symbolic-turn (a .address) (now (a .table)) (a .count) (a .t) (a .y) (a .at) (a .n) (a .low) (a .high) (l .p) (l .arena) {found = c .before .before .before .before .before .before .before .a .given .0 .0} {b = s .last .0} (c .before .before .before .before .before .before .before .before .before .before .before .before .before .before .before .before .if3 .taken) (g .entries) (l .inv .5) (l .inv .3)
+          h refl
+          (sym (c .before .before .before .before .before .before .before .a .given .1) ∙ c .before .before .before .before .before .before .before .before .before .address-of .ensures) (s .ensures) (a .s) (now (a .arena)) (l .inv .6),
     )
+
+same-length-3 : tie.Need-same-length-3 Inv-loop μ-loop
+same-length-3 c =
+    c .before .before .loop .inv .0
+
+returns-5 : tie.Need-returns-5 Inv-loop μ-loop
+returns-5 c =
+    (c .before .before .loop .inv .1, c .before .before .loop .inv .2, c .before .before .loop .inv .6)
 
 pub symbolics-spec : {M : Type 1} → statement M
 symbolics-spec =
@@ -97,55 +169,32 @@ symbolics-spec =
     (tie.spec
     Inv-loop
     μ-loop
-    (λ c. (omega arith, c .before .before .before .pre .0, λ r _ _ _ _ _ _. (refl, kept-none _ r _)))
-    (λ c. (omega arith, c .before .before .before .before .before .pre .0, λ r _ _ _ _ _ _. (refl, kept-none _ r _)))
-    (λ c. (omega arith, c .before .before .before .before .before .before .before .pre .0, λ r _ _ _ _ _ _. (refl, kept-none _ r _)))
-    (λ c. search needs)
-    (λ c. (omega arith, c .before .before .before .before .before .before .before .before .before .before .pre .0, λ r _ _ _ _ _ _. (refl, kept-none _ r _)))
-    (λ c. (omega arith, c .before .before .before .before .before .before .before .before .before .before .before .before .pre .0, λ r _ _ _ _ _ _. (refl, kept-none _ r _)))
-    (λ c. (omega arith, c .before .before .before .before .before .before .before .before .before .before .before .before .before .before .pre .0, λ r _ _ _ _ _ _. (refl, kept-none _ r _)))
-    (λ c. (omega arith, c .before .before .before .before .before .before .before .before .before .before .before .before .before .before .before .before .before .pre .0, λ r _ _ _ _ _ _. (refl, kept-none _ r _)))
-    (λ c. (omega arith, c .before .before .before .before .before .before .before .before .before .before .before .before .before .before .before .before .before .before .before .before .before .pre .0, λ r _ _ _ _ _ _. (refl, kept-none _ r _)))
-    (λ c. search (needs, guarded (c .before)))
-    (λ c. search needs)
-    (λ c. search needs)
-    (λ c. search (needs, guarded (c .before .before), c .before .before .before .before .before .before .before .before .before .before .before .before .before .before .before .before .before .before .before .before .before .before .before .pre .0))
+    in-reach-requires
+    returns
+    symbols-in-requires
+    returns-2
+    add-k
+    cast-k
+    mul-k
+    add-k-2
     loop-holds
-    (λ c. search (needs, entry-in (c .before)))
-    (λ c κs. search (needs, entry-in (c .before)))
-    (λ c κs. search needs)
-    (λ c. c .before .before .before .before .before .before .loop .inv .0)
-    (λ c. let l = c .before .before .before .before .before .before .loop in (l .inv .1, l .inv .2, l .inv .9))
-    (λ c κs. search (needs, entry-in (c .before .before .before .before .before)))
-    (λ c. c .before .before .before .before .before .before .before .before .before .loop .inv .0)
-    (λ c. let l = c .before .before .before .before .before .before .before .before .before .loop in (l .inv .1, l .inv .2, l .inv .9))
-    (λ c. c .before .before .before .before .before .before .before .before .before .before .loop .inv .0)
-    (λ c. let l = c .before .before .before .before .before .before .before .before .before .before .loop in (l .inv .1, l .inv .2, l .inv .9))
-    (λ c. search (needs, entry-in (c .before .before .before .before .before .before .before .before .before)))
-    (λ c κs. search (needs, entry-in (c .before .before .before .before .before .before .before .before .before)))
-    (λ c. search needs)
-    (λ c. c .before .before .before .before .before .before .before .before .before .before .before .before .before .before .loop .inv .0)
-    (λ c. let l = c .before .before .before .before .before .before .before .before .before .before .before .before .before .before .loop in (l .inv .1, l .inv .2, l .inv .9))
-    (λ c. search (needs, symbol-in (c .before .before .before), entry-in (c .before .before .before .before .before .before .before .before .before .before .before .before .before .before .before)))
-    (λ c. search needs)
-    (λ c. search (needs, symbol-in (c .before .before .before), entry-in (c .before .before .before .before .before .before .before .before .before .before .before .before .before .before .before)))
-    (λ c. search (needs, symbol-in (c .before .before .before), entry-in (c .before .before .before .before .before .before .before .before .before .before .before .before .before .before .before)))
-    (λ c κs. search (needs, symbol-in (c .before .before .before), entry-in (c .before .before .before .before .before .before .before .before .before .before .before .before .before .before .before)))
-    (λ c. search needs)
-    (λ c. c .before .before .before .before .before .before .before .before .before .before .before .before .before .before .before .before .before .before .before .before .loop .inv .0)
-    (λ c. let l = c .before .before .before .before .before .before .before .before .before .before .before .before .before .before .before .before .before .before .before .before .loop in (l .inv .1, l .inv .2, l .inv .9))
-    (λ c. search needs)
-    (λ c. search needs)
-    (λ c κs. c .before .before .before .before .before .before .before .before .before .before .before .before .before .before .before .before .before .before .before .before .before .before .before .before .before .before .before .before .before .before .before .before .before .before .before .before .before .before .before .before .before .before .before .before .before .pre .1)
-    (λ c. search needs)
-    (λ c. search needs)
-    (λ c. c .before .before .before .before .before .before .before .before .before .before .before .before .before .before .before .before .before .before .before .before .before .before .before .before .loop .inv .0)
-    (λ c. let l = c .before .before .before .before .before .before .before .before .before .before .before .before .before .before .before .before .before .before .before .before .before .before .before .before .loop in (l .inv .1, l .inv .2, l .inv .9))
-    (λ c. search (needs, place-in (c .before .before .before .before .before .before .before .before .before .before .before .before .before .before .before .before .before), entry-in (c .before .before .before .before .before .before .before .before .before .before .before .before .before .before .before .before .before .before .before .before .before .before .before .before .before)))
-    (λ c κs. search (needs, place-in (c .before .before .before .before .before .before .before .before .before .before .before .before .before .before .before .before .before)))
-    (λ c. search (needs, c .before .before .before .before .before .before .before .before .before .before .before .before .before .before .before .before .before .before .before .before .before .before .before .before .before .before .before .before .before .if9 .taken, c .before .before .before .before .before .before .before .before .before .before .before .before .before .before .before .before .before .before .before .before .before .before .before .before .before .before .before .before .before .before .before .before .before .before .before .before .before .before .before .before .before .before .before .before .before .before .before .before .before .before .before .before .before .before .before .fits .n))
-    (λ c. search (needs, entry-in (c .before .before .before .before .before .before .before .before .before .before .before .before .before .before .before .before .before .before .before .before .before .before .before .before .before .before .before .before .before)))
-    (λ c. counts-down (c .before .before .before .before .before .before .before .before .before .before .before .before .before .before .before .before .before .before .before .before .before .before .before .before .before .before .before .before .before .if9 .taken))
+    symbol-entry-requires
+    enum-known-e
+    enum-told
+    same-length
+    returns-3
+    cast-number
+    add-number
+    address-of-requires
+    enum-known-a
+    enum-told-2
+    same-length-2
+    returns-4
+    add-store-in
+    store-in-requires
+    add-t36
+    add-k-3
+    loop-less
     loop-again
-    (λ c. c .before .before .loop .inv .0)
-    (λ c. let l = c .before .before .loop in (l .inv .1, l .inv .2, l .inv .9)))
+    same-length-3
+    returns-5)
