@@ -5,7 +5,6 @@ pub mod LoadLaws
 pub mod SegmentLaws
 pub mod PlaceLaws
 pub mod FieldLaws
-pub mod FormerFields
 pub mod ReadLaws
 pub mod LoadedLaws
 pub mod Ranges
