@@ -34,7 +34,7 @@ use Rattle.object.specs.declared.symbol.Symbol.{Symbol}
 use Rattle.object.specs.declared.relocate.Rela.{Rela}
 use Rattle.object.specs.declared.relocate.Action.{Action}
 use Rattle.object.specs.declared.relocate.Action.the-variants.{Ignored, Passed, Relative, Symbolic, Copy, Irelative}
-use Rattle.object.specs.declared.dynamic_fields.CheckedSymbol.the-variants.{Refused, Checked}
+use Rattle.object.specs.declared.entry_symbol.CheckedSymbol.the-variants.{Refused, Checked}
 use Rattle.sheet.specs.Sheet.{Input, noInput, named, twinFrom, twinOf}
 use Rattle.binder.specs.Instance.{File, fileImage, fileRecord, namedWords, relasOf}
 use Rattle.binder.specs.Verdict.{

@@ -19,8 +19,8 @@ use Rattle.object.specs.declared.hash_tables.View.{View}
 use Rattle.object.specs.declared.hash_tables.SymbolCount.{SymbolCount}
 use Rattle.object.specs.declared.hash_tables.SymbolCount.the-variants.{Unknown, Known}
 use Rattle.object.specs.declared.symbol.Symbol.{Symbol}
-use Rattle.object.specs.declared.dynamic_fields.CheckedSymbol.{CheckedSymbol}
-use Rattle.object.specs.declared.dynamic_fields.CheckedSymbol.the-variants.{Refused, Checked}
+use Rattle.object.specs.declared.entry_symbol.CheckedSymbol.{CheckedSymbol}
+use Rattle.object.specs.declared.entry_symbol.CheckedSymbol.the-variants.{Refused, Checked}
 use Rattle.object.specs.declared.dynamic_fields.ObjectData.{ObjectData}
 use Rattle.object.specs.declared.dynamic_fields.Read.{Read}
 use Rattle.object.specs.declared.table_bytes.Bounds.{Bounds}

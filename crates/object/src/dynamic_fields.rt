@@ -1,13 +1,10 @@
 // The object record and refusals 9 to 12: port of dynamic_fields.rs.
 ghost use mathlib.Core.Path.{_≡_};
-ghost use mathlib.Core.Bool.{true};
 ghost use Prim.Native.Nat.{ℕ, _*_, _^_, _≤_, _<_};
-ghost use lib.Dec.{ltb};
 ghost use lib.ListN.{take};
 ghost use Rattle.object.specs.Steps.Slots.{fieldIn};
 ghost use Rattle.object.specs.Steps.LoadTable.{segmentsIn};
-ghost use Rattle.object.specs.Steps.FineRange.{FineOf};
-ghost use Rattle.object.specs.Record.{heldBy, noRecord, viewOf, entryCount, tableIn, recordIn, fieldsRefusal, fieldIs, needsOk, relocationsOk, tablesOk, sizesRefusal, BoundsOf, RelocationCounts, ReadBy, indexOk, checkedSymbol};
+ghost use Rattle.object.specs.Record.{heldBy, noRecord, viewOf, entryCount, tableIn, recordIn, fieldsRefusal, fieldIs, needsOk, relocationsOk, tablesOk, sizesRefusal, BoundsOf, RelocationCounts, ReadBy};
 use crate::dynamic_array::DT_GNU_HASH;
 use crate::dynamic_array::DT_HASH;
 use crate::dynamic_array::DT_JMPREL;
@@ -31,7 +28,6 @@ use crate::hash_tables::View;
 use crate::program_header::Dynamic;
 use crate::program_header::Loads;
 use crate::program_header::Segment;
-use crate::symbol::Symbol;
 use crate::table_bytes::Bounds;
 
 // The record of an object: the first `count` of `segments`, of which the host has none, and the first `needs` of `needed`; the string and
@@ -312,73 +308,5 @@ pub fn read_object(image: &[u8], l: Loads, d: Dynamic, host: bool) -> Read
     Read {
         refusal: 0,
         object: o,
-    }
-}
-
-// The symbol of an entry, or its refusal: 14 or 15.
-pub enum CheckedSymbol {
-    Refused(u32),
-    Checked(Symbol),
-}
-
-// Whether an index is below a known count.
-fn index_ok(known: SymbolCount, index: u32) -> bool
-    ensures { λ r. ⌜ r ≡ indexOk known index ⌝ }
-{
-    match known {
-        SymbolCount::Unknown => true,
-        SymbolCount::Known(count) => below_count(index as usize, count),
-    }
-}
-
-fn below_count(index: usize, count: usize) -> bool
-    ensures { λ r. ⌜ r ≡ ltb index count ⌝ }
-{
-    if index < count {
-        return true;
-    }
-    false
-}
-
-// The symbol of an entry.
-pub fn checked_symbol(image: &[u8], o: ObjectData, index: u32) -> CheckedSymbol
-    ensures { λ r. ⌜ r ≡ checkedSymbol (now (image .entry)) (heldBy o) index ⌝ }
-{
-    let known = o.known;
-    if !index_ok(known, index) {
-        return CheckedSymbol::Refused(14);
-    }
-    let b = bounds_of(o);
-    if !crate::check::symbol_ok(image, b, o.symbols, o.strings, index) {
-        return CheckedSymbol::Refused(15);
-    }
-    CheckedSymbol::Checked(crate::symbol::symbol_at(image, o.symbols, index))
-}
-
-// What needs no further test of refusals 14 and 15: the first `fits` symbols, and a name at one of the first `ends` places of the strings.
-pub struct Fine {
-    pub fits: usize,
-    pub ends: usize,
-}
-
-// How many of the first `n` symbols are below a known count.
-fn known_of(known: SymbolCount, n: usize) -> usize
-    ensures { λ r. ⌜ (r ≤ n) × ((s : ℕ) → s < r → indexOk known s ≡ true) ⌝ }
-{
-    match known {
-        SymbolCount::Unknown => n,
-        SymbolCount::Known(count) => words::bytes::smaller(n, count),
-    }
-}
-
-// Which symbols and names of the object need no further test.
-pub fn fine_in(image: &[u8], o: ObjectData) -> Fine
-    ensures { λ r. ⌜ FineOf (now (image .entry)) (heldBy o) (r .fits) (r .ends) ⌝ }
-{
-    let known = o.known;
-    let f = crate::table_bytes::fine_of(image, bounds_of(o), o.symbols, o.strings);
-    Fine {
-        fits: known_of(known, f.fits),
-        ends: f.ends,
     }
 }
