@@ -16,6 +16,7 @@ use Rattle.object.specs.declared.program_header.Segment.{Segment}
 use Rattle.object.specs.declared.program_header.Dynamic.{Dynamic}
 use Rattle.object.specs.declared.program_header.Dynamic.the-variants.{Missing, At}
 use Rattle.object.specs.declared.hash_tables.View.{View}
+use Rattle.object.specs.DynamicArray.{endsInside}
 use Rattle.object.specs.DynamicFields.{fieldsOf, neededOffsets}
 use Rattle.object.specs.ProgramHeader.{dynamicOf}
 use Rattle.object.specs.Record as records
@@ -65,7 +66,7 @@ module _ (host : Bool) (image : List ℕ) (segments : List Segment) where
   unfolding readRefusal
   needs-few Missing e = omega arith
   needs-few (At at) e =
-      let a = after-zero (fieldsRefusal (fieldsOf image at)) _ e in
+      let a = after-zero (fieldsRefusal (endsInside image at) (fieldsOf image at)) _ e in
       leb-true (length (neededOffsets image at)) 64 (required (leb (length (neededOffsets image at)) 64) 10 _ (a .1) .0)
 
   needed-is : (d : Dynamic) → readRefusal host image segments d ≡ 0 → records.recordAt image segments d .needed ≡ neededAt image d

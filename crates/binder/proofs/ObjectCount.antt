@@ -9,7 +9,6 @@ use Rattle.words.proofs.Slices.{length-tab}
 use Rattle.object.specs.DynamicArray.{itemRoom, endIn, endsInside}
 use Rattle.object.specs.DynamicArray as arrays
 use Rattle.object.specs.DynamicFields.{fieldsOf}
-use Rattle.object.specs.DynamicFields as fields
 use Rattle.object.specs.ProgramHeader.{dynamicOf}
 use Rattle.object.specs.Placed.{segmentsOf, objectSpan, objectBytes, objectImage, placeRefusal}
 use Rattle.object.specs.Record.{fieldsRefusal, readRefusal}
@@ -32,10 +31,10 @@ end-room zero image at e = absurd (true≢false (sym e))
 end-room (suc n) image at e = omega arith
 
 read-some : (host : Bool) (image : List ℕ) (segments : List Segment) (d : Dynamic) → readRefusal host image segments d ≡ 0 → 0 < length image
-unfolding records.readRefusal records.fieldsRefusal fields.fieldsFrom
+unfolding records.readRefusal records.fieldsRefusal
 read-some host image segments Missing e = absurd (omega arith)
 read-some host image segments (At at) e =
-    let a = after-zero (fieldsRefusal (fieldsOf image at)) _ e in
+    let a = after-zero (fieldsRefusal (endsInside image at) (fieldsOf image at)) _ e in
     let b = required (endsInside image at) 8 _ (a .0) in
     omega (arith, end-room (itemRoom image at) image at (b .0))
 

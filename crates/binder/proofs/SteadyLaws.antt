@@ -28,6 +28,7 @@ use Rattle.object.specs.TableBytes.{isWritable, holdsRange, isTable, tableBytes
 use Rattle.object.specs.TableBytes as tables
 use Rattle.object.specs.Record.{Record, isTableOf, needsOk, relocationsOk, tablesOk, fieldsRefusal, readRefusal, recordIn}
 use Rattle.object.specs.Record as records
+use Rattle.object.specs.DynamicArray.{endsInside}
 use Rattle.object.specs.DynamicFields.{fieldsOf, neededOffsets}
 use Rattle.object.specs.Placed.{segmentsOf, objectSpan, placeRefusal}
 use Rattle.object.specs.Placed as placing
@@ -101,7 +102,7 @@ read-tables :
 unfolding records.readRefusal records.recordAt
 read-tables host image ss Missing e = absurd (omega arith)
 read-tables host image ss (At at) e =
-    let a = after-zero (fieldsRefusal (fieldsOf image at)) _ e in
+    let a = after-zero (fieldsRefusal (endsInside image at) (fieldsOf image at)) _ e in
     let b = required (leb (length (neededOffsets image at)) 64) 10 _ (a .1) in
     required (tablesOk host image (recordIn image ss (fieldsOf image at) (neededOffsets image at))) 11 0 (b .1) .0
 

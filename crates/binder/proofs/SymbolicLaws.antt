@@ -21,7 +21,7 @@ use Rattle.object.specs.Steps.WritableRange.{WritableRange}
 use Rattle.object.specs.declared.symbol.Symbol.{Symbol}
 use Rattle.object.specs.declared.relocate.Rela.{Rela}
 use Rattle.object.specs.declared.relocate.Action.the-variants.{Symbolic}
-use Rattle.object.specs.declared.dynamic_fields.CheckedSymbol.the-variants.{Checked}
+use Rattle.object.specs.declared.entry_symbol.CheckedSymbol.the-variants.{Checked}
 use Rattle.object.proofs.FineLaws.{fine-checked}
 use Rattle.scope.specs.declared.scope.Scoped.{Scoped}
 use Rattle.scope.specs.declared.scope.Scoped.the-variants.{Absent, Found}

@@ -18,8 +18,8 @@ ghost use Rattle.binder.specs.declared.relocate.Address.the-variants.{At
 use crate::order::Order;
 use crate::report::Progress;
 use crate::turn::Turn;
-use object::dynamic_fields::CheckedSymbol;
 use object::dynamic_fields::ObjectData;
+use object::entry_symbol::CheckedSymbol;
 use object::relocate::Action;
 use object::relocate::Rela;
 use object::symbol::Symbol;
@@ -50,7 +50,7 @@ fn relative(arena: &mut [u8], p: Progress, t: Turn, b: Bounds, e: Rela) -> Progr
 fn symbol_of(arena: &[u8], t: Turn, o: ObjectData, index: u32) -> CheckedSymbol
     ensures { λ r. ⌜ r ≡ checkedSymbol (imageIn (now (arena .entry)) t) (heldBy o) index ⌝ }
 {
-    object::dynamic_fields::checked_symbol(crate::turn::image_of(arena, t), o, index)
+    object::entry_symbol::checked_symbol(crate::turn::image_of(arena, t), o, index)
 }
 
 // The search for the name of an entry's symbol.
@@ -305,7 +305,7 @@ pub enum Address {
 fn symbols_of(arena: &[u8], t: Turn, o: ObjectData) -> Symbols
     ensures { λ r. ⌜ SymbolsOf t (heldBy o) r (now (arena .entry)) ⌝ }
 {
-    let f = object::dynamic_fields::fine_in(crate::turn::image_of(arena, t), o);
+    let f = object::entry_symbol::fine_in(crate::turn::image_of(arena, t), o);
     Symbols {
         symbols: o.symbols,
         strings: o.strings,

@@ -31,7 +31,7 @@ use Rattle.object.specs.Segments.{
 }
 use Rattle.object.specs.Placed.{segmentsOf, objectSpan, objectBytes, placeRefusal, objectImage}
 use Rattle.object.specs.DynamicArray.{itemsIn, endIn, lastValue, firstOf, allOf}
-use Rattle.object.specs.DynamicFields.{fieldsFrom}
+use Rattle.object.specs.DynamicFields.{fieldOf}
 use Rattle.object.specs.TableBytes.{isTable, tableBytes, tableName}
 use Rattle.object.specs.HashTable.{walk, walkFrom}
 use Rattle.object.specs.HashCheck.{numbersOk, bucketOk, lengthOk, chainOk, symbolOk, walkOk, tableOk}
@@ -40,6 +40,7 @@ use Rattle.object.specs.Record.{
   Record,
   tableIn,
   recordIn,
+  sizesRefusal,
   fieldsRefusal,
   needsOk,
   relocationsOk,
@@ -218,8 +219,8 @@ record AllComputed : Type 0 where
 
 computed : AllComputed
 unfolding bytesOf every some below tab mem byteOf leAt untilZero require after headerRefusal loadsIn segmentAt dynamicIn segmentsOk holdsHeaders
-    segmentOk pagesApart allApart segmentsOf itemsIn endIn lastValue firstOf allOf fieldsFrom isTable tableBytes tableName walk walkFrom numbersOk
-    bucketOk lengthOk chainOk symbolOk walkOk tableOk tableIn tableCount countOf recordIn recordAt fieldsRefusal needsOk relocationsOk tablesOk
+    segmentOk pagesApart allApart segmentsOf itemsIn endIn lastValue firstOf allOf fieldOf isTable tableBytes tableName walk walkFrom numbersOk
+    bucketOk lengthOk chainOk symbolOk walkOk tableOk tableIn tableCount countOf recordIn recordAt sizesRefusal fieldsRefusal needsOk relocationsOk tablesOk
     readRefusal
 computed =
     record {

@@ -19,22 +19,22 @@ use Rattle.object.specs.Refusal.{require, after}
 use Rattle.object.specs.Header.{headerRefusal}
 use Rattle.object.specs.ProgramHeader.{dynamicOf}
 use Rattle.object.specs.Placed.{segmentsOf, objectImage, objectSpan, placeRefusal}
-use Rattle.object.specs.Record.{Record, fieldsRefusal, readRefusal, checkedSymbol, indexOk, isTableOf, nameOf}
+use Rattle.object.specs.Record.{Record, sizesRefusal, fieldsRefusal, readRefusal, checkedSymbol, indexOk, isTableOf, nameOf}
 use Rattle.object.specs.Symbol.{symbolAt}
 use Rattle.object.specs.HashCheck.{symbolOk}
 use Rattle.object.specs.TableBytes.{inWritable}
 use Rattle.object.specs.Loaded.{objectRefusal}
 use Rattle.object.specs.Entries.{actionOf, Word, place, nowhere}
-use Rattle.object.specs.DynamicFields.{fieldsOf}
+use Rattle.object.specs.DynamicArray.{endsInside}
+use Rattle.object.specs.DynamicFields.{Fields, fieldsOf}
 use Rattle.object.specs.declared.program_header.Segment.{Segment}
 use Rattle.object.specs.declared.program_header.Dynamic.{Dynamic}
 use Rattle.object.specs.declared.program_header.Dynamic.the-variants.{Missing, At}
-use Rattle.object.specs.declared.dynamic_array.DynamicFields.{DynamicFields}
 use Rattle.object.specs.declared.symbol.Symbol.{Symbol}
 use Rattle.object.specs.declared.relocate.Rela.{Rela}
 use Rattle.object.specs.declared.relocate.Action.{Action}
 use Rattle.object.specs.declared.relocate.Action.the-variants.{Ignored, Passed, Relative, Symbolic, Copy, Irelative}
-use Rattle.object.specs.declared.dynamic_fields.CheckedSymbol.the-variants.{Refused, Checked}
+use Rattle.object.specs.declared.entry_symbol.CheckedSymbol.the-variants.{Refused, Checked}
 use Rattle.sheet.specs.Sheet.{Input, noInput, named, twinFrom, twinOf}
 use Rattle.binder.specs.Instance.{File, fileImage, fileRecord, namedWords, relasOf}
 use Rattle.binder.specs.Verdict.{
@@ -101,9 +101,9 @@ place-range host room file =
     (required-range 4 12 _ 7 _ (omega arith) (omega arith) (last-range 4 12 _ 8 (omega arith) (omega arith)))
 
 -- 9 to 12
-fields-range : (f : DynamicFields) → Range 4 12 (fieldsRefusal f)
-unfolding fieldsRefusal
-fields-range f =
+fields-range : (ended : Bool) (f : Fields) → Range 4 12 (fieldsRefusal ended f)
+unfolding fieldsRefusal sizesRefusal
+fields-range ended f =
     required-range 4 12 _ 9 _ (omega arith) (omega arith)
     (required-range 4 12 _ 10 _ (omega arith) (omega arith)
     (required-range 4 12 _ 10 _ (omega arith) (omega arith)
@@ -114,7 +114,7 @@ read-range : (host : Bool) (image : List ℕ) (segments : List Segment) (d : Dyn
 unfolding readRefusal
 read-range host image segments Missing = λ z. omega arith
 read-range host image segments (At at) =
-    after-range 4 12 (fieldsRefusal (fieldsOf image at)) _ (fields-range (fieldsOf image at))
+    after-range 4 12 (fieldsRefusal (endsInside image at) (fieldsOf image at)) _ (fields-range (endsInside image at) (fieldsOf image at))
     (required-range 4 12 _ 11 _ (omega arith) (omega arith) (last-range 4 12 _ 12 (omega arith) (omega arith)))
 
 object-range : (host : Bool) (room : ℕ) (file : List ℕ) → Range 4 12 (objectRefusal host room file)

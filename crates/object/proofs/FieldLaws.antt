@@ -2,53 +2,101 @@
 use mathlib.Core.Path.{_≡_, refl, sym, ap, _∙_}
 use mathlib.Core.Bool.{Bool, true, false}
 use mathlib.Core.List.{List, [], _∷_, _++_, append-nil, append-assoc}
-use Prim.Native.Nat.{ℕ, zero, suc, _+_, _-_, _≤_, _<_, min}
+use Prim.Native.Nat.{ℕ, zero, suc, _+_, _-_, _*_, _≤_, _<_, min}
 use native.Mathlib.Omega.{arith}
 use native.Mathlib.Numerals.{add-one}
 use native.Mathlib.Decide.{decLt, ℕ-discrete}
 use borrow.Author.Tests.{eq-eqb, ne-eqb, lt-ltb, le-ltb}
 use lib.Dec.{eqb, ltb}
-use lib.ListN.{length, take, set, length-set}
-use lib.Seq.{take-all, take-at, take-suc-set}
+use lib.ListN.{length, take, set, getD, replicate, length-set, length-replicate, getD-replicate}
+use lib.Seq.{take-all, take-at, take-suc-set, getD-set-same, getD-set-other}
 use Rattle.words.specs.Choice.{pick}
 use Rattle.words.specs.Memory.{mem}
 use Rattle.words.specs.Words.{leAt}
-use Rattle.object.specs.declared.dynamic_array.DynamicFields.{DynamicFields}
+use Rattle.object.specs.declared.dynamic_array.Field.{Field}
 use Rattle.object.specs.declared.dynamic_array.Needs.{Needs}
-use Rattle.object.specs.DynamicArray.{Item, itemAt, itemsIn, endIn, lastValue, firstOf, allOf}
-use Rattle.object.specs.DynamicFields.{fieldsFrom, Needed}
-use Rattle.object.specs.Steps.FieldSteps.{stepOf, needStep}
+use Rattle.object.specs.declared.dynamic_array.DynamicArray.{DynamicArray}
+use Rattle.object.specs.DynamicArray.{Item, itemAt, itemRoom, itemsIn, endIn, endsInside, noField, field, lastValue, firstOf, allOf}
+use Rattle.object.specs.DynamicTags as DT
+use Rattle.object.specs.DynamicFields.{fieldOf, fieldsOf, neededOffsets, Needed}
+use Rattle.object.specs.Steps.Slots.{slotOf, slotField, fieldIn, keptOf, putOf, needStep, ArrayAt}
 
--- ---- the walk, by what is left of it
+-- ---- slots
 
-module _ (image : List ℕ) (at left : ℕ) where
-  -- the fields that are left, with whether the array ends
-  unfoldable pub rest : DynamicFields → DynamicFields
-  rest o = fieldsFrom o (endIn left image at) (itemsIn left image at)
+-- the tag of a slot
+tagOf : ℕ → ℕ
+tagOf k = pick (ltb k 37) k DT.GNU-HASH
 
-  pub rest-none : left ≡ 0 → (o : DynamicFields) → o .ended ≡ false → rest o ≡ o
-  unfolding rest itemsIn endIn fieldsFrom lastValue firstOf
-  rest-none e o z = rw (e, ← z)
+tag-of : (tag : ℕ) → 0 < slotOf tag → tagOf (slotOf tag) ≡ tag
+unfolding tagOf slotOf
+tag-of tag = go (decLt tag 37) (ℕ-discrete tag DT.GNU-HASH)
+  where
+    go : Dec (tag < 37) → Dec (tag ≡ DT.GNU-HASH) → 0 < slotOf tag → tagOf (slotOf tag) ≡ tag
+    go (yes l) d h = rw (lt-ltb tag 37 l, lt-ltb tag 37 l)
+    go (no l) (yes e) h = rw e
+    go (no l) (no ne) h = absurd (omega (arith, rw (le-ltb tag 37 (omega arith), ne-eqb tag DT.GNU-HASH ne) at h))
 
-  pub rest-end : 0 < left → leAt 8 (mem image) at ≡ 0 → (o : DynamicFields) → rest o ≡ fieldsFrom o true []
-  unfolding rest itemsIn endIn
-  rest-end l z o =
-      let e : left ≡ suc (left - 1) = omega arith in
-      ap (λ (n : ℕ). fieldsFrom o (endIn n image at) (itemsIn n image at)) e
-      ∙ rw (eq-eqb (leAt 8 (mem image) at) 0 z)
+slot-apart : (t tag : ℕ) → 0 < slotOf tag → (t ≡ tag → ⊥) → slotOf t ≡ slotOf tag → ⊥
+slot-apart t tag h ne e = ne (sym (tag-of t (rw e h)) ∙ (ap tagOf e ∙ tag-of tag h))
 
-pub rest-more :
-    (image : List ℕ) (at left : ℕ) → 0 < left → (leAt 8 (mem image) at ≡ 0 → ⊥) → (o : DynamicFields)
-    → rest image at left o ≡ rest image (at + 16) (left - 1) (stepOf o (leAt 8 (mem image) at) (leAt 8 (mem image) (at + 8)))
-unfolding rest itemsIn endIn fieldsFrom lastValue firstOf stepOf
-rest-more image at left l ne o =
-    let e : left ≡ suc (left - 1) = omega arith in
-    ap (λ (n : ℕ). fieldsFrom o (endIn n image at) (itemsIn n image at)) e
-    ∙ rw (ne-eqb (leAt 8 (mem image) at) 0 ne)
+slot-room : (tag : ℕ) → slotOf tag < 38
+unfolding slotOf
+slot-room tag = go (decLt tag 37) (ℕ-discrete tag DT.GNU-HASH)
+  where
+    go : Dec (tag < 37) → Dec (tag ≡ DT.GNU-HASH) → slotOf tag < 38
+    go (yes l) d = rw (lt-ltb tag 37 l) (omega arith)
+    go (no l) (yes e) = rw e (omega arith)
+    go (no l) (no ne) = rw (le-ltb tag 37 (omega arith), ne-eqb tag DT.GNU-HASH ne) (omega arith)
 
-pub ended-step : (o : DynamicFields) (tag v : ℕ) → stepOf o tag v .ended ≡ o .ended
-unfolding stepOf
-ended-step o tag v = refl
+-- what more entries give after `d`
+unfoldable pub fieldFrom : ℕ → Field → List Item → Field
+fieldFrom tag d items = pick (eqb tag DT.HASH) (firstOf tag d items) (lastValue tag d items)
+
+-- an entry whose value stands at `place` is in its slot
+module _ (image slots : List ℕ) (room : length slots ≡ 38) (tag : ℕ) (h : 0 < slotOf tag) (place : ℕ) (p : 0 < place) (xs : List Item) where
+  abbrev v : ℕ
+  v = leAt 8 (mem image) place
+
+  -- one of another tag
+  put-other :
+      (t : ℕ) → (t ≡ tag → ⊥)
+      → fieldFrom tag (fieldIn image slots tag) (record { tag = t; value = v } ∷ xs) ≡ fieldFrom tag (fieldIn image (putOf slots t place) tag) xs
+  unfolding fieldFrom firstOf lastValue
+  put-other t ne =
+      rw (ne-eqb t tag ne, getD-set-other slots (slotOf t) (slotOf tag) (keptOf t (getD slots (slotOf t) 0) place) 0 (λ e. slot-apart t tag h ne (sym e)))
+
+  here : getD (putOf slots tag place) (slotOf tag) 0 ≡ keptOf tag (getD slots (slotOf tag) 0) place
+  here = getD-set-same slots (slotOf tag) (keptOf tag (getD slots (slotOf tag) 0) place) 0 (omega (arith, room, slot-room tag))
+
+  put-last :
+      (tag ≡ DT.HASH → ⊥)
+      → fieldFrom tag (fieldIn image slots tag) (record { tag = tag; value = v } ∷ xs) ≡ fieldFrom tag (fieldIn image (putOf slots tag place) tag) xs
+  unfolding fieldFrom firstOf lastValue keptOf slotField
+  put-last ne = rw (here, ne-eqb tag DT.HASH ne, eq-eqb tag tag refl, ne-eqb place 0 (λ z. absurd (omega arith)))
+
+  put-first :
+      tag ≡ DT.HASH
+      → fieldFrom tag (fieldIn image slots tag) (record { tag = tag; value = v } ∷ xs) ≡ fieldFrom tag (fieldIn image (putOf slots tag place) tag) xs
+  unfolding fieldFrom firstOf lastValue keptOf slotField
+  put-first e = rw (here, eq-eqb tag DT.HASH e, eq-eqb tag tag refl) (go (ℕ-discrete (getD slots (slotOf tag) 0) 0))
+    where
+      go :
+          Dec (getD slots (slotOf tag) 0 ≡ 0)
+          → firstOf tag (pick (fieldIn image slots tag .given) (fieldIn image slots tag) (field v)) xs
+          ≡ firstOf tag (slotField image (pick (eqb (getD slots (slotOf tag) 0) 0) place (getD slots (slotOf tag) 0))) xs
+      go (yes z) = rw (z, ne-eqb place 0 (λ z. absurd (omega arith)))
+      go (no ne) = rw (ne-eqb (getD slots (slotOf tag) 0) 0 ne, ne-eqb (getD slots (slotOf tag) 0) 0 ne)
+
+  pub put-turn :
+      (t : ℕ) → fieldFrom tag (fieldIn image slots tag) (record { tag = t; value = v } ∷ xs) ≡ fieldFrom tag (fieldIn image (putOf slots t place) tag) xs
+  put-turn t = go (ℕ-discrete t tag) (ℕ-discrete tag DT.HASH)
+    where
+      go :
+          Dec (t ≡ tag) → Dec (tag ≡ DT.HASH)
+          → fieldFrom tag (fieldIn image slots tag) (record { tag = t; value = v } ∷ xs) ≡ fieldFrom tag (fieldIn image (putOf slots t place) tag) xs
+      go (no ne) d = put-other t ne
+      go (yes e) (no ne) = rw e (put-last ne)
+      go (yes e) (yes f) = rw e (put-first f)
 
 -- ---- the needs
 
@@ -127,20 +175,81 @@ left-step whole n r x xs h e = go (ℕ-discrete (x .tag) 1)
     go (no ne) =
         rw (e, needs-other n (x .tag) (x .value) ne) (rw (ne-eqb (x .tag) 1 ne) at h)
 
--- the walk's turn and its ends
-pub items-none : (image : List ℕ) (at left : ℕ) → left ≡ 0 → itemsIn left image at ≡ []
-unfolding itemsIn
-items-none image at left e = rw e
+-- ---- the walk
 
-pub items-end : (image : List ℕ) (at left : ℕ) → leAt 8 (mem image) at ≡ 0 → itemsIn left image at ≡ []
-unfolding itemsIn
-items-end image at zero z = refl
-items-end image at (suc n) z = rw (eq-eqb (leAt 8 (mem image) at) 0 z)
-
-pub items-more :
+items-more :
     (image : List ℕ) (at left : ℕ) → 0 < left → (leAt 8 (mem image) at ≡ 0 → ⊥)
-    → itemsIn left image at ≡ itemAt image at ∷ itemsIn (left - 1) image (at + 16)
-unfolding itemsIn
+    → (itemsIn left image at ≡ itemAt image at ∷ itemsIn (left - 1) image (at + 16)) × (endIn left image at ≡ endIn (left - 1) image (at + 16))
+unfolding itemsIn endIn
 items-more image at left l ne =
-    let e : left ≡ suc (left - 1) = omega arith in
-    ap (λ (n : ℕ). itemsIn n image at) e ∙ rw (ne-eqb (leAt 8 (mem image) at) 0 ne)
+    let e : left ≡ suc (left - 1) = omega arith in (
+      ap (λ (n : ℕ). itemsIn n image at) e ∙ rw (ne-eqb (leAt 8 (mem image) at) 0 ne),
+      ap (λ (n : ℕ). endIn n image at) e ∙ rw (ne-eqb (leAt 8 (mem image) at) 0 ne),
+    )
+
+-- the slots and the needs so far, with what the `left` entries from `i` on will give, make the whole
+pub record Walk (image : List ℕ) (at : ℕ) (slots : List ℕ) (needs : Needs) (i left : ℕ) : Type 0 where
+  pub room : length slots ≡ 38
+  pub inside : 16 * left ≤ length image - i
+  pub fields : (tag : ℕ) → 0 < slotOf tag → fieldFrom tag (fieldIn image slots tag) (itemsIn left image i) ≡ fieldsOf image at tag
+  pub needed : Left (neededOffsets image at) needs (allOf DT.NEEDED (itemsIn left image i))
+  pub ended : endIn left image i ≡ endsInside image at
+
+module _ (image : List ℕ) (at : ℕ) where
+  pub walk-start : (slots : List ℕ) (needs : Needs) → slots ≡ replicate 38 0 → length (needs .list) ≡ 64 → needs .count ≡ 0 → Walk image at slots needs at (itemRoom image at)
+  unfolding fieldFrom fieldOf slotField
+  walk-start slots needs e l z =
+      record {
+        room = rw e (length-replicate {A = ℕ} 38 0);
+        inside = omega arith;
+        fields = λ tag h. rw (e, getD-replicate {A = ℕ} 38 (slotOf tag) 0 0 (slot-room tag));
+        needed = left-none _ needs l z;
+        ended = refl;
+      }
+
+  module _ (slots : List ℕ) (needs : Needs) (i left : ℕ) (w : Walk image at slots needs i left) where
+    -- an entry of tag 0, or no more room
+    ends :
+        (b : Bool) → itemsIn left image i ≡ [] → endIn left image i ≡ b
+        → ArrayAt image at (record { slots = slots; needs = needs; ended = b })
+    unfolding fieldFrom firstOf lastValue allOf
+    ends b e t =
+        record {
+          fields = λ tag h. none tag (fieldIn image slots tag) ∙ (ap (fieldFrom tag (fieldIn image slots tag)) (sym e) ∙ w .fields tag h);
+          needs = left-all _ needs (rw e at (w .needed));
+          ended = sym t ∙ w .ended;
+        }
+      where
+        none : (tag : ℕ) (d : Field) → d ≡ fieldFrom tag d []
+        none tag d = go (eqb tag DT.HASH)
+          where
+            go : (b : Bool) → d ≡ pick b d d
+            go true = refl
+            go false = refl
+
+    pub walk-end : 0 < left → leAt 8 (mem image) i ≡ 0 → ArrayAt image at (record { slots = slots; needs = needs; ended = true })
+    unfolding itemsIn endIn
+    walk-end l z =
+        let e : left ≡ suc (left - 1) = omega arith in
+        ends true (ap (λ (n : ℕ). itemsIn n image i) e ∙ rw (eq-eqb (leAt 8 (mem image) i) 0 z))
+        (ap (λ (n : ℕ). endIn n image i) e ∙ rw (eq-eqb (leAt 8 (mem image) i) 0 z))
+
+    pub walk-none : left ≡ 0 → ArrayAt image at (record { slots = slots; needs = needs; ended = false })
+    unfolding itemsIn endIn
+    walk-none z = ends false (rw z) (rw z)
+
+    pub walk-turn :
+        (tag v : ℕ) (slots′ : List ℕ) (needs′ : Needs) → 0 < left → (tag ≡ 0 → ⊥) → tag ≡ leAt 8 (mem image) i → v ≡ leAt 8 (mem image) (i + 8)
+        → slots′ ≡ putOf slots tag (i + 8) → needs′ ≡ needStep needs tag v
+        → Walk image at slots′ needs′ (i + 16) (left - 1)
+    walk-turn tag v slots′ needs′ l ne t ev es en =
+        let m = items-more image i left l (λ z. ne (t ∙ z)) in
+        record {
+          room = rw (es, length-set slots (slotOf tag) (keptOf tag (getD slots (slotOf tag) 0) (i + 8))) (w .room);
+          inside = omega (arith, w .inside);
+          fields = λ g h.
+              rw (es, t) (sym (put-turn image slots (w .room) g h (i + 8) (omega arith) (itemsIn (left - 1) image (i + 16)) (leAt 8 (mem image) i)))
+              ∙ (ap (fieldFrom g (fieldIn image slots g)) (sym (m .0)) ∙ w .fields g h);
+          needed = left-step _ needs needs′ (itemAt image i) (itemsIn (left - 1) image (i + 16)) (rw (m .0) at (w .needed)) (rw (← t, ← ev) en);
+          ended = sym (m .1) ∙ w .ended;
+        }

@@ -8,7 +8,7 @@ use native.Mathlib.Omega.{arith}
 use lib.ListN.{length}
 use Rattle.words.specs.Memory.{mem}
 use Rattle.words.specs.Words.{leAt}
-use Rattle.object.specs.declared.dynamic_fields.CheckedSymbol.the-variants.{Checked}
+use Rattle.object.specs.declared.entry_symbol.CheckedSymbol.the-variants.{Checked}
 use Rattle.object.specs.TableBytes.{tableBytes, tableName}
 use Rattle.object.specs.Steps.LastZero.{RunOf}
 use Rattle.object.specs.Symbol.{symbolFrom, symbolAt}

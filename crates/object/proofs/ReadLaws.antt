@@ -9,43 +9,75 @@ use lib.ListN.{length, take}
 use Rattle.object.specs.Refusal.{require}
 use Rattle.object.specs.declared.program_header.Segment.{Segment}
 use Rattle.object.specs.declared.program_header.Dynamic.the-variants.{Missing, At}
-use Rattle.object.specs.declared.dynamic_array.Needs.{Needs}
-use Rattle.object.specs.DynamicFields.{fieldsOf, neededOffsets, Needed}
+use Rattle.object.specs.declared.dynamic_array.DynamicArray.{DynamicArray}
+use Rattle.object.specs.DynamicArray.{endsInside}
+use Rattle.object.specs.DynamicTags as DT
+use Rattle.object.specs.DynamicFields.{Fields, fieldsOf, neededOffsets}
+use Rattle.object.specs.Steps.Slots.{slotOf, fieldIn, SameFields, ArrayAt}
 use Rattle.object.proofs.RefusalLaws.{after-met, after-none}
-use Rattle.object.specs.Record.{recordIn, fieldsRefusal, tablesOk, readRefusal, recordAt}
+use Rattle.object.specs.Record.{Record, tableIn, recordIn, sizesRefusal, fieldsRefusal, tablesOk, readRefusal, recordAt}
 
--- what the table of needs tells of the needs
-pub needs-few : (needs : List ℕ) (n : Needs) → Needed needs n → n .count ≤ 64 → (length needs ≤ 64) × (take (n .count) (n .list) ≡ needs)
-needs-few needs n h l =
-    let few : length needs ≤ 64 = omega (arith, h .count) in
-    (few, h .list few)
+-- fields that are the same of each tag that has a slot give the same refusal and the same record
+module _ (f g : Fields) (same : SameFields f g) where
+  pub refusal-same : (ended : Bool) → fieldsRefusal ended f ≡ fieldsRefusal ended g
+  unfolding fieldsRefusal sizesRefusal slotOf
+  refusal-same ended =
+      rw (
+        same DT.STRTAB (omega arith),
+        same DT.SYMTAB (omega arith),
+        same DT.SYMENT (omega arith),
+        same DT.RELAENT (omega arith),
+        same DT.PLTREL (omega arith),
+      )
 
-pub needs-many : (needs : List ℕ) (n : Needs) → Needed needs n → 64 < n .count → 64 < length needs
-needs-many needs n h l = omega (arith, h .count)
+  pub record-same : (image : List ℕ) (segments : List Segment) (needs : List ℕ) → recordIn image segments f needs ≡ recordIn image segments g needs
+  unfolding recordIn tableIn slotOf
+  record-same image segments needs =
+      rw (
+        same DT.STRTAB (omega arith),
+        same DT.SYMTAB (omega arith),
+        same DT.HASH (omega arith),
+        same DT.GNU-HASH (omega arith),
+        same DT.RELA (omega arith),
+        same DT.RELASZ (omega arith),
+        same DT.JMPREL (omega arith),
+        same DT.PLTRELSZ (omega arith),
+        same DT.RELR (omega arith),
+        same DT.RELRSZ (omega arith),
+      )
 
 module _ (host : Bool) (image : List ℕ) (segments : List Segment) where
   pub read-none : readRefusal host image segments Missing ≡ 9
   unfolding readRefusal
   read-none = refl
 
-  module _ (at : ℕ) where
-    pub read-fields : (n : ℕ) → n ≡ fieldsRefusal (fieldsOf image at) → (n ≡ 0 → ⊥) → readRefusal host image segments (At at) ≡ n
-    unfolding readRefusal
-    read-fields n e ne = rw (← e) (after-met n _ ne)
+  -- after the array `a` at `at` was read, whose fields have the refusal `n`
+  module _
+      (at : ℕ) (a : DynamicArray) (r : ArrayAt image at a) (n : ℕ) (e : n ≡ fieldsRefusal (a .ended) (fieldIn image (a .slots)))
+    where
+      number : n ≡ fieldsRefusal (endsInside image at) (fieldsOf image at)
+      number = e ∙ rw (r .ended) (refusal-same (fieldIn image (a .slots)) (fieldsOf image at) (r .fields) (endsInside image at))
 
-    module _ (n : ℕ) (e : n ≡ fieldsRefusal (fieldsOf image at)) (z : n ≡ 0) where
-      pub read-many : 64 < length (neededOffsets image at) → readRefusal host image segments (At at) ≡ 11
-      unfolding readRefusal require
-      read-many l = after-none (fieldsRefusal (fieldsOf image at)) _ (sym e ∙ z) ∙ rw (lt-leb (length (neededOffsets image at)) 64 l)
+      pub read-fields : (n ≡ 0 → ⊥) → readRefusal host image segments (At at) ≡ n
+      unfolding readRefusal
+      read-fields ne = rw (← number) (after-met n _ ne)
 
-      pub read-tables :
-          (t : Bool) → length (neededOffsets image at) ≤ 64
-          → t ≡ tablesOk host image (recordIn image segments (fieldsOf image at) (neededOffsets image at))
-          → readRefusal host image segments (At at) ≡ require t 12 0
-      unfolding readRefusal require
-      read-tables t l h =
-          after-none (fieldsRefusal (fieldsOf image at)) _ (sym e ∙ z) ∙ rw (le-leb (length (neededOffsets image at)) 64 l, ← h)
+      module _ (z : n ≡ 0) where
+        pub read-many : 64 < a .needs .count → readRefusal host image segments (At at) ≡ 11
+        unfolding readRefusal require
+        read-many l =
+            let many : 64 < length (neededOffsets image at) = omega (arith, r .needs .count) in
+            after-none _ _ (sym number ∙ z) ∙ rw (lt-leb (length (neededOffsets image at)) 64 many)
 
-    pub record-at : recordAt image segments (At at) ≡ recordIn image segments (fieldsOf image at) (neededOffsets image at)
-    unfolding recordAt
-    record-at = refl
+        -- the record, and refusal 12
+        pub read-tables :
+            a .needs .count ≤ 64 → (o : Record) → o ≡ recordIn image segments (fieldIn image (a .slots)) (take (a .needs .count) (a .needs .list))
+            → (t : Bool) → t ≡ tablesOk host image o
+            → (readRefusal host image segments (At at) ≡ require t 12 0) × (o ≡ recordAt image segments (At at))
+        unfolding readRefusal recordAt require
+        read-tables l o eo t et =
+            let few : length (neededOffsets image at) ≤ 64 = omega (arith, r .needs .count) in
+            let same : o ≡ recordIn image segments (fieldsOf image at) (neededOffsets image at) =
+            eo ∙ (rw (r .needs .list few) (record-same (fieldIn image (a .slots)) (fieldsOf image at) (r .fields) image segments (neededOffsets image at)))
+            in
+            (after-none _ _ (sym number ∙ z) ∙ rw (le-leb (length (neededOffsets image at)) 64 few, ← same, ← et), same)

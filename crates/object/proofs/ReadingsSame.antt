@@ -16,7 +16,7 @@ use Rattle.object.specs.HashCheck.{symbolOk, tableOk}
 use Rattle.object.specs.Entries.{relaAt, relasFrom, relrAt, relrsFrom}
 use Rattle.object.specs.Record.{Record, viewOf, isTableOf, needsOk, relocationsOk, tablesOk, indexOk, checkedSymbol, needName}
 use Rattle.object.specs.Invariant.{SameReadings, Invariance}
-use Rattle.object.specs.declared.dynamic_fields.CheckedSymbol.the-variants.{Refused, Checked}
+use Rattle.object.specs.declared.entry_symbol.CheckedSymbol.the-variants.{Refused, Checked}
 use Rattle.object.proofs.LookupSame.{number-same, number-here, name-same, symbol-same, symbol-name-same, view-same}
 
 -- a test of every element, at an element

@@ -1,75 +1,31 @@
--- The entries of the dynamic array that the record is made of. System V gABI, "Dynamic Section", "Dynamic Array Tags" (DT_RELR and
--- DT_RELRSZ among them); DT_GNU_HASH has the number of the DT_GNU_HASH text. Document 01, "The object record": "A repeated tag: the last
--- counts"; "Of hash tables, the last GNU (0x6ffffef5), else the first SysV (4)". Assumes nothing.
-use mathlib.Core.Bool.{Bool, false}
+-- The fields of the dynamic array, by their tags. System V gABI, "Dynamic Section". Document 01, "The object record": "A repeated tag: the
+-- last counts"; "Of hash tables, the last GNU (0x6ffffef5), else the first SysV (4)". Assumes nothing.
 use mathlib.Core.List.{List}
 use mathlib.Core.Path.{_≡_}
 use Prim.Native.Nat.{ℕ, _≤_, _<_, min}
+use lib.Dec.{eqb}
 use lib.ListN.{length, take}
-use Rattle.object.specs.declared.dynamic_array.DynamicFields.{DynamicFields}
+use Rattle.words.specs.Choice.{pick}
+use Rattle.object.specs.declared.dynamic_array.Field.{Field}
 use Rattle.object.specs.declared.dynamic_array.Needs.{Needs}
-use Rattle.object.specs.DynamicArray.{Item, noField, lastValue, firstOf, allOf, itemsOf, endsInside}
+use Rattle.object.specs.DynamicTags as DT
+use Rattle.object.specs.DynamicArray.{Item, noField, lastValue, firstOf, allOf, itemsOf}
 
--- the fields that more entries give after `o`
-unfoldable pub fieldsFrom : DynamicFields → Bool → List Item → DynamicFields
-fieldsFrom o ended items =
-    record {
-      -- DT_HASH
-      hash = firstOf 4 (o .hash) items;
-      -- DT_GNU_HASH
-      gnu = lastValue 0x6ffffef5 (o .gnu) items;
-      -- DT_STRTAB
-      strtab = lastValue 5 (o .strtab) items;
-      -- DT_SYMTAB
-      symtab = lastValue 6 (o .symtab) items;
-      -- DT_SYMENT
-      syment = lastValue 11 (o .syment) items;
-      -- DT_RELA
-      rela = lastValue 7 (o .rela) items;
-      -- DT_RELASZ
-      relasz = lastValue 8 (o .relasz) items;
-      -- DT_RELAENT
-      relaent = lastValue 9 (o .relaent) items;
-      -- DT_JMPREL
-      jmprel = lastValue 23 (o .jmprel) items;
-      -- DT_PLTRELSZ
-      pltrelsz = lastValue 2 (o .pltrelsz) items;
-      -- DT_PLTREL
-      pltrel = lastValue 20 (o .pltrel) items;
-      -- DT_RELR
-      relr = lastValue 36 (o .relr) items;
-      -- DT_RELRSZ
-      relrsz = lastValue 35 (o .relrsz) items;
-      ended = ended;
-    }
+-- what the entries of each tag give
+abbrev pub Fields : Type 0
+Fields = ℕ → Field
 
--- no entry yet
-abbrev pub noFields : DynamicFields
-noFields =
-    record {
-      hash = noField;
-      gnu = noField;
-      strtab = noField;
-      symtab = noField;
-      syment = noField;
-      rela = noField;
-      relasz = noField;
-      relaent = noField;
-      jmprel = noField;
-      pltrelsz = noField;
-      pltrel = noField;
-      relr = noField;
-      relrsz = noField;
-      ended = false;
-    }
+-- of the entries of a tag the last counts, of DT_HASH the first
+unfoldable pub fieldOf : List Item → Fields
+fieldOf items tag = pick (eqb tag DT.HASH) (firstOf tag noField items) (lastValue tag noField items)
 
--- the fields of the array at `at`, and whether it ends inside the span
-abbrev pub fieldsOf : List ℕ → ℕ → DynamicFields
-fieldsOf image at = fieldsFrom noFields (endsInside image at) (itemsOf image at)
+-- the fields of the array at `at`
+abbrev pub fieldsOf : List ℕ → ℕ → Fields
+fieldsOf image at = fieldOf (itemsOf image at)
 
 -- DT_NEEDED: the offsets of the needs' names, in file order
 abbrev pub neededOffsets : List ℕ → ℕ → List ℕ
-neededOffsets image at = allOf 1 (itemsOf image at)
+neededOffsets image at = allOf DT.NEEDED (itemsOf image at)
 
 -- the table of needs that the code keeps: "up to 64 needed offsets"; a count of 65 says that there are more, and the first 64 are held
 pub record Needed (needs : List ℕ) (n : Needs) : Type 0 where

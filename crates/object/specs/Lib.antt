@@ -5,6 +5,7 @@ pub mod TableBytes
 pub mod Segments
 pub mod Placed
 pub mod DynamicArray
+pub mod DynamicTags
 pub mod DynamicFields
 pub mod Symbol
 pub mod HashTable

@@ -13,19 +13,20 @@ use Rattle.object.specs.declared.program_header.Segment.{Segment}
 use Rattle.object.specs.declared.program_header.Dynamic.{Dynamic}
 use Rattle.object.specs.declared.program_header.Dynamic.the-variants.{Missing, At}
 use Rattle.object.specs.declared.dynamic_array.Field.{Field}
-use Rattle.object.specs.declared.dynamic_array.DynamicFields.{DynamicFields}
 use Rattle.object.specs.declared.hash_tables.HashTable.{HashTable}
 use Rattle.object.specs.declared.hash_tables.HashTable.the-variants.{Without}
 use Rattle.object.specs.declared.hash_tables.View.{View}
 use Rattle.object.specs.declared.hash_tables.SymbolCount.{SymbolCount}
 use Rattle.object.specs.declared.hash_tables.SymbolCount.the-variants.{Unknown, Known}
 use Rattle.object.specs.declared.symbol.Symbol.{Symbol}
-use Rattle.object.specs.declared.dynamic_fields.CheckedSymbol.{CheckedSymbol}
-use Rattle.object.specs.declared.dynamic_fields.CheckedSymbol.the-variants.{Refused, Checked}
+use Rattle.object.specs.declared.entry_symbol.CheckedSymbol.{CheckedSymbol}
+use Rattle.object.specs.declared.entry_symbol.CheckedSymbol.the-variants.{Refused, Checked}
 use Rattle.object.specs.declared.dynamic_fields.ObjectData.{ObjectData}
 use Rattle.object.specs.declared.dynamic_fields.Read.{Read}
 use Rattle.object.specs.declared.table_bytes.Bounds.{Bounds}
-use Rattle.object.specs.DynamicFields.{fieldsOf, neededOffsets}
+use Rattle.object.specs.DynamicArray.{endsInside}
+use Rattle.object.specs.DynamicTags as DT
+use Rattle.object.specs.DynamicFields.{Fields, fieldsOf, neededOffsets}
 use Rattle.object.specs.TableBytes.{isTable, tableBytes, tableName}
 use Rattle.object.specs.HashTable.{sysvAt, gnuAt}
 use Rattle.object.specs.Symbol.{symbolAt}
@@ -96,29 +97,31 @@ abbrev pub entryCount : Field → Field → ℕ → ℕ
 entryCount pointer size unit = pick (pointer .given) (size .value / unit) 0
 
 -- "Of hash tables, the last GNU (0x6ffffef5), else the first SysV (4)"
-unfoldable pub tableIn : List ℕ → DynamicFields → HashTable
-tableIn image f = pick (f .gnu .given) (gnuAt image (f .gnu .value)) (pick (f .hash .given) (sysvAt image (f .hash .value)) Without)
+unfoldable pub tableIn : List ℕ → Fields → HashTable
+tableIn image f =
+    pick (f DT.GNU-HASH .given) (gnuAt image (f DT.GNU-HASH .value))
+    (pick (f DT.HASH .given) (sysvAt image (f DT.HASH .value)) Without)
 
-abbrev pub viewIn : List ℕ → DynamicFields → View
-viewIn image f = record { symbols = f .symtab .value; strings = f .strtab .value; table = tableIn image f }
+abbrev pub viewIn : List ℕ → Fields → View
+viewIn image f = record { symbols = f DT.SYMTAB .value; strings = f DT.STRTAB .value; table = tableIn image f }
 
 -- the record of an image, the bytes of the span
-unfoldable pub recordIn : List ℕ → List Segment → DynamicFields → List ℕ → Record
+unfoldable pub recordIn : List ℕ → List Segment → Fields → List ℕ → Record
 recordIn image segments f needs =
     record {
       segments = segments;
       needed = needs;
       span = length image;
-      strings = f .strtab .value;
-      symbols = f .symtab .value;
+      strings = f DT.STRTAB .value;
+      symbols = f DT.SYMTAB .value;
       table = tableIn image f;
       known = countOf image (viewIn image f);
-      rela = f .rela .value;
-      relas = entryCount (f .rela) (f .relasz) 24;
-      plt = f .jmprel .value;
-      plts = entryCount (f .jmprel) (f .pltrelsz) 24;
-      relr = f .relr .value;
-      relrs = entryCount (f .relr) (f .relrsz) 8;
+      rela = f DT.RELA .value;
+      relas = entryCount (f DT.RELA) (f DT.RELASZ) 24;
+      plt = f DT.JMPREL .value;
+      plts = entryCount (f DT.JMPREL) (f DT.PLTRELSZ) 24;
+      relr = f DT.RELR .value;
+      relrs = entryCount (f DT.RELR) (f DT.RELRSZ) 8;
     }
 
 -- what a lookup reads of the record
@@ -131,15 +134,19 @@ viewOf r = record { symbols = r .symbols; strings = r .strings; table = r .table
 abbrev pub fieldIs : ℕ → Field → Bool
 fieldIs n f = pick (f .given) (eqb (f .value) n) true
 
--- 9, 10 and 11, the count of needs excepted
-unfoldable pub fieldsRefusal : DynamicFields → ℕ
-fieldsRefusal f =
-    require (f .ended) 9
-    (require (f .strtab .given) 10
-    (require (f .symtab .given) 10
-    (require (fieldIs 24 (f .syment)) 11
-    (require (fieldIs 24 (f .relaent)) 11
-    (require (fieldIs 7 (f .pltrel)) 11 0)))))
+-- 11, the count of needs excepted
+unfoldable pub sizesRefusal : Fields → ℕ
+sizesRefusal f =
+    require (fieldIs 24 (f DT.SYMENT)) 11
+    (require (fieldIs 24 (f DT.RELAENT)) 11
+    (require (fieldIs 7 (f DT.PLTREL)) 11 0))
+
+-- 9, 10 and these
+unfoldable pub fieldsRefusal : Bool → Fields → ℕ
+fieldsRefusal ended f =
+    require ended 9
+    (require (f DT.STRTAB .given) 10
+    (require (f DT.SYMTAB .given) 10 (sizesRefusal f)))
 
 -- a table byte of the object
 abbrev pub isTableOf : Record → ℕ → Bool
@@ -175,7 +182,7 @@ pub record RelocationCounts (o : ObjectData) : Type 0 where
 unfoldable pub readRefusal : Bool → List ℕ → List Segment → Dynamic → ℕ
 readRefusal host image segments Missing = 9
 readRefusal host image segments (At at) =
-    after (fieldsRefusal (fieldsOf image at))
+    after (fieldsRefusal (endsInside image at) (fieldsOf image at))
     (require (leb (length (neededOffsets image at)) 64) 11
     (require (tablesOk host image (recordIn image segments (fieldsOf image at) (neededOffsets image at))) 12 0))
 

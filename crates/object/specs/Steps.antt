@@ -3,6 +3,6 @@
 pub mod LoadTable
 pub mod WritableRange
 pub mod LastZero
-pub mod FieldSteps
+pub mod Slots
 pub mod Marks
 pub mod FineRange

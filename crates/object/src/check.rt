@@ -14,7 +14,7 @@ ghost use Rattle.object.specs.HashCheck.{symbolOk, stepOk, walkOk, table
 ghost use Rattle.object.specs.Steps.LastZero.{LastZeros};
 ghost use Rattle.object.specs.Steps.FineRange.{TablesFine, LinksFine};
 ghost use Rattle.object.specs.Steps.Marks.{MarkAt, NewMark, Marked, SysvMore, GnuMore, within, Passes};
-use crate::dynamic_fields::Fine;
+use crate::table_bytes::Fine;
 
 // Whether a walk passes, and how many symbols it passed before a marked one or its end.
 struct Walked {

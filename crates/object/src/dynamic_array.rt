@@ -1,31 +1,45 @@
 // The dynamic array: port of dynamic_array.rs, and of the walk in dynamic_fields.rs.
 ghost use mathlib.Core.Path.{_≡_};
 ghost use Prim.Native.Nat.{_≤_, _<_};
-ghost use Rattle.object.specs.DynamicFields.{fieldsOf, noFields, neededOffsets, Needed};
-ghost use Rattle.object.specs.Steps.FieldSteps.{stepOf, needStep};
+ghost use Rattle.object.specs.DynamicFields.{neededOffsets, Needed};
+ghost use Rattle.object.specs.Steps.Slots.{slotOf, keptOf, putOf, fieldIn, needStep, ArrayAt};
+
+// The tags that are read.
+pub(crate) const DT_NEEDED: u64 = 1;
+
+pub(crate) const DT_PLTRELSZ: u64 = 2;
+
+pub(crate) const DT_HASH: u64 = 4;
+
+pub(crate) const DT_STRTAB: u64 = 5;
+
+pub(crate) const DT_SYMTAB: u64 = 6;
+
+pub(crate) const DT_RELA: u64 = 7;
+
+pub(crate) const DT_RELASZ: u64 = 8;
+
+pub(crate) const DT_RELAENT: u64 = 9;
+
+pub(crate) const DT_SYMENT: u64 = 11;
+
+pub(crate) const DT_PLTREL: u64 = 20;
+
+pub(crate) const DT_JMPREL: u64 = 23;
+
+pub(crate) const DT_RELRSZ: u64 = 35;
+
+pub(crate) const DT_RELR: u64 = 36;
+
+pub(crate) const DT_GNU_HASH: u64 = 0x6ffffef5;
+
+// A tag's slot holds where the value that counts for it stands in the image, 0 where the tag has no entry.
+pub type Slots = [usize; 38];
 
 // What the entries of one tag give: whether there is one, and the value that counts.
 pub struct Field {
     pub given: bool,
     pub value: usize,
-}
-
-// The fields that the record is made of, by their tags; `ended` says whether the array ends inside the span.
-pub struct DynamicFields {
-    pub hash: Field,
-    pub gnu: Field,
-    pub strtab: Field,
-    pub symtab: Field,
-    pub syment: Field,
-    pub rela: Field,
-    pub relasz: Field,
-    pub relaent: Field,
-    pub jmprel: Field,
-    pub pltrelsz: Field,
-    pub pltrel: Field,
-    pub relr: Field,
-    pub relrsz: Field,
-    pub ended: bool,
 }
 
 // The needs' offsets: the first `count` of `list`. A count of 65 says that there are more than 64.
@@ -34,125 +48,69 @@ pub struct Needs {
     pub count: usize,
 }
 
-fn no_fields() -> DynamicFields
-    ensures { λ r. ⌜ r ≡ noFields ⌝ }
-{
-    let none = Field {
-        given: false,
-        value: 0,
-    };
-    DynamicFields {
-        hash: none,
-        gnu: none,
-        strtab: none,
-        symtab: none,
-        syment: none,
-        rela: none,
-        relasz: none,
-        relaent: none,
-        jmprel: none,
-        pltrelsz: none,
-        pltrel: none,
-        relr: none,
-        relrsz: none,
-        ended: false,
-    }
+// The array, read in one pass; `ended` says whether it ends inside the span.
+pub struct DynamicArray {
+    pub slots: Slots,
+    pub needs: Needs,
+    pub ended: bool,
 }
 
-// The fields after one more entry.
-fn step(o: DynamicFields, tag: u64, v: usize) -> DynamicFields
-    ensures { λ r. ⌜ r ≡ stepOf o tag v ⌝ }
+// The slot of a tag: below 37 the tag itself, then a row for each that is far above; 0 for the tags that have none.
+fn slot_of(tag: u64) -> usize
+    ensures { λ r. ⌜ (r ≡ slotOf tag) × (r < 38) ⌝ }
 {
-    let mut n = o;
-    let f = Field {
+    if tag < 37 {
+        return tag as usize;
+    }
+    if tag == DT_GNU_HASH {
+        return 37;
+    }
+    0
+}
+
+// What a slot holds after an entry whose value stands at `place`: the last counts, of DT_HASH the first.
+fn kept(tag: u64, was: usize, place: usize) -> usize
+    ensures { λ r. ⌜ r ≡ keptOf tag was place ⌝ }
+{
+    if tag != DT_HASH {
+        return place;
+    }
+    if was == 0 {
+        return place;
+    }
+    was
+}
+
+fn put(slots: &mut Slots, tag: u64, place: usize)
+    ensures { λ _. ⌜ now (slots .exit) ≡ putOf (now (slots .entry)) tag place ⌝ }
+{
+    let k = slot_of(tag);
+    slots[k] = kept(tag, slots[k], place);
+}
+
+// What the entries of a tag give.
+pub(crate) fn field_in(image: &[u8], slots: &Slots, tag: u64) -> Field
+    ensures { λ r. ⌜ r ≡ fieldIn (now (image .entry)) (now (slots .entry)) tag ⌝ }
+{
+    let k = slot_of(tag);
+    let at = slots[k];
+    if at == 0 {
+        return Field {
+            given: false,
+            value: 0,
+        };
+    }
+    Field {
         given: true,
-        value: v,
-    };
-    match tag {
-        4 => {
-            if n.hash.given {
-                return n;
-            }
-            n.hash = f;
-            n
-        }
-        0x6ffffef5 => {
-            n.gnu = f;
-            n
-        }
-        5 => {
-            n.strtab = f;
-            n
-        }
-        6 => {
-            n.symtab = f;
-            n
-        }
-        11 => {
-            n.syment = f;
-            n
-        }
-        7 => {
-            n.rela = f;
-            n
-        }
-        8 => {
-            n.relasz = f;
-            n
-        }
-        9 => {
-            n.relaent = f;
-            n
-        }
-        23 => {
-            n.jmprel = f;
-            n
-        }
-        2 => {
-            n.pltrelsz = f;
-            n
-        }
-        20 => {
-            n.pltrel = f;
-            n
-        }
-        36 => {
-            n.relr = f;
-            n
-        }
-        35 => {
-            n.relrsz = f;
-            n
-        }
-        _ => n,
+        value: words::bytes::u64_at(image, at) as usize,
     }
-}
-
-// The fields of the array at `at`: its entries up to the first of tag 0, or to the end of the image.
-pub fn read_fields(image: &[u8], at: usize) -> DynamicFields
-    ensures { λ r. ⌜ r ≡ fieldsOf (now (image .entry)) at ⌝ }
-{
-    let mut n = no_fields();
-    let mut i = at;
-    let mut left = words::bytes::monus(image.len(), at) / 16;
-    while 0 < left {
-        let tag = words::bytes::u64_at(image, i);
-        if tag == 0 {
-            n.ended = true;
-            return n;
-        }
-        n = step(n, tag, words::bytes::u64_at(image, i + 8) as usize);
-        i += 16;
-        left -= 1;
-    }
-    n
 }
 
 // The needs after one more entry.
 fn with_need(o: Needs, tag: u64, v: usize) -> Needs
     ensures { λ r. ⌜ r ≡ needStep o tag v ⌝ }
 {
-    if tag != 1 {
+    if tag != DT_NEEDED {
         return o;
     }
     let mut n = o;
@@ -166,11 +124,12 @@ fn with_need(o: Needs, tag: u64, v: usize) -> Needs
     n
 }
 
-// The needs of the array at `at`.
-pub fn read_needs(image: &[u8], at: usize) -> Needs
-    ensures { λ r. ⌜ Needed (neededOffsets (now (image .entry)) at) r ⌝ }
+// The array at `at`: its entries up to the first of tag 0, or to the end of the image.
+pub(crate) fn read_array(image: &[u8], at: usize) -> DynamicArray
+    ensures { λ r. ⌜ ArrayAt (now (image .entry)) at r ⌝ }
 {
-    let mut n = Needs {
+    let mut slots = [0usize; 38];
+    let mut needs = Needs {
         list: [0usize; 64],
         count: 0,
     };
@@ -179,11 +138,29 @@ pub fn read_needs(image: &[u8], at: usize) -> Needs
     while 0 < left {
         let tag = words::bytes::u64_at(image, i);
         if tag == 0 {
-            return n;
+            return DynamicArray {
+                slots: slots,
+                needs: needs,
+                ended: true,
+            };
         }
-        n = with_need(n, tag, words::bytes::u64_at(image, i + 8) as usize);
+        put(&mut slots, tag, i + 8);
+        needs = with_need(needs, tag, words::bytes::u64_at(image, i + 8) as usize);
         i += 16;
         left -= 1;
     }
+    DynamicArray {
+        slots: slots,
+        needs: needs,
+        ended: false,
+    }
+}
+
+// The needs of the array at `at`.
+pub fn read_needs(image: &[u8], at: usize) -> Needs
+    ensures { λ r. ⌜ Needed (neededOffsets (now (image .entry)) at) r ⌝ }
+{
+    let a = read_array(image, at);
+    let n = a.needs;
     n
 }

@@ -1,23 +1,33 @@
 // The object record and refusals 9 to 12: port of dynamic_fields.rs.
 ghost use mathlib.Core.Path.{_≡_};
-ghost use mathlib.Core.Bool.{true};
 ghost use Prim.Native.Nat.{ℕ, _*_, _^_, _≤_, _<_};
-ghost use lib.Dec.{ltb};
 ghost use lib.ListN.{take};
-ghost use Rattle.object.specs.DynamicFields.{neededOffsets, Needed};
+ghost use Rattle.object.specs.Steps.Slots.{fieldIn};
 ghost use Rattle.object.specs.Steps.LoadTable.{segmentsIn};
-ghost use Rattle.object.specs.Steps.FineRange.{FineOf};
-ghost use Rattle.object.specs.Record.{heldBy, noRecord, viewOf, entryCount, tableIn, recordIn, fieldsRefusal, fieldIs, needsOk, relocationsOk, tablesOk, BoundsOf, RelocationCounts, ReadBy, indexOk, checkedSymbol};
-use crate::dynamic_array::DynamicFields;
+ghost use Rattle.object.specs.Record.{heldBy, noRecord, viewOf, entryCount, tableIn, recordIn, fieldsRefusal, fieldIs, needsOk, relocationsOk, tablesOk, sizesRefusal, BoundsOf, RelocationCounts, ReadBy};
+use crate::dynamic_array::DT_GNU_HASH;
+use crate::dynamic_array::DT_HASH;
+use crate::dynamic_array::DT_JMPREL;
+use crate::dynamic_array::DT_PLTREL;
+use crate::dynamic_array::DT_PLTRELSZ;
+use crate::dynamic_array::DT_RELA;
+use crate::dynamic_array::DT_RELAENT;
+use crate::dynamic_array::DT_RELASZ;
+use crate::dynamic_array::DT_RELR;
+use crate::dynamic_array::DT_RELRSZ;
+use crate::dynamic_array::DT_STRTAB;
+use crate::dynamic_array::DT_SYMENT;
+use crate::dynamic_array::DT_SYMTAB;
 use crate::dynamic_array::Field;
 use crate::dynamic_array::Needs;
+use crate::dynamic_array::Slots;
+use crate::dynamic_array::field_in;
 use crate::hash_tables::HashTable;
 use crate::hash_tables::SymbolCount;
 use crate::hash_tables::View;
 use crate::program_header::Dynamic;
 use crate::program_header::Loads;
 use crate::program_header::Segment;
-use crate::symbol::Symbol;
 use crate::table_bytes::Bounds;
 
 // The record of an object: the first `count` of `segments`, of which the host has none, and the first `needs` of `needed`; the string and
@@ -46,9 +56,11 @@ pub struct Read {
     pub object: ObjectData,
 }
 
-fn field_is(n: usize, f: Field) -> bool
-    ensures { λ r. ⌜ r ≡ fieldIs n f ⌝ }
+// Whether the field of a tag is `n`, where it is given.
+fn field_is(image: &[u8], slots: &Slots, tag: u64, n: usize) -> bool
+    ensures { λ r. ⌜ r ≡ fieldIs n (fieldIn (now (image .entry)) (now (slots .entry)) tag) ⌝ }
 {
+    let f = field_in(image, slots, tag);
     if !f.given {
         return true;
     }
@@ -58,16 +70,29 @@ fn field_is(n: usize, f: Field) -> bool
     true
 }
 
-// The refusal of the fields, or 0.
-fn fields_refusal(f: DynamicFields) -> u32
-    ensures { λ r. ⌜ r ≡ fieldsRefusal f ⌝ }
+// The refusal of the sizes and of DT_PLTREL, or 0.
+fn sizes_refusal(image: &[u8], slots: &Slots) -> u32
+    ensures { λ r. ⌜ r ≡ sizesRefusal (fieldIn (now (image .entry)) (now (slots .entry))) ⌝ }
 {
-    let strtab = f.strtab;
-    let symtab = f.symtab;
-    let syment = f.syment;
-    let relaent = f.relaent;
-    let pltrel = f.pltrel;
-    if !f.ended {
+    if !field_is(image, slots, DT_SYMENT, 24) {
+        return 11;
+    }
+    if !field_is(image, slots, DT_RELAENT, 24) {
+        return 11;
+    }
+    if !field_is(image, slots, DT_PLTREL, 7) {
+        return 11;
+    }
+    0
+}
+
+// The refusal of the fields, or 0.
+fn fields_refusal(image: &[u8], slots: &Slots, ended: bool) -> u32
+    ensures { λ r. ⌜ r ≡ fieldsRefusal ended (fieldIn (now (image .entry)) (now (slots .entry))) ⌝ }
+{
+    let strtab = field_in(image, slots, DT_STRTAB);
+    let symtab = field_in(image, slots, DT_SYMTAB);
+    if !ended {
         return 9;
     }
     if !strtab.given {
@@ -76,16 +101,7 @@ fn fields_refusal(f: DynamicFields) -> u32
     if !symtab.given {
         return 10;
     }
-    if !field_is(24, syment) {
-        return 11;
-    }
-    if !field_is(24, relaent) {
-        return 11;
-    }
-    if !field_is(7, pltrel) {
-        return 11;
-    }
-    0
+    sizes_refusal(image, slots)
 }
 
 // How many entries a table has, of `unit` bytes each.
@@ -100,14 +116,14 @@ fn entry_count(pointer: Field, size: Field, unit: usize) -> usize
 }
 
 // The chosen hash table.
-fn table_in(image: &[u8], f: DynamicFields) -> HashTable
-    ensures { λ r. ⌜ r ≡ tableIn (now (image .entry)) f ⌝ }
+fn table_in(image: &[u8], slots: &Slots) -> HashTable
+    ensures { λ r. ⌜ r ≡ tableIn (now (image .entry)) (fieldIn (now (image .entry)) (now (slots .entry))) ⌝ }
 {
-    let gnu = f.gnu;
-    let hash = f.hash;
+    let gnu = field_in(image, slots, DT_GNU_HASH);
     if gnu.given {
         return crate::hash_tables::gnu_table(image, gnu.value);
     }
+    let hash = field_in(image, slots, DT_HASH);
     if hash.given {
         return crate::hash_tables::sysv_table(image, hash.value);
     }
@@ -115,20 +131,20 @@ fn table_in(image: &[u8], f: DynamicFields) -> HashTable
 }
 
 // The record of an image.
-fn object_in(image: &[u8], l: Loads, f: DynamicFields, n: Needs) -> ObjectData
-    ensures { λ r. ⌜ (heldBy r ≡ recordIn (now (image .entry)) (segmentsIn l) f (take (n .count) (n .list))) × (r .needs ≡ n .count) × RelocationCounts r ⌝ }
+fn object_in(image: &[u8], l: Loads, slots: &Slots, n: Needs) -> ObjectData
+    ensures { λ r. ⌜ (heldBy r ≡ recordIn (now (image .entry)) (segmentsIn l) (fieldIn (now (image .entry)) (now (slots .entry))) (take (n .count) (n .list))) × (r .needs ≡ n .count) × RelocationCounts r ⌝ }
 {
     let segments = l.list;
     let needed = n.list;
-    let table = table_in(image, f);
-    let strtab = f.strtab;
-    let symtab = f.symtab;
-    let rela = f.rela;
-    let jmprel = f.jmprel;
-    let relr = f.relr;
-    let relasz = f.relasz;
-    let pltrelsz = f.pltrelsz;
-    let relrsz = f.relrsz;
+    let strtab = field_in(image, slots, DT_STRTAB);
+    let symtab = field_in(image, slots, DT_SYMTAB);
+    let rela = field_in(image, slots, DT_RELA);
+    let relasz = field_in(image, slots, DT_RELASZ);
+    let jmprel = field_in(image, slots, DT_JMPREL);
+    let pltrelsz = field_in(image, slots, DT_PLTRELSZ);
+    let relr = field_in(image, slots, DT_RELR);
+    let relrsz = field_in(image, slots, DT_RELRSZ);
+    let table = table_in(image, slots);
     let view = View {
         symbols: symtab.value,
         strings: strtab.value,
@@ -275,89 +291,22 @@ pub fn read_object(image: &[u8], l: Loads, d: Dynamic, host: bool) -> Read
     let Dynamic::At(at) = d else {
         return refused(9);
     };
-    let f = crate::dynamic_array::read_fields(image, at);
-    let number = fields_refusal(f);
+    let a = crate::dynamic_array::read_array(image, at);
+    let slots = a.slots;
+    let n = a.needs;
+    let number = fields_refusal(image, &slots, a.ended);
     if number != 0 {
         return refused(number);
     }
-    let n = crate::dynamic_array::read_needs(image, at);
     if 64 < n.count {
         return refused(11);
     }
-    let o = object_in(image, l, f, n);
+    let o = object_in(image, l, &slots, n);
     if !tables_ok(image, o, host) {
         return refused(12);
     }
     Read {
         refusal: 0,
         object: o,
-    }
-}
-
-// The symbol of an entry, or its refusal: 14 or 15.
-pub enum CheckedSymbol {
-    Refused(u32),
-    Checked(Symbol),
-}
-
-// Whether an index is below a known count.
-fn index_ok(known: SymbolCount, index: u32) -> bool
-    ensures { λ r. ⌜ r ≡ indexOk known index ⌝ }
-{
-    match known {
-        SymbolCount::Unknown => true,
-        SymbolCount::Known(count) => below_count(index as usize, count),
-    }
-}
-
-fn below_count(index: usize, count: usize) -> bool
-    ensures { λ r. ⌜ r ≡ ltb index count ⌝ }
-{
-    if index < count {
-        return true;
-    }
-    false
-}
-
-// The symbol of an entry.
-pub fn checked_symbol(image: &[u8], o: ObjectData, index: u32) -> CheckedSymbol
-    ensures { λ r. ⌜ r ≡ checkedSymbol (now (image .entry)) (heldBy o) index ⌝ }
-{
-    let known = o.known;
-    if !index_ok(known, index) {
-        return CheckedSymbol::Refused(14);
-    }
-    let b = bounds_of(o);
-    if !crate::check::symbol_ok(image, b, o.symbols, o.strings, index) {
-        return CheckedSymbol::Refused(15);
-    }
-    CheckedSymbol::Checked(crate::symbol::symbol_at(image, o.symbols, index))
-}
-
-// What needs no further test of refusals 14 and 15: the first `fits` symbols, and a name at one of the first `ends` places of the strings.
-pub struct Fine {
-    pub fits: usize,
-    pub ends: usize,
-}
-
-// How many of the first `n` symbols are below a known count.
-fn known_of(known: SymbolCount, n: usize) -> usize
-    ensures { λ r. ⌜ (r ≤ n) × ((s : ℕ) → s < r → indexOk known s ≡ true) ⌝ }
-{
-    match known {
-        SymbolCount::Unknown => n,
-        SymbolCount::Known(count) => words::bytes::smaller(n, count),
-    }
-}
-
-// Which symbols and names of the object need no further test.
-pub fn fine_in(image: &[u8], o: ObjectData) -> Fine
-    ensures { λ r. ⌜ FineOf (now (image .entry)) (heldBy o) (r .fits) (r .ends) ⌝ }
-{
-    let known = o.known;
-    let f = crate::table_bytes::fine_of(image, bounds_of(o), o.symbols, o.strings);
-    Fine {
-        fits: known_of(known, f.fits),
-        ends: f.ends,
     }
 }

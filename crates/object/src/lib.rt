@@ -2,6 +2,7 @@
 pub mod check;
 pub mod dynamic_array;
 pub mod dynamic_fields;
+pub mod entry_symbol;
 pub mod hash_tables;
 pub mod header;
 pub mod object_data;

@@ -9,7 +9,12 @@ ghost use Rattle.object.specs.TableBytes.{isWritable, holdsRange, isTabl
 ghost use Rattle.object.specs.Steps.WritableRange.{WritableRange};
 ghost use Rattle.object.specs.Steps.FineRange.{TablesFine, LinksFine};
 ghost use Rattle.object.specs.Steps.LastZero.{LastZero, LastZeros, Nearer, RunOf};
-use crate::dynamic_fields::Fine;
+
+// What needs no further test of refusals 14 and 15: the first `fits` symbols, and a name at one of the first `ends` places of the strings.
+pub struct Fine {
+    pub fits: usize,
+    pub ends: usize,
+}
 
 // An object's span, and its load segments: the first `count` of them. The host has none.
 pub struct Bounds {

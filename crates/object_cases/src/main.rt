@@ -8,8 +8,8 @@
 // host; flag 2: the base's asks come first. Bytes of the room that no object is placed on hold the input's first bytes.
 use libc::STDIN_FILENO;
 use libc::STDOUT_FILENO;
-use object::dynamic_fields::CheckedSymbol;
 use object::dynamic_fields::ObjectData;
+use object::entry_symbol::CheckedSymbol;
 use object::hash_tables::Answer;
 use object::hash_tables::Definition;
 use object::hash_tables::HashTable;
@@ -228,7 +228,7 @@ fn show_segment(o: ObjectData, i: usize) {
 // bytes there are inside one writable segment.
 fn show_numbered(image: &[u8], o: ObjectData, kind: u8, i: u32) {
     match kind {
-        2 => show_checked(object::dynamic_fields::checked_symbol(image, o, i)),
+        2 => show_checked(object::entry_symbol::checked_symbol(image, o, i)),
         3 => show_rela(object::relocate::rela_at(image, o.rela, i)),
         4 => show_rela(object::relocate::rela_at(image, o.plt, i)),
         5 => show_relr(object::relocate::relr_of(object::relocate::relr_at(image, o.relr, i))),

@@ -24,8 +24,8 @@ use Rattle.object.specs.declared.relocate.Relr.{Relr}
 use Rattle.object.specs.declared.relocate.Relr.the-variants.{Address, Bitmap}
 use Rattle.object.specs.declared.relocate.Action.{Action}
 use Rattle.object.specs.declared.relocate.Action.the-variants.{Ignored, Passed, Relative, Symbolic, Copy, Irelative}
-use Rattle.object.specs.declared.dynamic_fields.CheckedSymbol.{CheckedSymbol}
-use Rattle.object.specs.declared.dynamic_fields.CheckedSymbol.the-variants.{Refused, Checked}
+use Rattle.object.specs.declared.entry_symbol.CheckedSymbol.{CheckedSymbol}
+use Rattle.object.specs.declared.entry_symbol.CheckedSymbol.the-variants.{Refused, Checked}
 use Rattle.sheet.specs.Sheet.{Input, noInput}
 use Rattle.scope.specs.Steps.Seats.{seatAt}
 use Rattle.scope.specs.Steps.ScopeCode.{resolveSeats, resolveCopySeats}

@@ -1,4 +1,4 @@
-use Rattle.object.specs.Steps.FieldSteps.{needStep}
+use Rattle.object.specs.Steps.Slots.{needStep}
 use borrow.Author.Tests.{eq-eqb, ne-eqb, lt-ltb, le-ltb}
 use borrow.Author.Needs.{needs}
 use Rattle.object.proofs.dynamic_array.with_need.Statement.{statement}

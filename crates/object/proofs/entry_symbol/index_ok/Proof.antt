@@ -1,11 +1,11 @@
 use Rattle.object.specs.Record.{indexOk}
 use mathlib.Core.Path.{_∙_}
 use borrow.Author.Needs.{needs}
-use Rattle.object.proofs.dynamic_fields.index_ok.Statement.{statement}
-use Rattle.object.proofs.dynamic_fields.index_ok.Tie as tie
-use Rattle.object.proofs.dynamic_fields.index_ok.Reads as reads
-use Rattle.object.proofs.dynamic_fields.index_ok.Lts as lts
-use Rattle.object.proofs.dynamic_fields.below_count.Reads as below-count-reads
+use Rattle.object.proofs.entry_symbol.index_ok.Statement.{statement}
+use Rattle.object.proofs.entry_symbol.index_ok.Tie as tie
+use Rattle.object.proofs.entry_symbol.index_ok.Reads as reads
+use Rattle.object.proofs.entry_symbol.index_ok.Lts as lts
+use Rattle.object.proofs.entry_symbol.below_count.Reads as below-count-reads
 
 enum-told : tie.Need-enum-told
 enum-told c = search needs

@@ -1,10 +1,10 @@
--- `object::dynamic_fields::fine_in` meets its contract. Assumes nothing.
+-- `object::entry_symbol::fine_in` meets its contract. Assumes nothing.
 use borrow.Author.Needs.{needs}
 use denote.Ref.{now}
 use Rattle.object.specs.Record.{heldBy}
 use Rattle.object.proofs.FineLaws.{fine-tables}
-use Rattle.object.proofs.dynamic_fields.fine_in.Statement.{statement}
-use Rattle.object.proofs.dynamic_fields.fine_in.Tie as tie
+use Rattle.object.proofs.entry_symbol.fine_in.Statement.{statement}
+use Rattle.object.proofs.entry_symbol.fine_in.Tie as tie
 
 bounds-of-requires : tie.Need-bounds-of-requires
 bounds-of-requires c κs = search needs

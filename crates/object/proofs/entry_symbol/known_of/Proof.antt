@@ -1,10 +1,10 @@
--- `object::dynamic_fields::known_of` meets its contract. Assumes nothing.
+-- `object::entry_symbol::known_of` meets its contract. Assumes nothing.
 use native.Mathlib.Omega.{arith}
 use borrow.Author.Needs.{needs}
 use borrow.Author.Tests.{lt-ltb}
 use Rattle.object.specs.Record.{indexOk}
-use Rattle.object.proofs.dynamic_fields.known_of.Statement.{statement}
-use Rattle.object.proofs.dynamic_fields.known_of.Tie as tie
+use Rattle.object.proofs.entry_symbol.known_of.Statement.{statement}
+use Rattle.object.proofs.entry_symbol.known_of.Tie as tie
 
 enum-told : tie.Need-enum-told
 enum-told c = search needs

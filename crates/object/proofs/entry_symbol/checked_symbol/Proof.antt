@@ -1,15 +1,15 @@
-use Rattle.object.specs.declared.dynamic_fields.CheckedSymbol.the-variants.{Checked}
+use Rattle.object.specs.declared.entry_symbol.CheckedSymbol.the-variants.{Checked}
 use Rattle.object.specs.Record.{checkedSymbol}
 use borrow.Author.Tests.{not-true, not-false}
 use mathlib.Core.Path.{sym, ap, _∙_}
 use borrow.Author.Needs.{needs}
-use Rattle.object.proofs.dynamic_fields.checked_symbol.Statement.{statement}
-use Rattle.object.proofs.dynamic_fields.checked_symbol.Tie as tie
-use Rattle.object.proofs.dynamic_fields.checked_symbol.Reads as reads
-use Rattle.object.proofs.dynamic_fields.checked_symbol.Lts as lts
+use Rattle.object.proofs.entry_symbol.checked_symbol.Statement.{statement}
+use Rattle.object.proofs.entry_symbol.checked_symbol.Tie as tie
+use Rattle.object.proofs.entry_symbol.checked_symbol.Reads as reads
+use Rattle.object.proofs.entry_symbol.checked_symbol.Lts as lts
 use Rattle.object.proofs.check.symbol_ok.Reads as symbol-ok-reads
 use Rattle.object.proofs.dynamic_fields.bounds_of.Reads as bounds-of-reads
-use Rattle.object.proofs.dynamic_fields.index_ok.Reads as index-ok-reads
+use Rattle.object.proofs.entry_symbol.index_ok.Reads as index-ok-reads
 use Rattle.object.proofs.symbol.symbol_at.Reads as symbol-at-reads
 
 index-ok-requires : tie.Need-index-ok-requires
