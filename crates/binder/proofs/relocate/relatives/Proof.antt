@@ -3,6 +3,7 @@
 use mathlib.Core.Path.{_≡_, refl, _∙_}
 use Prim.Native.Nat.{_+_, _-_, _*_, _≤_}
 use native.Mathlib.Omega.{arith}
+use borrow.Author.Tests.{not-false}
 use denote.Ref.{now}
 use lib.ListN.{length}
 use Rattle.binder.specs.Steps.RunSteps.{EntriesPassed}
@@ -26,20 +27,20 @@ abbrev μ-loop : tie.MeasureT-loop
 
 loop-again : tie.Need-loop-again Inv-loop μ-loop
 loop-again c =
-    let a = c .before .before .before .before .before .before .before .before .before .before .before .before .before .before .before .before .before .before .before .before .before .before .before .args in
-    let l = c .before .before .before .before .before .before .before .before .before .before .before .before .before .before .before .loop in
+    let a = c .before .before .before .before .before .before .before .before .before .before .before .before .before .before .before .before .before .before .before .before .before .before .before .before .args in
+    let l = c .before .before .before .before .before .before .before .before .before .before .before .before .before .before .before .before .loop in
     let s = c .before .before .store-in in (
       s .kept .0 ∙ l .inv .0,
       omega (arith, l .inv .1),
-      omega (arith, c .before .before .before .before .before .before .before .before .before .before .before .before .before .before .loop-test .taken),
+      omega (arith, c .before .before .before .before .before .before .before .before .before .before .before .before .before .before .before .loop-test .taken),
       omega (arith, l .inv .3),
       l .inv .4,
       l .inv .5,
       l .inv .6,
       l .inv .7,
       λ t eo es eb.
-          relative-turn t (a .at) (a .n) (a .low) (a .high) (l .i) (l .arena) {v = c .before .before .before .before .sum-u64 .result} {b = s .last .0} (c .before .before .before .before .before .before .before .before .before .before .before .before .before .before .loop-test .taken) (omega (arith, l .inv .4, es)) (omega (arith, l .inv .3, eo))
-          (c .before .before .before .before .before .before .before .before .before .before .before .before .u32-in .ensures) (c .before .before .before .before .before .before .before .before .before .before .before .if7 .left) (c .before .before .before .before .before .before .before .before .before .u64-in .ensures) (omega (arith, c .before .before .before .before .before .before .before .before .if8 .left)) (omega (arith, c .before .before .before .before .before .before .before .if9 .left, l .inv .6))
+          relative-turn t (a .at) (a .n) (a .low) (a .high) (l .i) (l .arena) {v = c .before .before .before .before .sum-u64 .result} {b = s .last .0} (c .before .before .before .before .before .before .before .before .before .before .before .before .before .before .before .loop-test .taken) (omega (arith, l .inv .4, es)) (omega (arith, l .inv .3, eo))
+          (c .before .before .before .before .before .before .before .before .before .before .before .before .before .u32-in .ensures) (c .before .before .before .before .before .before .before .before .before .before .before .before .is-relative .ensures (not-false _ (c .before .before .before .before .before .before .before .before .before .before .before .if7 .left))) (c .before .before .before .before .before .before .before .before .before .u64-in .ensures) (omega (arith, c .before .before .before .before .before .before .before .before .if8 .left)) (omega (arith, c .before .before .before .before .before .before .before .if9 .left, l .inv .6))
           (c .before .before .before .before .before .u64-in2 .ensures) (rw eb (c .before .before .before .before .sum-u64 .ensures)) (rw eo (s .ensures)) (a .start) (now (a .arena)) (l .inv .8 t eo es eb),
     )
 
@@ -62,13 +63,14 @@ relatives-spec =
     (λ c. (refl, omega arith, c .before .before .before .before .before .before .before .pre, refl, omega arith, omega arith, omega arith, omega arith, λ t _ _ _ _ _ _ r _ _ _ _ _. (refl, kept-none t r _)))
     (λ c. search needs)
     (λ c κs. search needs)
-    (λ c. c .before .before .before .before .loop .inv .0)
-    (λ c. (c .before .before .before .before .loop .inv .1, c .before .before .before .before .loop .inv .2, c .before .before .before .before .loop .inv .8 (c .before .before .before .before .before .before .before .before .before .before .before .before .args .t) refl refl refl))
     (λ c κs. search needs)
-    (λ c. c .before .before .before .before .before .before .before .loop .inv .0)
-    (λ c. (c .before .before .before .before .before .before .before .loop .inv .1, c .before .before .before .before .before .before .before .loop .inv .2, c .before .before .before .before .before .before .before .loop .inv .8 (c .before .before .before .before .before .before .before .before .before .before .before .before .before .before .before .args .t) refl refl refl))
+    (λ c. c .before .before .before .before .before .loop .inv .0)
+    (λ c. (c .before .before .before .before .before .loop .inv .1, c .before .before .before .before .before .loop .inv .2, c .before .before .before .before .before .loop .inv .8 (c .before .before .before .before .before .before .before .before .before .before .before .before .before .args .t) refl refl refl))
+    (λ c κs. search needs)
     (λ c. c .before .before .before .before .before .before .before .before .loop .inv .0)
     (λ c. (c .before .before .before .before .before .before .before .before .loop .inv .1, c .before .before .before .before .before .before .before .before .loop .inv .2, c .before .before .before .before .before .before .before .before .loop .inv .8 (c .before .before .before .before .before .before .before .before .before .before .before .before .before .before .before .before .args .t) refl refl refl))
+    (λ c. c .before .before .before .before .before .before .before .before .before .loop .inv .0)
+    (λ c. (c .before .before .before .before .before .before .before .before .before .loop .inv .1, c .before .before .before .before .before .before .before .before .before .loop .inv .2, c .before .before .before .before .before .before .before .before .before .loop .inv .8 (c .before .before .before .before .before .before .before .before .before .before .before .before .before .before .before .before .before .args .t) refl refl refl))
     (λ c. search needs)
     (λ c κs. search needs)
     (λ c κs. search needs)
@@ -76,7 +78,7 @@ relatives-spec =
     (λ c κs. search needs)
     (λ c. search needs)
     (λ c. search needs)
-    (λ c. counts-down (c .before .before .before .before .before .before .before .before .before .before .before .before .before .before .loop-test .taken))
+    (λ c. counts-down (c .before .before .before .before .before .before .before .before .before .before .before .before .before .before .before .loop-test .taken))
     loop-again
     (λ c. c .before .loop .inv .0)
     (λ c. (c .before .loop .inv .1, c .before .loop .inv .2, c .before .loop .inv .8 (c .before .before .before .before .before .before .before .before .before .args .t) refl refl refl)))
