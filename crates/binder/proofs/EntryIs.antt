@@ -10,7 +10,6 @@ use lib.Dec.{eqb}
 use lib.ListN.{length}
 use Rattle.words.specs.Choice.{pick}
 use Rattle.words.specs.Memory.{Mem, mem, from, write, patch}
-use Rattle.words.specs.Words.{byteOf, sum64}
 use Rattle.words.proofs.Memory.{write-none}
 use Rattle.model.specs.Symbols.{Sym, Answer, absent, answer}
 use Rattle.model.specs.Objects.{Objs, count, obj}
@@ -25,8 +24,7 @@ use Rattle.object.specs.HashCheck.{symbolOk}
 use Rattle.object.specs.Record.{Record, indexOk, isTableOf, checkedSymbol, nameOf}
 use Rattle.object.specs.declared.symbol.Symbol.{Symbol}
 use Rattle.object.specs.declared.relocate.Rela.{Rela}
-use Rattle.object.specs.declared.relocate.Action.{Action}
-use Rattle.object.specs.declared.relocate.Action.the-variants.{Ignored, Passed, Relative, Symbolic, Copy, Irelative}
+use Rattle.object.specs.RelocationTypes.{Field, Row, noSearch, inScope, ignored, passedOver, turnedAway, copies, writes}
 use Rattle.object.specs.declared.entry_symbol.CheckedSymbol.{CheckedSymbol}
 use Rattle.object.specs.declared.entry_symbol.CheckedSymbol.the-variants.{Refused, Checked}
 use Rattle.object.specs.declared.hash_tables.Definition.{Definition}
@@ -35,7 +33,7 @@ use Rattle.binder.specs.Verdict.{Verdict, passed, verdict, writtenRefusa
 use Rattle.binder.specs.Report.{reportWord, unresolved, undefinedBy, isPassed}
 use Rattle.scope.specs.Steps.Seats.{seatAt}
 use Rattle.binder.specs.Steps.ScopeModel.{scopedOf}
-use Rattle.binder.specs.Steps.Relocating.{Left, left, wrote, Noted, noted, withArena, withReport, refusedBy, imageIn, reportSum, noteOf, markUndefined, unresolvedOf, relativeOf, writeFound, copyFits, copyBytes, copyOf, turnOf, soughtFor, soughtForCopy, keeps, answeredOf, symbolicOf, copyingOf, runAction, keepsWeak}
+use Rattle.binder.specs.Steps.Relocating.{Left, left, wrote, Noted, noted, withArena, withReport, refusedBy, imageIn, reportSum, noteOf, markUndefined, unresolvedOf, fieldBytes, fixedOf, writeFound, copyFits, copyBytes, copyOf, turnOf, soughtFor, soughtForCopy, keeps, answeredOf, symbolicOf, copyingOf, runAction, keepsWeak}
 use Rattle.scope.specs.declared.seats.Seat.{Seat}
 use Rattle.binder.specs.declared.turn.Turn.{Turn}
 use Rattle.scope.specs.declared.scope.Scoped.{Scoped}
@@ -43,7 +41,7 @@ use Rattle.scope.specs.declared.scope.Scoped.the-variants.{Absent, Found}
 use Rattle.binder.specs.declared.report.Progress.{Progress}
 use Rattle.binder.proofs.InsideLaws.{name-is}
 use Rattle.binder.proofs.Steady.{set, fileAt, LoadedSet, Steady, Written}
-use Rattle.binder.proofs.SteadyLaws.{lies, readings, searches, copy-searches, writable-inside, writes, copy-tests}
+use Rattle.binder.proofs.SteadyLaws.{lies, readings, searches, copy-searches, writable-inside, write-steady, copy-tests}
 use Rattle.binder.proofs.ReportFill.{Going, NotedGoing, KeptAs, earlier, earlier-none, going-length, word-going, marked-going, keeps-going, note-kept, unresolved-kept}
 use Rattle.binder.proofs.Runs.{Ran, verdict-none, ran-refused, ran-passed}
 
@@ -159,7 +157,7 @@ module _ (address size : ℕ) (table : List ℕ) (h pr : File) (fs : List File) 
           → Written address size table h pr fs a₀ (patch a (t .offset + q) w g) k
           × (mem (patch a (t .offset + q) w g) ≡ write m ((obj S k) .offset + q) w g)
       wrote-to q w g e =
-          let x = writes address size table h pr fs L a steady k hi q w e g in
+          let x = write-steady address size table h pr fs L a steady k hi q w e g in
           rw (seat-offset k hi) (
             written-then a₀ a (patch a ((obj S k) .offset + q) w g) k (d .written) (x .0),
             x .1 ∙ ap (λ (m : Mem). write m ((obj S k) .offset + q) w g) (d .memory),
@@ -221,21 +219,20 @@ module _ (address size : ℕ) (table : List ℕ) (h pr : File) (fs : List File) 
               marked-going (ws ++ (reportWord 6 i ∷ [])) u n k (noteOf (reportSum 6 i) p report)
               (word-going ws u n p report (d .going) 6 i (omega arith))
 
-      -- ---- 8
+      -- ---- a field without a search
 
-      relative-ran :
-          (e : Rela) (b : Bool) → inWritable (r .segments) (e .place) 8 ≡ b
+      fixed-ran :
+          (e : Rela) (f : Field) (b : Bool) → inWritable (r .segments) (e .place) (f .width) ≡ b
           → Ran size n (verdict (require b 17 0) k)
-          (Doing (ws ++ []) (earlier u 0) (write m ((obj S k) .offset + e .place) 8 (byteOf (sum64 ((obj S k) .base) (e .addend)))))
+          (Doing (ws ++ []) (earlier u 0) (write m ((obj S k) .offset + e .place) (f .width) (fieldBytes t e f 0)))
           (withReport report
-          (pick b (wrote p (patch a (t .offset + e .place) 8 (byteOf (sum64 (t .base) (e .addend))))) (wrote (refusedBy t 17 p) a)))
+          (pick b (wrote p (patch a (t .offset + e .place) (f .width) (fieldBytes t e f 0))) (wrote (refusedBy t 17 p) a)))
       unfolding require
-      relative-ran e true w =
-          let x = wrote-to (e .place) 8 (byteOf (sum64 (t .base) (e .addend))) w in
-          plain (verdict 0 k) (write m ((obj S k) .offset + e .place) 8 (byteOf (sum64 ((obj S k) .base) (e .addend))))
-          (patch a (t .offset + e .place) 8 (byteOf (sum64 (t .base) (e .addend)))) (verdict-none 0 k refl) (x .0)
-          (x .1 ∙ ap (λ (b : ℕ). write m ((obj S k) .offset + e .place) 8 (byteOf (sum64 b (e .addend)))) base-is)
-      relative-ran e false w = stopped 17 _ (λ e. omega arith)
+      fixed-ran e f true w =
+          let x = wrote-to (e .place) (f .width) (fieldBytes t e f 0) w in
+          plain (verdict 0 k) (write m ((obj S k) .offset + e .place) (f .width) (fieldBytes t e f 0))
+          (patch a (t .offset + e .place) (f .width) (fieldBytes t e f 0)) (verdict-none 0 k refl) (x .0) (x .1)
+      fixed-ran e f false w = stopped 17 _ (λ e. omega arith)
 
       -- ---- the entry's symbol
 
@@ -270,7 +267,7 @@ module _ (address size : ℕ) (table : List ℕ) (h pr : File) (fs : List File) 
           ap (nameOf (imageIn a t) r) e
           ∙ (name-is (imageIn a t) r index ∙ (readings address size table h pr fs L a steady k hi) .names index ok)
 
-      -- ---- 6 and 7
+      -- ---- a field with a search
 
       module _ (i : ℕ) (l : i < 2 ^ 28) (e : Rela) where
         abbrev y : Symbol
@@ -283,10 +280,6 @@ module _ (address size : ℕ) (table : List ℕ) (h pr : File) (fs : List File) 
         abbrev After : Answer → Mem → Progress → List ℕ → List ℕ → Type 0
         After x m′ =
             Doing (ws ++ pick (unresolved image r e x) (reportWord 6 i ∷ []) []) (earlier u (pick (unresolved image r e x) k 0)) m′
-
-        -- what an entry of type 6 or 7 leaves
-        abbrev Written6 : Answer → Left → Type 0
-        Written6 x st = Ran size n (verdict 0 k) (After x (write m ((obj S k) .offset + e .place) 8 (byteOf (addressOr0 x)))) st
 
         kept-now : (o : ℕ) (z : Sym) (v : ℕ) → answer o z v ≡ resolve S k name → RightlyKept (keeps (e .symbol + 1) v p)
         kept-now o z v is index f =
@@ -302,95 +295,100 @@ module _ (address size : ℕ) (table : List ℕ) (h pr : File) (fs : List File) 
               refl,
             )
 
-        -- found nowhere: a weak symbol's absence is kept
-        nowhere-ran :
-            absent ≡ resolve S k name → inWritable (r .segments) (e .place) 8 ≡ true → (b : Bool) → eqb (bindingOf y) 2 ≡ b
-            → Written6 absent
-            (withArena (patch a (t .offset + e .place) 8 (byteOf 0)) (keepsWeak (e .symbol + 1) y (unresolvedOf y k i p report)))
-        unfolding addressOr0
-        nowhere-ran eq w true b =
-            let z = wrote-to (e .place) 8 (byteOf 0) w in
-            subst
-            (λ (q : Noted). Written6 absent (withArena (patch a (t .offset + e .place) 8 (byteOf 0)) q))
-            (sym (weak-keeps (e .symbol + 1) y k i p report b))
-            (rw b
-            (with-answer (verdict 0 k) (e .symbol + 1) 0 (write m ((obj S k) .offset + e .place) 8 (byteOf 0)) (patch a (t .offset + e .place) 8 (byteOf 0))
-            (verdict-none 0 k refl) (weak-kept eq b) (z .0) (z .1)))
-        nowhere-ran eq w false b =
-            let z = wrote-to (e .place) 8 (byteOf 0) w in
-            subst
-            (λ (q : Noted). Written6 absent (withArena (patch a (t .offset + e .place) 8 (byteOf 0)) q))
-            (sym (strong-keeps (e .symbol + 1) y (unresolvedOf y k i p report) b))
-            (with-words (verdict 0 k) (ws ++ pick (not (eqb (bindingOf y) 2)) (reportWord 6 i ∷ []) []) (earlier u (pick (not (eqb (bindingOf y) 2)) k 0))
-            (write m ((obj S k) .offset + e .place) 8 (byteOf 0)) (patch a (t .offset + e .place) 8 (byteOf 0)) (unresolvedOf y k i p report)
-            (verdict-none 0 k refl) (unresolved-going i l y) (unresolved-kept y k i p report) (z .0) (z .1))
+        module _ (f : Field) where
+          -- what such an entry leaves
+          abbrev Written6 : Answer → Left → Type 0
+          Written6 x st = Ran size n (verdict 0 k) (After x (write m ((obj S k) .offset + e .place) (f .width) (fieldBytes t e f (addressOr0 x)))) st
 
-        found-ran : (s : Scoped) → scopedOf s ≡ resolve S k name → inWritable (r .segments) (e .place) 8 ≡ true → Written6 (resolve S k name) (writeFound t e i y s p a report)
-        unfolding scopedOf writeFound addressOr0
-        found-ran Absent eq w =
-            subst (λ (x : Answer). Written6 x (writeFound t e i y Absent p a report)) eq (nowhere-ran eq w (eqb (bindingOf y) 2) refl)
-        found-ran (Found d s v) eq w =
-            let z = wrote-to (e .place) 8 (byteOf v) w in
-            subst
-            (λ (x : Answer). Written6 x (writeFound t e i y (Found d s v) p a report))
-            eq
-            (with-answer (verdict 0 k) (e .symbol + 1) v (write m ((obj S k) .offset + e .place) 8 (byteOf v)) (patch a (t .offset + e .place) 8 (byteOf v))
-            (verdict-none 0 k refl) (kept-now d (symOf s) v eq) (z .0) (z .1))
+          -- found nowhere: a weak symbol's absence is kept
+          nowhere-ran :
+              absent ≡ resolve S k name → inWritable (r .segments) (e .place) (f .width) ≡ true → (b : Bool) → eqb (bindingOf y) 2 ≡ b
+              → Written6 absent
+              (withArena (patch a (t .offset + e .place) (f .width) (fieldBytes t e f 0)) (keepsWeak (e .symbol + 1) y (unresolvedOf y k i p report)))
+          unfolding addressOr0
+          nowhere-ran eq w true b =
+              let z = wrote-to (e .place) (f .width) (fieldBytes t e f 0) w in
+              subst
+              (λ (q : Noted). Written6 absent (withArena (patch a (t .offset + e .place) (f .width) (fieldBytes t e f 0)) q))
+              (sym (weak-keeps (e .symbol + 1) y k i p report b))
+              (rw b
+              (with-answer (verdict 0 k) (e .symbol + 1) 0 (write m ((obj S k) .offset + e .place) (f .width) (fieldBytes t e f 0)) (patch a (t .offset + e .place) (f .width) (fieldBytes t e f 0))
+              (verdict-none 0 k refl) (weak-kept eq b) (z .0) (z .1)))
+          nowhere-ran eq w false b =
+              let z = wrote-to (e .place) (f .width) (fieldBytes t e f 0) w in
+              subst
+              (λ (q : Noted). Written6 absent (withArena (patch a (t .offset + e .place) (f .width) (fieldBytes t e f 0)) q))
+              (sym (strong-keeps (e .symbol + 1) y (unresolvedOf y k i p report) b))
+              (with-words (verdict 0 k) (ws ++ pick (not (eqb (bindingOf y) 2)) (reportWord 6 i ∷ []) []) (earlier u (pick (not (eqb (bindingOf y) 2)) k 0))
+              (write m ((obj S k) .offset + e .place) (f .width) (fieldBytes t e f 0)) (patch a (t .offset + e .place) (f .width) (fieldBytes t e f 0)) (unresolvedOf y k i p report)
+              (verdict-none 0 k refl) (unresolved-going i l y) (unresolved-kept y k i p report) (z .0) (z .1))
 
-        kept-ran :
-            p .last ≡ e .symbol + 1 → inWritable (r .segments) (e .place) 8 ≡ true
-            → Written6 (resolve S k name) (left p (patch a (t .offset + e .place) 8 (byteOf (p .address))) report)
-        unfolding addressOr0
-        kept-ran same w =
-            let z = wrote-to (e .place) 8 (byteOf (p .address)) w in
-            ⊎-elim
-            (λ x.
-            subst
-            (λ (x : Answer). Written6 x (left p (patch a (t .offset + e .place) 8 (byteOf (p .address))) report))
-            (sym (x .2))
-            (plain (verdict 0 k) (write m ((obj S k) .offset + e .place) 8 (byteOf (p .address))) (patch a (t .offset + e .place) 8 (byteOf (p .address)))
-            (verdict-none 0 k refl) (z .0) (z .1)))
-            (λ x.
-            subst
-            (λ (x : Answer). Written6 x (left p (patch a (t .offset + e .place) 8 (byteOf (p .address))) report))
-            (sym (x .0))
-            (rw (x .1)
-            (plain (verdict 0 k) (write m ((obj S k) .offset + e .place) 8 (byteOf 0)) (patch a (t .offset + e .place) 8 (byteOf (p .address)))
-            (verdict-none 0 k refl) (z .0) (z .1 ∙ ap (λ (v : ℕ). write m ((obj S k) .offset + e .place) 8 (byteOf v)) (x .2)))))
-            (d .kept (e .symbol) same)
+          found-ran : (s : Scoped) → scopedOf s ≡ resolve S k name → inWritable (r .segments) (e .place) (f .width) ≡ true → Written6 (resolve S k name) (writeFound t e f i y s p a report)
+          unfolding scopedOf writeFound addressOr0
+          found-ran Absent eq w =
+              subst (λ (x : Answer). Written6 x (writeFound t e f i y Absent p a report)) eq (nowhere-ran eq w (eqb (bindingOf y) 2) refl)
+          found-ran (Found d s v) eq w =
+              let z = wrote-to (e .place) (f .width) (fieldBytes t e f v) w in
+              subst
+              (λ (x : Answer). Written6 x (writeFound t e f i y (Found d s v) p a report))
+              eq
+              (with-answer (verdict 0 k) (e .symbol + 1) v (write m ((obj S k) .offset + e .place) (f .width) (fieldBytes t e f v)) (patch a (t .offset + e .place) (f .width) (fieldBytes t e f v))
+              (verdict-none 0 k refl) (kept-now d (symOf s) v eq) (z .0) (z .1))
 
-        answered-ran :
-            (s : Scoped) → scopedOf s ≡ resolve S k name → inWritable (r .segments) (e .place) 8 ≡ true → (b : Bool) → eqb (p .last) (e .symbol + 1) ≡ b
-            → Written6 (resolve S k name)
-            (pick b (left p (patch a (t .offset + e .place) 8 (byteOf (p .address))) report) (writeFound t e i y s p a report))
-        answered-ran s eq w true f = kept-ran (eqb-true (p .last) (e .symbol + 1) f) w
-        answered-ran s eq w false f = found-ran s eq w
+          kept-ran :
+              p .last ≡ e .symbol + 1 → inWritable (r .segments) (e .place) (f .width) ≡ true
+              → Written6 (resolve S k name) (left p (patch a (t .offset + e .place) (f .width) (fieldBytes t e f (p .address))) report)
+          unfolding addressOr0
+          kept-ran same w =
+              let z = wrote-to (e .place) (f .width) (fieldBytes t e f (p .address)) w in
+              ⊎-elim
+              (λ x.
+              subst
+              (λ (x : Answer). Written6 x (left p (patch a (t .offset + e .place) (f .width) (fieldBytes t e f (p .address))) report))
+              (sym (x .2))
+              (plain (verdict 0 k) (write m ((obj S k) .offset + e .place) (f .width) (fieldBytes t e f (p .address))) (patch a (t .offset + e .place) (f .width) (fieldBytes t e f (p .address)))
+              (verdict-none 0 k refl) (z .0) (z .1)))
+              (λ x.
+              subst
+              (λ (x : Answer). Written6 x (left p (patch a (t .offset + e .place) (f .width) (fieldBytes t e f (p .address))) report))
+              (sym (x .0))
+              (rw (x .1)
+              (plain (verdict 0 k) (write m ((obj S k) .offset + e .place) (f .width) (fieldBytes t e f 0)) (patch a (t .offset + e .place) (f .width) (fieldBytes t e f (p .address)))
+              (verdict-none 0 k refl) (z .0) (z .1 ∙ ap (λ (v : ℕ). write m ((obj S k) .offset + e .place) (f .width) (fieldBytes t e f v)) (x .2)))))
+              (d .kept (e .symbol) same)
 
-        symbolic-by :
-            (s : Scoped) → scopedOf s ≡ resolve S k name → (b : Bool) → inWritable (r .segments) (e .place) 8 ≡ b
-            → Ran size n (verdict (require b 17 0) k)
-            (After (resolve S k name) (write m ((obj S k) .offset + e .place) 8 (byteOf (addressOr0 (resolve S k name)))))
-            (pick b
-            (pick (eqb (p .last) (e .symbol + 1)) (left p (patch a (t .offset + e .place) 8 (byteOf (p .address))) report) (writeFound t e i y s p a report))
-            (left (refusedBy t 17 p) a report))
-        unfolding require
-        symbolic-by s eq true w = answered-ran s eq w (eqb (p .last) (e .symbol + 1)) refl
-        symbolic-by s eq false w = stopped 17 _ (λ e. omega arith)
+          answered-ran :
+              (s : Scoped) → scopedOf s ≡ resolve S k name → inWritable (r .segments) (e .place) (f .width) ≡ true → (b : Bool) → eqb (p .last) (e .symbol + 1) ≡ b
+              → Written6 (resolve S k name)
+              (pick b (left p (patch a (t .offset + e .place) (f .width) (fieldBytes t e f (p .address))) report) (writeFound t e f i y s p a report))
+          answered-ran s eq w true same = kept-ran (eqb-true (p .last) (e .symbol + 1) same) w
+          answered-ran s eq w false same = found-ran s eq w
 
-        symbolic-ran :
-            Ran size n (verdict (symbolThen (checkedSymbol image r (e .symbol)) (λ y. writtenRefusal r (e .place) 8)) k)
-            (After (resolve S k name) (write m ((obj S k) .offset + e .place) 8 (byteOf (addressOr0 (resolve S k name)))))
-            (symbolicOf address table (count S) t r e i (checkedSymbol (imageIn a t) r (e .symbol)) p a report)
-        unfolding symbolicOf answeredOf
-        symbolic-ran =
-            symbol-step (e .symbol) (λ y. writtenRefusal r (e .place) 8)
-            (After (resolve S k name) (write m ((obj S k) .offset + e .place) 8 (byteOf (addressOr0 (resolve S k name)))))
-            (λ c. symbolicOf address table (count S) t r e i c p a report) (λ z. refl)
-            (λ ok same.
-            symbolic-by (soughtFor address table (count S) t a (nameOf (imageIn a t) r y))
-            (ap (λ (x : List ℕ). scopedOf (soughtFor address table (count S) t a x)) (name-same (e .symbol) ok same)
-            ∙ searches address size table h pr fs L a steady k hi name)
-            (inWritable (r .segments) (e .place) 8) refl)
+          symbolic-by :
+              (s : Scoped) → scopedOf s ≡ resolve S k name → (b : Bool) → inWritable (r .segments) (e .place) (f .width) ≡ b
+              → Ran size n (verdict (require b 17 0) k)
+              (After (resolve S k name) (write m ((obj S k) .offset + e .place) (f .width) (fieldBytes t e f (addressOr0 (resolve S k name)))))
+              (pick b
+              (pick (eqb (p .last) (e .symbol + 1)) (left p (patch a (t .offset + e .place) (f .width) (fieldBytes t e f (p .address))) report) (writeFound t e f i y s p a report))
+              (left (refusedBy t 17 p) a report))
+          unfolding require
+          symbolic-by s eq true w = answered-ran s eq w (eqb (p .last) (e .symbol + 1)) refl
+          symbolic-by s eq false w = stopped 17 _ (λ e. omega arith)
+
+          symbolic-ran :
+              Ran size n (verdict (symbolThen (checkedSymbol image r (e .symbol)) (λ y. writtenRefusal r (e .place) (f .width))) k)
+              (After (resolve S k name) (write m ((obj S k) .offset + e .place) (f .width) (fieldBytes t e f (addressOr0 (resolve S k name)))))
+              (symbolicOf address table (count S) t r e f i (checkedSymbol (imageIn a t) r (e .symbol)) p a report)
+          unfolding symbolicOf answeredOf
+          symbolic-ran =
+              symbol-step (e .symbol) (λ y. writtenRefusal r (e .place) (f .width))
+              (After (resolve S k name) (write m ((obj S k) .offset + e .place) (f .width) (fieldBytes t e f (addressOr0 (resolve S k name)))))
+              (λ c. symbolicOf address table (count S) t r e f i c p a report) (λ z. refl)
+              (λ ok same.
+              symbolic-by (soughtFor address table (count S) t a (nameOf (imageIn a t) r y))
+              (ap (λ (x : List ℕ). scopedOf (soughtFor address table (count S) t a x)) (name-same (e .symbol) ok same)
+              ∙ searches address size table h pr fs L a steady k hi name)
+              (inWritable (r .segments) (e .place) (f .width)) refl)
 
         -- ---- 5
 
@@ -505,22 +503,28 @@ module _ (address size : ℕ) (table : List ℕ) (h pr : File) (fs : List File) 
         -- ---- any entry
 
         -- the words of an entry
-        abbrev pub wordsBy : Action → List ℕ
+        abbrev pub wordsBy : Row → List ℕ
         wordsBy x =
             pick (undefinedBy S k image r e x) (reportWord 6 i ∷ []) (pick (isPassed x) (reportWord 7 i ∷ []) [])
 
-        pub entry-ran :
-            (x : Action)
-            → Ran size n (verdict (refusalBy S k image r e x) k)
-            (Doing (ws ++ wordsBy x) (earlier u (pick (undefinedBy S k image r e x) k 0)) (effect S k (entryBy image r ((obj S k) .base) e x) m))
+        -- an entry of an object with that base
+        abbrev EntryRan : ℕ → Row → Type 0
+        EntryRan base x =
+            Ran size n (verdict (refusalBy S k image r e x) k)
+            (Doing (ws ++ wordsBy x) (earlier u (pick (undefinedBy S k image r e x) k 0)) (effect S k (entryBy image r base e x) m))
             (runAction address table (count S) t r i e x p a report)
-        unfolding refusalBy undefinedBy entryBy effect runAction relativeOf
-        entry-ran Ignored = plain (verdict 0 k) m a (verdict-none 0 k refl) (d .written) (d .memory)
-        entry-ran Passed =
+
+        entry-by : (x : Row) → EntryRan (t .base) x
+        unfolding refusalBy undefinedBy entryBy effect runAction fixedOf
+        entry-by ignored = plain (verdict 0 k) m a (verdict-none 0 k refl) (d .written) (d .memory)
+        entry-by passedOver =
             with-words (verdict 0 k) (ws ++ (reportWord 7 i ∷ [])) (earlier u 0) m a (noteOf (reportSum 7 i) p report) (verdict-none 0 k refl)
             (rw (earlier-none u) (word-going ws u n p report (d .going) 7 i (omega arith))) (note-kept (reportSum 7 i) p report)
             (d .written) (d .memory)
-        entry-ran Irelative = stopped 16 _ (λ e. omega arith)
-        entry-ran Relative = relative-ran e (inWritable (r .segments) (e .place) 8) refl
-        entry-ran Symbolic = symbolic-ran
-        entry-ran Copy = copy-ran
+        entry-by turnedAway = stopped 16 _ (λ e. omega arith)
+        entry-by (writes noSearch f) = fixed-ran e f (inWritable (r .segments) (e .place) (f .width)) refl
+        entry-by (writes inScope f) = symbolic-ran f
+        entry-by copies = copy-ran
+
+        pub entry-ran : (x : Row) → EntryRan ((obj S k) .base) x
+        entry-ran x = subst (λ (base : ℕ). EntryRan base x) base-is (entry-by x)

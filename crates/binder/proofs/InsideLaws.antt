@@ -25,7 +25,7 @@ use Rattle.object.specs.TableBytes.{isWritable, holdsRange, inWritable}
 use Rattle.object.specs.TableBytes as tables
 use Rattle.object.specs.Symbol.{symbolAt, symbolName}
 use Rattle.object.specs.Symbol as symbol-specs
-use Rattle.object.specs.Entries.{actionOf, Word, place, nowhere}
+use Rattle.object.specs.Entries.{Word, place, nowhere}
 use Rattle.object.specs.HashCheck.{symbolOk}
 use Rattle.object.specs.Record.{Record, indexOk, isTableOf, checkedSymbol, nameOf}
 use Rattle.object.specs.Record as records
@@ -35,8 +35,7 @@ use Rattle.object.specs.Loaded.{objectRecord}
 use Rattle.object.specs.Loaded as loading
 use Rattle.object.specs.declared.symbol.Symbol.{Symbol}
 use Rattle.object.specs.declared.relocate.Rela.{Rela}
-use Rattle.object.specs.declared.relocate.Action.{Action}
-use Rattle.object.specs.declared.relocate.Action.the-variants.{Ignored, Passed, Relative, Symbolic, Copy, Irelative}
+use Rattle.object.specs.RelocationTypes.{Row, noSearch, inScope, ignored, passedOver, turnedAway, copies, writes, rowOf}
 use Rattle.object.specs.declared.entry_symbol.CheckedSymbol.the-variants.{Refused, Checked}
 use Rattle.object.specs.declared.program_header.Segment.{Segment}
 use Rattle.object.specs.declared.program_header.Dynamic.{Dynamic}
@@ -134,14 +133,15 @@ module _ (S : Objs) (k : ℕ) (image : List ℕ) (r : Record) (base : ℕ)
       symbol-then (indexOk (r .known) index) (symbolOk (isTableOf r) image (r .symbols) (r .strings) index)
       (symbolAt image (r .symbols) index) rest e
 
-  entry-inside : (e : Rela) (a : Action) → refusalBy S k image r e a ≡ 0 → Inside S k (entryBy image r base e a)
+  entry-inside : (e : Rela) (x : Row) → refusalBy S k image r e x ≡ 0 → Inside S k (entryBy image r base e x)
   unfolding refusalBy entryBy
-  entry-inside e Ignored z = tt
-  entry-inside e Passed z = tt
-  entry-inside e Irelative z = tt
-  entry-inside e Relative z = written (e .place) 8 z
-  entry-inside e Symbolic z = written (e .place) 8 (checked-then (e .symbol) (λ y. writtenRefusal r (e .place) 8) z)
-  entry-inside e Copy z =
+  entry-inside e ignored z = tt
+  entry-inside e passedOver z = tt
+  entry-inside e turnedAway z = tt
+  entry-inside e (writes noSearch f) z = written (e .place) (f .width) z
+  entry-inside e (writes inScope f) z =
+      written (e .place) (f .width) (checked-then (e .symbol) (λ y. writtenRefusal r (e .place) (f .width)) z)
+  entry-inside e copies z =
       let rest : Symbol → ℕ = λ y. copyRefusal S k r (e .place) (y .size) (resolveCopy S (nameOf image r y)) in
       let y : Symbol = symbolAt image (r .symbols) (e .symbol) in
       copy-inside (e .place) (y .size) (resolveCopy S (symbolName image (r .symbols) (r .strings) (e .symbol)))
@@ -156,6 +156,6 @@ module _ (S : Objs) (k : ℕ) (image : List ℕ) (r : Record) (base : ℕ)
       let a = first-passed (verdict (entryRefusal S k image r e) k) (entriesVerdict S k image r es) v in
       ⊎-elim
       (λ (t : x ≡ entryOf image r base e).
-      subst (λ (y : Entry). Inside S k y) (sym t) (entry-inside e (actionOf (e .kind)) (verdict-passed (entryRefusal S k image r e) k (a .0))))
+      subst (λ (y : Entry). Inside S k y) (sym t) (entry-inside e (rowOf (e .kind)) (verdict-passed (entryRefusal S k image r e) k (a .0))))
       (λ (t : List·Memᴰ x (map (entryOf image r base) es)). entries-inside es (a .1) x t)
       (List·Memᴰ·cases-cons m)

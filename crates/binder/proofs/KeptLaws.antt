@@ -10,7 +10,6 @@ use lib.Dec.{eqb}
 use lib.ListN.{length, length-take, length-drop}
 use Rattle.words.specs.Choice.{pick}
 use Rattle.words.specs.Memory.{mem, In, patch, from}
-use Rattle.words.specs.Words.{byteOf, sum64}
 use Rattle.words.proofs.Memory.{Out, in-or-out, write-out}
 use Rattle.words.proofs.Slices.{mem-past, mem-part, mem-patch-at, length-patch}
 use Rattle.object.specs.TableBytes.{inWritable}
@@ -19,8 +18,7 @@ use Rattle.object.proofs.FineLaws.{fine-same}
 use Rattle.object.specs.declared.symbol.Symbol.{Symbol}
 use Rattle.object.specs.declared.hash_tables.Definition.{Definition}
 use Rattle.object.specs.declared.relocate.Rela.{Rela}
-use Rattle.object.specs.declared.relocate.Action.{Action}
-use Rattle.object.specs.declared.relocate.Action.the-variants.{Ignored, Passed, Relative, Symbolic, Copy, Irelative}
+use Rattle.object.specs.RelocationTypes.{Field, Row, noSearch, inScope, ignored, passedOver, turnedAway, copies, writes}
 use Rattle.object.specs.declared.entry_symbol.CheckedSymbol.{CheckedSymbol}
 use Rattle.object.specs.declared.entry_symbol.CheckedSymbol.the-variants.{Refused, Checked}
 use Rattle.scope.specs.Steps.Seats.{seatAt}
@@ -30,7 +28,7 @@ use Rattle.scope.specs.declared.scope.Scoped.the-variants.{Absent, Found}
 use Rattle.binder.specs.declared.report.Progress.{Progress}
 use Rattle.binder.specs.declared.turn.Turn.{Turn}
 use Rattle.binder.specs.declared.relocate.Symbols.{Symbols}
-use Rattle.binder.specs.Steps.Relocating.{Left, left, wrote, Noted, noted, withArena, withReport, refusedBy, imageIn, reportSum, noteOf, unresolvedOf, keepsWeak, relativeOf, writeFound, copyFits, copyBytes, copyOf, soughtFor, soughtForCopy, answeredOf, symbolicOf, copyingOf, runAction}
+use Rattle.binder.specs.Steps.Relocating.{Left, left, wrote, Noted, noted, withArena, withReport, refusedBy, imageIn, reportSum, noteOf, unresolvedOf, keepsWeak, fieldBytes, fixedOf, writeFound, copyFits, copyBytes, copyOf, soughtFor, soughtForCopy, answeredOf, symbolicOf, copyingOf, runAction}
 use Rattle.binder.specs.Steps.RunSteps.{TablesKept, SymbolsOf}
 use Rattle.binder.proofs.SteadyLaws.{table-out}
 
@@ -91,36 +89,37 @@ module _ (t : Turn) (r : Record) where
     noted-keeps b (noted p report) k = k
 
   module _ (address : ℕ) (table : List ℕ) (count : ℕ) (i : ℕ) (e : Rela) (p : Progress) (a report : List ℕ) where
-    relative-keeps : Keeps a (withReport report (relativeOf t (r .segments) e p a))
-    unfolding relativeOf
-    relative-keeps = go (inWritable (r .segments) (e .place) 8) refl
-      where
-        go : (b : Bool) → inWritable (r .segments) (e .place) 8 ≡ b
-            → Keeps a (withReport report (pick b (wrote p (patch a (t .offset + e .place) 8 (byteOf (sum64 (t .base) (e .addend))))) (wrote (refusedBy t 17 p) a)))
-        go true w = kept-write a (e .place) 8 _ w
-        go false w = kept-none a
+    module _ (f : Field) where
+      fixed-keeps : Keeps a (withReport report (fixedOf t (r .segments) e f p a))
+      unfolding fixedOf
+      fixed-keeps = go (inWritable (r .segments) (e .place) (f .width)) refl
+        where
+          go : (b : Bool) → inWritable (r .segments) (e .place) (f .width) ≡ b
+              → Keeps a (withReport report (pick b (wrote p (patch a (t .offset + e .place) (f .width) (fieldBytes t e f 0))) (wrote (refusedBy t 17 p) a)))
+          go true w = kept-write a (e .place) (f .width) (fieldBytes t e f 0) w
+          go false w = kept-none a
 
-    found-keeps : (y : Symbol) (s : Scoped) → inWritable (r .segments) (e .place) 8 ≡ true → Keeps a (writeFound t e i y s p a report)
-    unfolding writeFound
-    found-keeps y Absent w =
-        noted-keeps a (patch a (t .offset + e .place) 8 (byteOf 0)) (keepsWeak (e .symbol + 1) y (unresolvedOf y (t .number) i p report))
-        (kept-write a (e .place) 8 (byteOf 0) w)
-    found-keeps y (Found k d x) w = kept-write a (e .place) 8 (byteOf x) w
+      found-keeps : (y : Symbol) (s : Scoped) → inWritable (r .segments) (e .place) (f .width) ≡ true → Keeps a (writeFound t e f i y s p a report)
+      unfolding writeFound
+      found-keeps y Absent w =
+          noted-keeps a (patch a (t .offset + e .place) (f .width) (fieldBytes t e f 0))
+          (keepsWeak (e .symbol + 1) y (unresolvedOf y (t .number) i p report)) (kept-write a (e .place) (f .width) (fieldBytes t e f 0) w)
+      found-keeps y (Found k d x) w = kept-write a (e .place) (f .width) (fieldBytes t e f x) w
 
-    symbolic-keeps : (c : CheckedSymbol) → Keeps a (symbolicOf address table count t r e i c p a report)
-    unfolding symbolicOf answeredOf
-    symbolic-keeps (Refused n) = kept-none a
-    symbolic-keeps (Checked y) = go (inWritable (r .segments) (e .place) 8) refl (eqb (p .last) (e .symbol + 1))
-      where
-        go : (b : Bool) → inWritable (r .segments) (e .place) 8 ≡ b → (c : Bool)
-            → Keeps a
-            (pick b
-            (pick c (left p (patch a (t .offset + e .place) 8 (byteOf (p .address))) report)
-            (writeFound t e i y (soughtFor address table count t a (nameOf (imageIn a t) r y)) p a report))
-            (left (refusedBy t 17 p) a report))
-        go true w true = kept-write a (e .place) 8 (byteOf (p .address)) w
-        go true w false = found-keeps y (soughtFor address table count t a (nameOf (imageIn a t) r y)) w
-        go false w c = kept-none a
+      symbolic-keeps : (c : CheckedSymbol) → Keeps a (symbolicOf address table count t r e f i c p a report)
+      unfolding symbolicOf answeredOf
+      symbolic-keeps (Refused n) = kept-none a
+      symbolic-keeps (Checked y) = go (inWritable (r .segments) (e .place) (f .width)) refl (eqb (p .last) (e .symbol + 1))
+        where
+          go : (b : Bool) → inWritable (r .segments) (e .place) (f .width) ≡ b → (c : Bool)
+              → Keeps a
+              (pick b
+              (pick c (left p (patch a (t .offset + e .place) (f .width) (fieldBytes t e f (p .address))) report)
+              (writeFound t e f i y (soughtFor address table count t a (nameOf (imageIn a t) r y)) p a report))
+              (left (refusedBy t 17 p) a report))
+          go true w true = kept-write a (e .place) (f .width) (fieldBytes t e f (p .address)) w
+          go true w false = found-keeps y (soughtFor address table count t a (nameOf (imageIn a t) r y)) w
+          go false w c = kept-none a
 
     copied-keeps : (s : Seat) (d : Definition) (n : ℕ) → Keeps a (withReport report (copyBytes t (r .segments) (e .place) s d n p a))
     unfolding copyBytes
@@ -148,14 +147,14 @@ module _ (t : Turn) (r : Record) where
     copying-keeps (Refused n) = kept-none a
     copying-keeps (Checked y) = copy-keeps y (soughtForCopy address table count a (nameOf (imageIn a t) r y))
 
-    entry-keeps : (act : Action) → Keeps a (runAction address table count t r i e act p a report)
+    entry-keeps : (x : Row) → Keeps a (runAction address table count t r i e x p a report)
     unfolding runAction
-    entry-keeps Ignored = kept-none a
-    entry-keeps Passed = noted-keeps a a (noteOf (reportSum 7 i) p report) (kept-none a)
-    entry-keeps Irelative = kept-none a
-    entry-keeps Relative = relative-keeps
-    entry-keeps Symbolic = symbolic-keeps (checkedSymbol (imageIn a t) r (e .symbol))
-    entry-keeps Copy = copying-keeps (checkedSymbol (imageIn a t) r (e .symbol))
+    entry-keeps ignored = kept-none a
+    entry-keeps passedOver = noted-keeps a a (noteOf (reportSum 7 i) p report) (kept-none a)
+    entry-keeps turnedAway = kept-none a
+    entry-keeps (writes noSearch f) = fixed-keeps f
+    entry-keeps (writes inScope f) = symbolic-keeps f (checkedSymbol (imageIn a t) r (e .symbol))
+    entry-keeps copies = copying-keeps (checkedSymbol (imageIn a t) r (e .symbol))
 
-    pub entry-kept : (act : Action) (q : Progress) (b words : List ℕ) → left q b words ≡ runAction address table count t r i e act p a report → TablesKept t r a b
-    entry-kept act q b words h = subst (Keeps a) (sym h) (entry-keeps act)
+    pub entry-kept : (x : Row) (q : Progress) (b words : List ℕ) → left q b words ≡ runAction address table count t r i e x p a report → TablesKept t r a b
+    entry-kept x q b words h = subst (Keeps a) (sym h) (entry-keeps x)

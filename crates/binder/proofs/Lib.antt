@@ -26,6 +26,7 @@ pub mod RelocatedIs
 pub mod LoopLaws
 pub mod RunLaws
 pub mod KeptLaws
+pub mod RowsSame
 pub mod RelativeLaws
 pub mod SymbolicLaws
 pub mod BitLaws

@@ -1,5 +1,5 @@
--- One turn of a run of entries of type 8 whose places lie in one writable segment: specs/RunSteps.antt. Assumes nothing.
-use mathlib.Core.Path.{_≡_, refl, _∙_}
+-- One turn of a run of entries that are Relative whose places lie in one writable segment: specs/RunSteps.antt. Assumes nothing.
+use mathlib.Core.Path.{_≡_, refl, sym, ap, _∙_}
 use mathlib.Core.Bool.{true}
 use mathlib.Core.List.{List}
 use Prim.Native.Nat.{ℕ, _+_, _*_, _%_, _^_, _≤_, _<_}
@@ -7,15 +7,17 @@ use native.Mathlib.Omega.{arith}
 use Rattle.words.specs.Memory.{mem, patch}
 use Rattle.words.specs.Words.{leAt, byteOf, sum64}
 use Rattle.words.proofs.Words.{leAt-part}
+use Rattle.object.specs.RelocationTypes.{rowOf}
 use Rattle.object.specs.Entries as entries
-use Rattle.object.specs.Entries.{relaAt, actionOf}
+use Rattle.object.specs.Entries.{relaAt}
+use Rattle.object.specs.Steps.Actions.{rowBy}
 use Rattle.object.specs.Record.{Record}
 use Rattle.object.specs.TableBytes.{inWritable}
 use Rattle.object.specs.Steps.WritableRange.{WritableRange}
 use Rattle.object.specs.declared.relocate.Action.the-variants.{Relative}
 use Rattle.binder.specs.declared.report.Progress.{Progress}
 use Rattle.binder.specs.declared.turn.Turn.{Turn}
-use Rattle.binder.specs.Steps.Relocating.{left, imageIn, relativeOf, runAction}
+use Rattle.binder.specs.Steps.Relocating.{left, imageIn, fixedOf, runAction}
 use Rattle.binder.specs.Steps.RunSteps.{EntriesPassed}
 use Rattle.binder.proofs.RunLaws.{entry-goes}
 use Rattle.binder.proofs.KeptLaws.{kept-then, entry-kept}
@@ -25,7 +27,7 @@ pub number-in :
     (t : Turn) (a : List ℕ) (m x y : ℕ) {v : ℕ} → x + m ≤ t .span → y ≡ t .offset + x → v ≡ leAt m (mem a) y → leAt m (mem (imageIn a t)) x ≡ v
 number-in t a m x y fits e g = leAt-part m (t .span) (t .offset) a x fits ∙ rw (g, e)
 
--- entry `i`, which stands at `k` of the arena, is of type 8, its place is in low .. high, and its word was written
+-- entry `i`, which stands at `k` of the arena, is Relative, its place is in low .. high, and its word was written
 module _
     (t : Turn)
     (at n low high i : ℕ)
@@ -36,7 +38,7 @@ module _
     (fits : at + 24 * n ≤ t .span)
     (stands : k ≡ t .offset + at + 24 * i)
     (kind-is : kind ≡ leAt 4 (mem a) (k + 8))
-    (is-8 : kind ≡ 8)
+    (acts-so : rowOf kind ≡ rowBy Relative)
     (place-is : place ≡ leAt 8 (mem a) k)
     (above : low ≤ place)
     (below : place + 8 ≤ high)
@@ -44,9 +46,9 @@ module _
     (sum-is : v ≡ sum64 (t .base) addend)
     (written : b ≡ patch a (t .offset + place) 8 (byteOf v))
   where
-    kind-here : relaAt (imageIn a t) at i .kind ≡ 8
+    kind-here : relaAt (imageIn a t) at i .kind ≡ kind
     unfolding entries.relaAt
-    kind-here = number-in t a 4 (at + (24 * i + 8)) (k + 8) (omega arith) (omega arith) kind-is ∙ is-8
+    kind-here = number-in t a 4 (at + (24 * i + 8)) (k + 8) (omega arith) (omega arith) kind-is
 
     place-here : relaAt (imageIn a t) at i .place ≡ place
     unfolding entries.relaAt
@@ -56,14 +58,13 @@ module _
     unfolding entries.relaAt
     addend-here = number-in t a 8 (at + (24 * i + 16)) (k + 16) (omega arith) (omega arith) addend-is
 
-    acts : Relative ≡ actionOf (relaAt (imageIn a t) at i .kind)
-    unfolding entries.actionOf
-    acts = rw kind-here
+    acts : rowBy Relative ≡ rowOf (relaAt (imageIn a t) at i .kind)
+    acts = sym (ap rowOf kind-here ∙ acts-so)
 
     ran :
         (address : ℕ) (table : List ℕ) (count : ℕ) (r : Record) (number : ℕ) (p : Progress) (report : List ℕ) → WritableRange (r .segments) low high
-        → left p b report ≡ runAction address table count t r number (relaAt (imageIn a t) at i) Relative p a report
-    unfolding runAction relativeOf
+        → left p b report ≡ runAction address table count t r number (relaAt (imageIn a t) at i) (rowBy Relative) p a report
+    unfolding runAction fixedOf
     ran address table count r number p report wr =
         let w : inWritable (r .segments) place 8 ≡ true = wr place 8 above below (omega arith) in
         rw (place-here, w, addend-here, written, sum-is)
@@ -74,5 +75,5 @@ module _
         let so-far = passed address table count r first p report wr fine in
         let run = ran address table count r ((first + i) % 2 ^ 32) p report wr in (
           entry-goes address table count t r at first n i p a report {b = b} {noted = report} some refl acts refl run (so-far .0) (fine (omega arith)),
-          kept-then t r a₀ a b (so-far .1) (entry-kept t r address table count ((first + i) % 2 ^ 32) (relaAt (imageIn a t) at i) p a report Relative p b report run),
+          kept-then t r a₀ a b (so-far .1) (entry-kept t r address table count ((first + i) % 2 ^ 32) (relaAt (imageIn a t) at i) p a report (rowBy Relative) p b report run),
         )

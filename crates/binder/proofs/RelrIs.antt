@@ -200,7 +200,7 @@ module _ (address size : ℕ) (table : List ℕ) (h p : File) (fs : List File) w
         let at = laws.lies address size table h p fs L k member in
         let offset-is : t .offset ≡ (obj S k) .offset = ap (λ (x : Seat). x .offset) (at .seat) in
         let g : ℕ → ℕ = byteOf (sum64 (leAt 8 (mem a) ((obj S k) .offset + q)) ((obj S k) .base)) in
-        rw (at .base, offset-is) (laws.writes address size table h p fs L a s k member q 8 e g)
+        rw (at .base, offset-is) (laws.write-steady address size table h p fs L a s k member q 8 e g)
 
     ran-word : (w : Word) (q : ℕ) (a : List ℕ) → Same w q → Steady a → inWritable (r .segments) q 8 ≡ true → Ran k (w ∷ []) 0 a (wordAdded t q a)
     unfolding wordsVerdict verdict addWords placesOf require

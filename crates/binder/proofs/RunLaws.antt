@@ -10,10 +10,10 @@ use borrow.Author.Tests.{eq-eqb, ne-eqb, le-leb, lt-leb}
 use lib.ListN.{length, getD, take, drop, length-take, drop-of-length-le}
 use lib.Seq.{drop-cons, getD-take}
 use Rattle.words.specs.Memory.{patch}
-use Rattle.words.specs.Words.{byteOf}
 use Rattle.object.specs.Steps.LoadTable.{SegmentsIn, segmentsIn}
 use Rattle.object.specs.ProgramHeader.{loadsOf, dynamicOf}
-use Rattle.object.specs.Entries.{relaAt, actionOf}
+use Rattle.object.specs.RelocationTypes.{Field, Row, rowOf}
+use Rattle.object.specs.Entries.{relaAt}
 use Rattle.object.specs.TableBytes.{inWritable}
 use Rattle.object.specs.Record.{Record, ReadBy, heldBy, checkedSymbol, nameOf}
 use Rattle.object.specs.declared.program_header.Segment.{Segment}
@@ -24,21 +24,20 @@ use Rattle.object.specs.declared.program_header.Dynamic.{Dynamic}
 use Rattle.object.specs.declared.program_header.Loads.{Loads}
 use Rattle.object.specs.declared.dynamic_fields.Read.{Read}
 use Rattle.object.specs.declared.relocate.Rela.{Rela}
-use Rattle.object.specs.declared.relocate.Action.{Action}
 use Rattle.sheet.specs.Sheet.{Input, noInput}
 use Rattle.binder.specs.declared.report.Progress.{Progress}
 use Rattle.scope.specs.declared.scope.Scoped.{Scoped}
 use Rattle.binder.specs.declared.turn.Turn.{Turn}
-use Rattle.binder.specs.Steps.Relocating.{Left, left, noted, summed, unlessRefused, refusedBy, imageIn, turnOf, againRefusal, againRecord, symbolRefusal, soughtFor, soughtForCopy, keeps, writeFound, copyOf, answeredOf, symbolicOf, copyingOf, runAction, runTable, far, cutTo32, reportSum, noteOf, addRelrs, runTables, runObject, runAt, runOrder}
+use Rattle.binder.specs.Steps.Relocating.{Left, left, noted, summed, unlessRefused, refusedBy, imageIn, turnOf, againRefusal, againRecord, symbolRefusal, soughtFor, soughtForCopy, keeps, fieldBytes, writeFound, copyOf, answeredOf, symbolicOf, copyingOf, runAction, runTable, far, cutTo32, reportSum, noteOf, addRelrs, runTables, runObject, runAt, runOrder}
 
 -- ---- the entries of a symbol
 
 module _ (address : ℕ) (table : List ℕ) (count : ℕ) (t : Turn) (r : Record) (e : Rela) (i : ℕ) (p : Progress) (a report : List ℕ) {x : CheckedSymbol}
     (hx : x ≡ checkedSymbol (imageIn a t) r (e .symbol)) where
   module _ {n z : ℕ} {q : Progress} (hn : x ≡ Refused n) (hz : z ≡ symbolRefusal x) (hq : q ≡ refusedBy t z p) where
-    pub symbolic-refused : left q a report ≡ symbolicOf address table count t r e i (checkedSymbol (imageIn a t) r (e .symbol)) p a report
+    pub symbolic-refused : (f : Field) → left q a report ≡ symbolicOf address table count t r e f i (checkedSymbol (imageIn a t) r (e .symbol)) p a report
     unfolding symbolicOf
-    symbolic-refused = rw (hq, hz, ← hx, hn)
+    symbolic-refused f = rw (hq, hz, ← hx, hn)
 
     pub copying-refused : left q a report ≡ copyingOf address table count t r e i (checkedSymbol (imageIn a t) r (e .symbol)) p a report
     unfolding copyingOf
@@ -46,18 +45,18 @@ module _ (address : ℕ) (table : List ℕ) (count : ℕ) (t : Turn) (r : Record
 
   module _ {y : Symbol} {segments : List Segment} (hy : x ≡ Checked y) (hs : segments ≡ r .segments) where
     -- the word is not inside a writable segment
-    pub symbolic-outside : {q : Progress} {b : Bool} → b ≡ inWritable segments (e .place) 8 → b ≡ false → q ≡ refusedBy t 17 p → left q a report ≡ symbolicOf address table count t r e i (checkedSymbol (imageIn a t) r (e .symbol)) p a report
+    pub symbolic-outside : (f : Field) {q : Progress} {b : Bool} → b ≡ inWritable segments (e .place) (f .width) → b ≡ false → q ≡ refusedBy t 17 p → left q a report ≡ symbolicOf address table count t r e f i (checkedSymbol (imageIn a t) r (e .symbol)) p a report
     unfolding symbolicOf
-    symbolic-outside hb f hq = rw (hq, ← hx, hy, ← hs, ← hb, f)
+    symbolic-outside f hb so hq = rw (hq, ← hx, hy, ← hs, ← hb, so)
 
     -- it is: the kept answer is the symbol's, or it is not
-    pub symbolic-kept : {b : Bool} {out : Left} → b ≡ inWritable segments (e .place) 8 → b ≡ true → p .last ≡ e .symbol + 1 → out ≡ left p (patch a (t .offset + e .place) 8 (byteOf (p .address))) report → out ≡ symbolicOf address table count t r e i (checkedSymbol (imageIn a t) r (e .symbol)) p a report
+    pub symbolic-kept : (f : Field) {b : Bool} {out : Left} → b ≡ inWritable segments (e .place) (f .width) → b ≡ true → p .last ≡ e .symbol + 1 → out ≡ left p (patch a (t .offset + e .place) (f .width) (fieldBytes t e f (p .address))) report → out ≡ symbolicOf address table count t r e f i (checkedSymbol (imageIn a t) r (e .symbol)) p a report
     unfolding symbolicOf answeredOf
-    symbolic-kept hb f same run = rw (← hx, hy, ← hs, ← hb, f, eq-eqb _ _ same) run
+    symbolic-kept f hb so same run = rw (← hx, hy, ← hs, ← hb, so, eq-eqb _ _ same) run
 
-    pub symbolic-inside : {b : Bool} {s : Scoped} {out : Left} → b ≡ inWritable segments (e .place) 8 → b ≡ true → (p .last ≡ e .symbol + 1 → ⊥) → s ≡ soughtFor address table count t a (nameOf (imageIn a t) r y) → out ≡ writeFound t e i y s p a report → out ≡ symbolicOf address table count t r e i (checkedSymbol (imageIn a t) r (e .symbol)) p a report
+    pub symbolic-inside : (f : Field) {b : Bool} {s : Scoped} {out : Left} → b ≡ inWritable segments (e .place) (f .width) → b ≡ true → (p .last ≡ e .symbol + 1 → ⊥) → s ≡ soughtFor address table count t a (nameOf (imageIn a t) r y) → out ≡ writeFound t e f i y s p a report → out ≡ symbolicOf address table count t r e f i (checkedSymbol (imageIn a t) r (e .symbol)) p a report
     unfolding symbolicOf answeredOf
-    symbolic-inside hb f other hf run = rw (← hx, hy, ← hs, ← hb, f, ne-eqb _ _ other, ← hf) run
+    symbolic-inside f hb so other hf run = rw (← hx, hy, ← hs, ← hb, so, ne-eqb _ _ other, ← hf) run
 
     pub copying-sought : {s : Scoped} {out : Left} → s ≡ soughtForCopy address table count a (nameOf (imageIn a t) r y) → out ≡ copyOf table t segments e i y s p a report → out ≡ copyingOf address table count t r e i (checkedSymbol (imageIn a t) r (e .symbol)) p a report
     unfolding copyingOf
@@ -70,8 +69,8 @@ module _ (address : ℕ) (table : List ℕ) (count : ℕ) (t : Turn) (r : Record
   abbrev pub entriesLeft : ℕ → ℕ → Left → Left
   entriesLeft n i st = runTable address table count t r at first (n - i) i st
 
-  module _ (n i : ℕ) (p : Progress) (a report : List ℕ) {q : Progress} {b noted : List ℕ} {e : Rela} {act : Action} {number : ℕ} (some : i < n)
-      (he : e ≡ relaAt (imageIn a t) at i) (ha : act ≡ actionOf (e .kind)) (hn : number ≡ (first + i) % 2 ^ 32)
+  module _ (n i : ℕ) (p : Progress) (a report : List ℕ) {q : Progress} {b noted : List ℕ} {e : Rela} {act : Row} {number : ℕ} (some : i < n)
+      (he : e ≡ relaAt (imageIn a t) at i) (ha : act ≡ rowOf (e .kind)) (hn : number ≡ (first + i) % 2 ^ 32)
       (run : left q b noted ≡ runAction address table count t r number e act p a report) {end : Left} (all : entriesLeft n i (left p a report) ≡ end) where
     entry-step : entriesLeft n i (left p a report) ≡ unlessRefused (entriesLeft n (i + 1)) (left q b noted)
     unfolding runTable

@@ -347,8 +347,8 @@ module _ (address size : ℕ) (table : List ℕ) (h p : File) (fs : List File) w
               (sym e) (own-kept i) t
           go (no ne) = ap (λ (image : List ℕ). mem image i) (others-kept j x ne)
 
-  pub writes : steady.Writes address size table h p fs
-  writes s a st k l q n w g = (
+  pub write-steady : steady.Writes address size table h p fs
+  write-steady s a st k l q n w g = (
     record {
       steady =
           record {

@@ -1,4 +1,4 @@
--- One turn of a run of entries of types 6 and 7 whose places lie in one writable segment, and whose symbols need no further test:
+-- One turn of a run of entries that are Symbolic whose places lie in one writable segment, and whose symbols need no further test:
 -- specs/RunSteps.antt. Assumes nothing.
 use mathlib.Core.Path.{_≡_, refl, sym, ap, _∙_}
 use mathlib.Core.Bool.{Bool, true, false}
@@ -11,8 +11,10 @@ use Rattle.words.specs.Choice.{pick}
 use Rattle.words.specs.Memory.{mem, patch}
 use Rattle.words.specs.Words.{leAt, byteOf}
 use Rattle.words.specs.Names.{nameAt}
+use Rattle.object.specs.RelocationTypes.{rowOf}
 use Rattle.object.specs.Entries as entries
-use Rattle.object.specs.Entries.{relaAt, actionOf}
+use Rattle.object.specs.Entries.{relaAt}
+use Rattle.object.specs.Steps.Actions.{symbolicField, rowBy}
 use Rattle.object.specs.Symbol as symbols
 use Rattle.object.specs.Symbol.{symbolAt}
 use Rattle.object.specs.Record.{Record, checkedSymbol}
@@ -42,7 +44,7 @@ at-same x y e = cc
 at-nowhere : {P : Type 0} (x : ℕ) → At x ≡ Nowhere → P
 at-nowhere x e = let z : _≡_ {A = ℕ} 0 1 = cc in absurd (omega arith)
 
--- entry `s .next`, which stands at `k` of the arena, is of type 6 or 7, its place is in low .. high, its symbol needs no test and has the
+-- entry `s .next`, which stands at `k` of the arena, is Symbolic, its place is in low .. high, its symbol needs no test and has the
 -- address `found`, which was written
 module _
     (address : ℕ)
@@ -80,8 +82,8 @@ module _
     unfolding entries.relaAt
     index-here = number-in t a 4 (at + (24 * s .next + 12)) (k + 12) (omega arith) (omega arith) (here .index-is)
 
-    acts : Symbolic ≡ actionOf (e .kind)
-    acts = sym (ap actionOf kind-here ∙ here .acts)
+    acts : rowBy Symbolic ≡ rowOf (e .kind)
+    acts = sym (ap rowOf kind-here ∙ here .acts)
 
     module _ (r : Record) (of : SymbolsOf t r y a) where
       abbrev y-here : Symbol
@@ -101,21 +103,21 @@ module _
         q = keeps (s .last) (s .address) p
 
         -- the search found it
-        sought : (x : Scoped) → At found ≡ addressIn x → left (keeps (e .symbol + 1) found p) b report ≡ writeFound t e i y-here x q a report
+        sought : (x : Scoped) → At found ≡ addressIn x → left (keeps (e .symbol + 1) found p) b report ≡ writeFound t e symbolicField i y-here x q a report
         unfolding writeFound
         sought Absent h = at-nowhere found h
         sought (Found o d v) h = rw (written, place-here, at-same found v h)
 
         answered : (c : Bool) → eqb (s .last) (e .symbol + 1) ≡ c → (x : Scoped) → At found ≡ pick c (At (s .address)) (addressIn x)
             → left (keeps (e .symbol + 1) found p) b report
-            ≡ pick c (left q (patch a (t .offset + e .place) 8 (byteOf (s .address))) report) (writeFound t e i y-here x q a report)
+            ≡ pick c (left q (patch a (t .offset + e .place) 8 (byteOf (s .address))) report) (writeFound t e symbolicField i y-here x q a report)
         answered true h x g = rw (written, place-here, at-same found (s .address) g, eqb-true (s .last) (e .symbol + 1) h)
         answered false h x g = sought x g
 
         number-here : number ≡ e .symbol + 1
         number-here = omega (arith, index-here)
 
-        ran : WritableRange (r .segments) low high → left (keeps number found p) b report ≡ runAction address table count t r i e Symbolic q a report
+        ran : WritableRange (r .segments) low high → left (keeps number found p) b report ≡ runAction address table count t r i e (rowBy Symbolic) q a report
         unfolding runAction symbolicOf answeredOf
         ran wr =
             let w : inWritable (r .segments) (e .place) 8 ≡ true = rw place-here (wr place 8 (here .above) (here .below) (omega arith)) in
@@ -135,10 +137,10 @@ module _
           entry-goes address table count t r at first n (s .next) (keeps (s .last) (s .address) p) a report {b = b} {noted = report} some refl acts refl run
               (so-far .0) (fine (omega (arith, here .below))),
           kept-then t r a₀ a b (so-far .1)
-              (entry-kept t r address table count i e (keeps (s .last) (s .address) p) a report Symbolic (keeps number found p) b report run),
+              (entry-kept t r address table count i e (keeps (s .last) (s .address) p) a report (rowBy Symbolic) (keeps number found p) b report run),
         )
 
--- a run of entries of type 8, then one of entries of types 6 and 7
+-- a run of entries that are Relative, then one of entries that are Symbolic
 pub runs-passed :
     (address : ℕ) (table : List ℕ) (count : ℕ) (t : Turn) (r : Record) (y : Symbols) (at first n low high : ℕ) (q : Progress) (a b c report : List ℕ)
     (i j : ℕ) (s : Run) {end : Left} → EntriesPassed t at n low high i a j b

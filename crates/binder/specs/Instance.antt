@@ -6,18 +6,16 @@ use mathlib.Core.List.{List, [], _∷_, _++_, map}
 use Prim.Native.Nat.{ℕ, _+_}
 use lib.ListN.{length}
 use Rattle.words.specs.Choice.{pick}
-use Rattle.words.specs.Words.{sum64}
 use Rattle.model.specs.Symbols.{Name, Sym, Found, none, hit}
 use Rattle.model.specs.Objects.{Entry, fixed, symbol, copy, pass, Obj}
 use Rattle.object.specs.declared.relocate.Rela.{Rela}
-use Rattle.object.specs.declared.relocate.Action.{Action}
-use Rattle.object.specs.declared.relocate.Action.the-variants.{Ignored, Passed, Relative, Symbolic, Copy, Irelative}
 use Rattle.object.specs.declared.hash_tables.Definition.{Definition}
 use Rattle.object.specs.declared.hash_tables.Answer.{Answer}
 use Rattle.object.specs.declared.hash_tables.Answer.the-variants.{Absent, Present}
 use Rattle.object.specs.Symbol.{symbolAt, symbolName}
 use Rattle.object.specs.HashTable.{answerIn}
-use Rattle.object.specs.Entries.{relasFrom, relrsFrom, actionOf, Location, Word, place, nowhere, relrWords}
+use Rattle.object.specs.RelocationTypes.{Row, noSearch, inScope, ignored, passedOver, turnedAway, copies, writes, rowOf}
+use Rattle.object.specs.Entries.{relasFrom, relrsFrom, Location, Word, place, nowhere, relrWords}
 use Rattle.object.specs.Entries as entries
 use Rattle.object.specs.Record.{Record, viewOf}
 use Rattle.object.specs.Placed.{objectSpan, objectBytes, objectImage}
@@ -55,18 +53,19 @@ namedWords image r = relrWords entries.none (relrsFrom image (r .relr) 0 (r .rel
 unfoldable pub relasOf : List ℕ → Record → List Rela
 relasOf image r = relasFrom image (r .rela) 0 (r .relas) ++ relasFrom image (r .plt) 0 (r .plts)
 
--- what an entry is, by its type
-unfoldable pub entryBy : List ℕ → Record → ℕ → Rela → Action → Entry
-entryBy image r base e Ignored = pass
-entryBy image r base e Passed = pass
-entryBy image r base e Irelative = pass
-entryBy image r base e Relative = fixed (e .place) 8 (sum64 base (e .addend))
-entryBy image r base e Symbolic = symbol (e .place) 8 (symbolName image (r .symbols) (r .strings) (e .symbol)) (λ a. a)
-entryBy image r base e Copy =
+-- what an entry is, by the row of its type
+unfoldable pub entryBy : List ℕ → Record → ℕ → Rela → Row → Entry
+entryBy image r base e ignored = pass
+entryBy image r base e passedOver = pass
+entryBy image r base e turnedAway = pass
+entryBy image r base e (writes noSearch f) = fixed (e .place) (f .width) (f .value 0 (e .addend) base (base + e .place))
+entryBy image r base e (writes inScope f) =
+    symbol (e .place) (f .width) (symbolName image (r .symbols) (r .strings) (e .symbol)) (λ S. f .value S (e .addend) base (base + e .place))
+entryBy image r base e copies =
     copy (e .place) (symbolName image (r .symbols) (r .strings) (e .symbol)) (symbolAt image (r .symbols) (e .symbol) .size)
 
 abbrev pub entryOf : List ℕ → Record → ℕ → Rela → Entry
-entryOf image r base e = entryBy image r base e (actionOf (e .kind))
+entryOf image r base e = entryBy image r base e (rowOf (e .kind))
 
 -- the object of a file at an offset, in an arena at `address`; the host's relocation tables are not read
 unfoldable pub objectAt : ℕ → File → ℕ → Obj

@@ -11,11 +11,9 @@ use Rattle.model.specs.Symbols.{Answer, absent, answer}
 use Rattle.model.specs.Objects.{Objs}
 use Rattle.model.specs.Scope.{resolve, resolveCopy}
 use Rattle.object.specs.Symbol.{symbolAt, symbolName, bindingOf}
-use Rattle.object.specs.Entries.{actionOf}
+use Rattle.object.specs.RelocationTypes.{Row, noSearch, inScope, ignored, passedOver, turnedAway, copies, writes, rowOf}
 use Rattle.object.specs.Record.{Record}
 use Rattle.object.specs.declared.relocate.Rela.{Rela}
-use Rattle.object.specs.declared.relocate.Action.{Action}
-use Rattle.object.specs.declared.relocate.Action.the-variants.{Ignored, Passed, Relative, Symbolic, Copy, Irelative}
 use Rattle.binder.specs.Instance.{File, fileImage, fileRecord, relasOf}
 use Rattle.binder.specs.Verdict.{noFile}
 
@@ -31,31 +29,31 @@ isAbsent (answer k s a) = false
 abbrev pub unresolved : List ℕ → Record → Rela → Answer → Bool
 unresolved image r e a = both (isAbsent a) (not (eqb (bindingOf (symbolAt image (r .symbols) (e .symbol))) 2))
 
-unfoldable pub undefinedBy : Objs → ℕ → List ℕ → Record → Rela → Action → Bool
-undefinedBy S k image r e Ignored = false
-undefinedBy S k image r e Passed = false
-undefinedBy S k image r e Irelative = false
-undefinedBy S k image r e Relative = false
-undefinedBy S k image r e Symbolic = unresolved image r e (resolve S k (symbolName image (r .symbols) (r .strings) (e .symbol)))
-undefinedBy S k image r e Copy = unresolved image r e (resolveCopy S (symbolName image (r .symbols) (r .strings) (e .symbol)))
+-- an undefined entry, by the row of its type
+unfoldable pub undefinedBy : Objs → ℕ → List ℕ → Record → Rela → Row → Bool
+undefinedBy S k image r e ignored = false
+undefinedBy S k image r e passedOver = false
+undefinedBy S k image r e turnedAway = false
+undefinedBy S k image r e (writes noSearch f) = false
+undefinedBy S k image r e (writes inScope f) = unresolved image r e (resolve S k (symbolName image (r .symbols) (r .strings) (e .symbol)))
+undefinedBy S k image r e copies = unresolved image r e (resolveCopy S (symbolName image (r .symbols) (r .strings) (e .symbol)))
 
 abbrev pub isUndefined : Objs → ℕ → List ℕ → Record → Rela → Bool
-isUndefined S k image r e = undefinedBy S k image r e (actionOf (e .kind))
+isUndefined S k image r e = undefinedBy S k image r e (rowOf (e .kind))
 
-abbrev pub isPassed : Action → Bool
-isPassed Ignored = false
-isPassed Passed = true
-isPassed Relative = false
-isPassed Symbolic = false
-isPassed Copy = false
-isPassed Irelative = false
+abbrev pub isPassed : Row → Bool
+isPassed ignored = false
+isPassed passedOver = true
+isPassed turnedAway = false
+isPassed (writes search f) = false
+isPassed copies = false
 
 -- the words of the entries, the first of which has the number `i`
 unfoldable pub entryReport : Objs → ℕ → List ℕ → Record → ℕ → List Rela → List ℕ
 entryReport S k image r i [] = []
 entryReport S k image r i (e ∷ es) =
     pick (isUndefined S k image r e) (reportWord 6 i ∷ [])
-    (pick (isPassed (actionOf (e .kind))) (reportWord 7 i ∷ []) [])
+    (pick (isPassed (rowOf (e .kind))) (reportWord 7 i ∷ []) [])
     ++ entryReport S k image r (i + 1) es
 
 unfoldable pub objectWords : Objs → ℕ → File → List ℕ

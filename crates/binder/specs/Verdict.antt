@@ -12,14 +12,13 @@ use Rattle.model.specs.Scope.{resolve, resolveCopy}
 use Rattle.object.specs.Refusal.{require}
 use Rattle.object.specs.TableBytes.{inWritable}
 use Rattle.object.specs.Symbol.{bindingOf}
-use Rattle.object.specs.Entries.{actionOf, Word, place, nowhere}
+use Rattle.object.specs.RelocationTypes.{Row, noSearch, inScope, ignored, passedOver, turnedAway, copies, writes, rowOf}
+use Rattle.object.specs.Entries.{Word, place, nowhere}
 use Rattle.object.specs.Record.{Record, checkedSymbol, nameOf}
 use Rattle.object.specs.Placed.{objectSpan}
 use Rattle.object.specs.Loaded.{objectRefusal}
 use Rattle.object.specs.declared.symbol.Symbol.{Symbol}
 use Rattle.object.specs.declared.relocate.Rela.{Rela}
-use Rattle.object.specs.declared.relocate.Action.{Action}
-use Rattle.object.specs.declared.relocate.Action.the-variants.{Ignored, Passed, Relative, Symbolic, Copy, Irelative}
 use Rattle.object.specs.declared.entry_symbol.CheckedSymbol.{CheckedSymbol}
 use Rattle.object.specs.declared.entry_symbol.CheckedSymbol.the-variants.{Refused, Checked}
 use Rattle.binder.specs.Instance.{File, fileImage, fileRecord, namedWords, relasOf}
@@ -76,17 +75,18 @@ abbrev pub symbolThen : CheckedSymbol → (Symbol → ℕ) → ℕ
 symbolThen (Refused n) rest = n
 symbolThen (Checked y) rest = rest y
 
-unfoldable pub refusalBy : Objs → ℕ → List ℕ → Record → Rela → Action → ℕ
-refusalBy S k image r e Ignored = 0
-refusalBy S k image r e Passed = 0
-refusalBy S k image r e Irelative = 16
-refusalBy S k image r e Relative = writtenRefusal r (e .place) 8
-refusalBy S k image r e Symbolic = symbolThen (checkedSymbol image r (e .symbol)) (λ y. writtenRefusal r (e .place) 8)
-refusalBy S k image r e Copy =
+-- 14 to 18 of an entry, by the row of its type
+unfoldable pub refusalBy : Objs → ℕ → List ℕ → Record → Rela → Row → ℕ
+refusalBy S k image r e ignored = 0
+refusalBy S k image r e passedOver = 0
+refusalBy S k image r e turnedAway = 16
+refusalBy S k image r e (writes noSearch f) = writtenRefusal r (e .place) (f .width)
+refusalBy S k image r e (writes inScope f) = symbolThen (checkedSymbol image r (e .symbol)) (λ y. writtenRefusal r (e .place) (f .width))
+refusalBy S k image r e copies =
     symbolThen (checkedSymbol image r (e .symbol)) (λ y. copyRefusal S k r (e .place) (y .size) (resolveCopy S (nameOf image r y)))
 
 abbrev pub entryRefusal : Objs → ℕ → List ℕ → Record → Rela → ℕ
-entryRefusal S k image r e = refusalBy S k image r e (actionOf (e .kind))
+entryRefusal S k image r e = refusalBy S k image r e (rowOf (e .kind))
 
 -- the words that RELR names, then the entries of RELA and PLT
 unfoldable pub wordsVerdict : ℕ → Record → List Word → Verdict

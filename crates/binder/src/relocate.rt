@@ -6,13 +6,15 @@ ghost use lib.Dec.{eqb};
 ghost use lib.ListN.{length, take};
 ghost use Rattle.words.specs.Choice.{pick};
 ghost use Rattle.words.specs.Names.{nameAt};
-ghost use Rattle.object.specs.Entries.{relaAt, actionOf};
+ghost use Rattle.object.specs.RelocationTypes.{rowOf};
+ghost use Rattle.object.specs.Entries.{relaAt};
+ghost use Rattle.object.specs.Steps.Actions.{relativeField, symbolicField, rowBy};
 ghost use Rattle.object.specs.declared.relocate.Action.the-variants as actions;
 ghost use Rattle.object.specs.Record.{heldBy, checkedSymbol};
 ghost use Rattle.object.specs.Steps.WritableRange.{WritableRange};
 ghost use Rattle.sheet.specs.Steps.Parts.{inputsIn};
 ghost use Rattle.scope.specs.Steps.Seats.{Filtered};
-ghost use Rattle.binder.specs.Steps.Relocating.{left, wrote, started, imageIn, relativeOf, symbolRefusal, writeFound, soughtFor, soughtForCopy, symbolicOf, copyingOf, runAction, runTable, runTables, runObject, runAt, runOrder};
+ghost use Rattle.binder.specs.Steps.Relocating.{left, wrote, started, imageIn, fixedOf, symbolRefusal, writeFound, soughtFor, soughtForCopy, symbolicOf, copyingOf, runAction, runTable, runTables, runObject, runAt, runOrder};
 ghost use Rattle.binder.specs.Steps.RunSteps.{InReach, EntriesPassed, SymbolsOf, EntryRead, addressIn, SymbolsPassed};
 ghost use Rattle.binder.specs.declared.relocate.Address.the-variants.{At};
 use crate::order::Order;
@@ -32,7 +34,7 @@ use sheet::sheet::Parts;
 
 // Type 8: base + addend.
 fn relative(arena: &mut [u8], p: Progress, t: Turn, b: Bounds, e: Rela) -> Progress
-    ensures { λ r. ⌜ wrote r (now (arena .exit)) ≡ relativeOf t (take (b .count) (b .segments)) e p (now (arena .entry)) ⌝ }
+    ensures { λ r. ⌜ wrote r (now (arena .exit)) ≡ fixedOf t (take (b .count) (b .segments)) e relativeField p (now (arena .entry)) ⌝ }
 {
     if !object::table_bytes::in_writable(b, e.place, 8) {
         return crate::report::refused(p, t, 17);
@@ -100,7 +102,7 @@ fn write_found(
     y: Symbol,
     s: Scoped,
 ) -> Progress
-    ensures { λ r. ⌜ left r (now (arena .exit)) (now (report .exit)) ≡ writeFound t e i y s p (now (arena .entry)) (now (report .entry)) ⌝ }
+    ensures { λ r. ⌜ left r (now (arena .exit)) (now (report .exit)) ≡ writeFound t e symbolicField i y s p (now (arena .entry)) (now (report .entry)) ⌝ }
 {
     let Scoped::Found {
         object: _,
@@ -139,7 +141,7 @@ fn symbolic(
     e: Rela,
 ) -> Progress
     requires { ⌜ Filtered (now table) count ⌝ }
-    ensures { λ r. ⌜ left r (now (arena .exit)) (now (report .exit)) ≡ symbolicOf address (now (table .entry)) count t (heldBy o) e i (checkedSymbol (imageIn (now (arena .entry)) t) (heldBy o) (e .symbol)) p (now (arena .entry)) (now (report .entry)) ⌝ }
+    ensures { λ r. ⌜ left r (now (arena .exit)) (now (report .exit)) ≡ symbolicOf address (now (table .entry)) count t (heldBy o) e symbolicField i (checkedSymbol (imageIn (now (arena .entry)) t) (heldBy o) (e .symbol)) p (now (arena .entry)) (now (report .entry)) ⌝ }
 {
     let c = symbol_of(arena, t, o, e.symbol);
     let CheckedSymbol::Checked(y) = c else {
@@ -196,7 +198,7 @@ fn run_action(
     a: Action,
 ) -> Progress
     requires { ⌜ Filtered (now table) count ⌝ }
-    ensures { λ r. ⌜ left r (now (arena .exit)) (now (report .exit)) ≡ runAction address (now (table .entry)) count t (heldBy o) i e a p (now (arena .entry)) (now (report .entry)) ⌝ }
+    ensures { λ r. ⌜ left r (now (arena .exit)) (now (report .exit)) ≡ runAction address (now (table .entry)) count t (heldBy o) i e (rowBy a) p (now (arena .entry)) (now (report .entry)) ⌝ }
 {
     match a {
         Action::Ignored => p,
@@ -241,7 +243,7 @@ fn in_reach(len: usize, t: Turn, at: usize, n: u32, high: usize) -> bool
     n as usize <= (t.span - at) / 24
 }
 
-// As many entries of type 8 as follow one another from entry `start` on, below `n`, with places in low .. high, which is in a writable
+// As many entries that are Relative as follow one another from entry `start` on, below `n`, with places in low .. high, which is in a writable
 // segment: base + addend. The first entry that is not of this kind. The entries are read where the table is inside the span, and nothing is
 // done elsewhere.
 fn relatives(
@@ -263,7 +265,7 @@ fn relatives(
     let mut i = start;
     let mut k = t.offset + at + 24 * (start as usize);
     while i < n {
-        if words::bytes::u32_in(arena, k + 8) != 8 {
+        if !is_relative(words::bytes::u32_in(arena, k + 8)) {
             return i;
         }
         let place = words::bytes::u64_in(arena, k) as usize;
@@ -314,16 +316,24 @@ fn symbols_of(arena: &[u8], t: Turn, o: ObjectData) -> Symbols
     }
 }
 
-fn is_symbolic(kind: u32) -> bool
-    ensures { λ r. ⌜ (r ≡ true → actionOf kind ≡ actions.Symbolic) ⌝ }
+fn is_relative(kind: u32) -> bool
+    ensures { λ r. ⌜ (r ≡ true → rowOf kind ≡ rowBy actions.Relative) ⌝ }
 {
-    if kind == 6 {
-        return true;
+    let a = object::relocate::action_of(kind);
+    match a {
+        Action::Relative => true,
+        _ => false,
     }
-    if kind == 7 {
-        return true;
+}
+
+fn is_symbolic(kind: u32) -> bool
+    ensures { λ r. ⌜ (r ≡ true → rowOf kind ≡ rowBy actions.Symbolic) ⌝ }
+{
+    let a = object::relocate::action_of(kind);
+    match a {
+        Action::Symbolic => true,
+        _ => false,
     }
-    false
 }
 
 // Whether the symbols that need no test lie in the span.
@@ -336,7 +346,7 @@ fn symbols_in(t: Turn, y: Symbols) -> bool
     y.fits <= (t.span - y.symbols) / 24
 }
 
-// An entry of type 6 or 7 whose place is in low .. high and whose symbol needs no further test: its place, its symbol and the symbol's name.
+// An entry that is Symbolic, whose place is in low .. high and whose symbol needs no further test: its place, its symbol and the symbol's name.
 pub enum SymbolEntry {
     Other,
     Here { place: usize, index: u32, name: u32 },
@@ -402,7 +412,7 @@ fn address_of(
     }
 }
 
-// As `relatives`, for entries of types 6 and 7 whose symbols need no further test and are found: the address. The first entry that is not of
+// As `relatives`, for entries that are Symbolic whose symbols need no further test and are found: the address. The first entry that is not of
 // this kind, and the answer that is kept then.
 fn symbolics(
     arena: &mut [u8],
@@ -460,16 +470,15 @@ fn symbolics(
     p
 }
 
-// The range to be used after an entry: after one of types 6, 7 and 8, the segment of its place.
+// The range to be used after an entry: after one that the loops above do, the segment of its place.
 fn range_after(w: Writable, b: Bounds, kind: u32, place: usize) -> Writable
     requires { ⌜ WritableRange (take (b .count) (b .segments)) (w .low) (w .high) ⌝ }
     ensures { λ r. ⌜ WritableRange (take (b .count) (b .segments)) (r .low) (r .high) ⌝ }
 {
-    if kind < 6 {
-        return w;
-    }
-    if 8 < kind {
-        return w;
+    if !is_relative(kind) {
+        if !is_symbolic(kind) {
+            return w;
+        }
     }
     object::table_bytes::writable_at(b, place, 8)
 }

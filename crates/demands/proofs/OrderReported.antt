@@ -11,7 +11,7 @@ use Rattle.words.specs.Choice.{pick}
 use Rattle.model.specs.Objects.{Objs}
 use Rattle.model.specs.Order.{has, Before, Reach, OnceEach}
 use Rattle.model.proofs.OrderLaws.{has-head, has-cons, needed-first}
-use Rattle.object.specs.Entries.{actionOf}
+use Rattle.object.specs.RelocationTypes.{rowOf}
 use Rattle.object.specs.Record.{Record}
 use Rattle.object.specs.declared.relocate.Rela.{Rela}
 use Rattle.sheet.specs.Sheet.{Input, setOf}
@@ -66,7 +66,7 @@ entries-none : (S : Objs) (k : ℕ) (image : List ℕ) (r : Record) (i : ℕ) (e
 unfolding entryReport numbersOf
 entries-none S k image r i [] = refl
 entries-none S k image r i (e ∷ es) =
-    entry-none i (isUndefined S k image r e) (isPassed (actionOf (e .kind))) (entryReport S k image r (i + 1) es)
+    entry-none i (isUndefined S k image r e) (isPassed (rowOf (e .kind))) (entryReport S k image r (i + 1) es)
     ∙ entries-none S k image r (i + 1) es
 
 -- the words of an order whose numbers fit 28 bits

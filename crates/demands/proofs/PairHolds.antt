@@ -28,7 +28,8 @@ use Rattle.object.specs.Symbol.{symbolFrom, isExported}
 use Rattle.object.specs.HashTable.{walk, walkFrom, mayHold, isHit, firstIn, findBy, definition, answerIn}
 use Rattle.object.specs.HashTable as hashes
 use Rattle.object.specs.HashCheck.{symbolOk}
-use Rattle.object.specs.Entries.{relaAt, relasFrom, relrsFrom, relrWords, actionOf}
+use Rattle.object.specs.Entries.{relaAt, relasFrom, relrsFrom, relrWords}
+use Rattle.object.specs.RelocationTypes.{rowOf}
 use Rattle.object.specs.Placed.{objectBytes}
 use Rattle.object.specs.Record.{Record, viewOf, indexOk, checkedSymbol}
 use Rattle.sheet.specs.Sheet.{Input, pairOk, libWords, total, sheetOk, cut, libsOf, setOf, arenaOk, twinFrom}
@@ -119,7 +120,7 @@ unfolding objectAt
 host-is = rw (host-reads .image-is, host-reads .record-is, host-reads .span-is)
 
 program-is : objectAt 0x10000000 (file false programFile) 0x1000 ≡ programObj
-unfolding objectAt bytesOf tab mem byteOf leAt untilZero placesOf namedWords relrWords relrsFrom relasOf relasFrom relaAt entryBy actionOf
+unfolding objectAt bytesOf tab mem byteOf leAt untilZero placesOf namedWords relrWords relrsFrom relasOf relasFrom relaAt entryBy rowOf
 program-is = rw (program-reads .image-is, program-reads .record-is, program-reads .span-is)
 
 a-is : objectAt 0x10000000 (file false (libraryFile 97)) 0x3000 ≡ libraryObj 97 0x3000
@@ -206,7 +207,7 @@ T-order = order-two _ (rw (a-reads .record-is)) (rw (b-reads .record-is))
 
 program-verdict : (A : Objs) → objectVerdict A 1 (file false programFile) ≡ passed
 unfolding objectVerdict wordsVerdict entriesVerdict verdict refusalBy bytesOf every some tab mem byteOf leAt untilZero namedWords relrWords relrsFrom
-    relasOf relasFrom relaAt actionOf checkedSymbol indexOk symbolOk isTable tableBytes tableName inWritable require below
+    relasOf relasFrom relaAt rowOf checkedSymbol indexOk symbolOk isTable tableBytes tableName inWritable require below
 program-verdict A = rw (program-reads .image-is, program-reads .record-is)
 
 library-verdict : (A : Objs) (k c : ℕ) → Reads false (libraryFile c) 0x1000 (libraryImage c) libraryRecord → objectVerdict A k (file false (libraryFile c)) ≡ passed
@@ -242,7 +243,7 @@ look = record { a-in-S = refl; a-in-T = refl; b-in-S = refl; b-in-T = refl }
 program-words :
     (A : Objs) (t : Bool) → isAbsent (resolve A 1 (97 ∷ [])) ≡ false → isAbsent (resolve A 1 (98 ∷ [])) ≡ t
     → objectWords A 1 (file false programFile) ≡ 0x50000001 ∷ pick t (0x60000001 ∷ []) []
-unfolding objectWords entryReport undefinedBy bytesOf tab mem byteOf leAt untilZero relasOf relasFrom relaAt actionOf symbolFrom
+unfolding objectWords entryReport undefinedBy bytesOf tab mem byteOf leAt untilZero relasOf relasFrom relaAt rowOf symbolFrom
 program-words A true a b = rw (program-reads .image-is, program-reads .record-is, a, b)
 program-words A false a b = rw (program-reads .image-is, program-reads .record-is, a, b)
 

@@ -24,7 +24,7 @@ use Rattle.object.specs.Symbol.{symbolAt}
 use Rattle.object.specs.HashCheck.{symbolOk}
 use Rattle.object.specs.TableBytes.{inWritable}
 use Rattle.object.specs.Loaded.{objectRefusal}
-use Rattle.object.specs.Entries.{actionOf, Word, place, nowhere}
+use Rattle.object.specs.Entries.{Word, place, nowhere}
 use Rattle.object.specs.DynamicArray.{endsInside}
 use Rattle.object.specs.DynamicFields.{Fields, fieldsOf}
 use Rattle.object.specs.declared.program_header.Segment.{Segment}
@@ -32,8 +32,7 @@ use Rattle.object.specs.declared.program_header.Dynamic.{Dynamic}
 use Rattle.object.specs.declared.program_header.Dynamic.the-variants.{Missing, At}
 use Rattle.object.specs.declared.symbol.Symbol.{Symbol}
 use Rattle.object.specs.declared.relocate.Rela.{Rela}
-use Rattle.object.specs.declared.relocate.Action.{Action}
-use Rattle.object.specs.declared.relocate.Action.the-variants.{Ignored, Passed, Relative, Symbolic, Copy, Irelative}
+use Rattle.object.specs.RelocationTypes.{Row, noSearch, inScope, ignored, passedOver, turnedAway, copies, writes, rowOf}
 use Rattle.object.specs.declared.entry_symbol.CheckedSymbol.the-variants.{Refused, Checked}
 use Rattle.sheet.specs.Sheet.{Input, noInput, named, twinFrom, twinOf}
 use Rattle.binder.specs.Instance.{File, fileImage, fileRecord, namedWords, relasOf}
@@ -159,15 +158,15 @@ symbol-range image r i rest h =
     go true false = λ z. omega arith
     go false t = λ z. omega arith
 
-entry-range : (S : Objs) (k : ℕ) (image : List ℕ) (r : Record) (e : Rela) (a : Action) → Range 14 18 (refusalBy S k image r e a)
+entry-range : (S : Objs) (k : ℕ) (image : List ℕ) (r : Record) (e : Rela) (x : Row) → Range 14 18 (refusalBy S k image r e x)
 unfolding refusalBy
-entry-range S k image r e Ignored = λ z. absurd (omega arith)
-entry-range S k image r e Passed = λ z. absurd (omega arith)
-entry-range S k image r e Irelative = λ z. omega arith
-entry-range S k image r e Relative = written-range r (e .place) 8
-entry-range S k image r e Symbolic =
-    symbol-range image r (e .symbol) (λ y. writtenRefusal r (e .place) 8) (λ y. written-range r (e .place) 8)
-entry-range S k image r e Copy =
+entry-range S k image r e ignored = λ z. absurd (omega arith)
+entry-range S k image r e passedOver = λ z. absurd (omega arith)
+entry-range S k image r e turnedAway = λ z. omega arith
+entry-range S k image r e (writes noSearch f) = written-range r (e .place) (f .width)
+entry-range S k image r e (writes inScope f) =
+    symbol-range image r (e .symbol) (λ y. writtenRefusal r (e .place) (f .width)) (λ y. written-range r (e .place) (f .width))
+entry-range S k image r e copies =
     symbol-range image r (e .symbol) (λ y. copyRefusal S k r (e .place) (y .size) (resolveCopy S (nameOf image r y)))
     (λ y. copy-range S k r (e .place) (y .size) (resolveCopy S (nameOf image r y)))
 
@@ -229,7 +228,7 @@ module _ (P : ℕ → ℕ → Type 0) where
     entries-meets image r [] = tt
     entries-meets image r (e ∷ es) =
         first-meets (verdict (entryRefusal S k image r e) k) _
-        (verdict-meets 14 18 (entryRefusal S k image r e) k (entry-range S k image r e (actionOf (e .kind))) (h _)) (entries-meets image r es)
+        (verdict-meets 14 18 (entryRefusal S k image r e) k (entry-range S k image r e (rowOf (e .kind))) (h _)) (entries-meets image r es)
 
     object-meets : (f : File) → Meets P (objectVerdict S k f)
     unfolding objectVerdict

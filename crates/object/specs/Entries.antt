@@ -1,5 +1,5 @@
 -- Relocation entries. System V gABI, "Relocation" (Elf64_Rela: r_offset, r_info, r_addend; ELF64_R_SYM, ELF64_R_TYPE; Elf64_Relr);
--- x86-64 psABI, "Relocation Types". Document 01, "Relocated bytes and report". Assumes nothing.
+-- document 01, "Relocated bytes and report". Assumes nothing.
 use mathlib.Core.Bool.{Bool}
 use mathlib.Core.List.{List, [], _∷_, _++_}
 use Prim.Native.Nat.{ℕ, zero, suc, _+_, _*_, _/_, _%_, _^_}
@@ -10,8 +10,6 @@ use Rattle.words.specs.Words.{leAt}
 use Rattle.object.specs.declared.relocate.Rela.{Rela}
 use Rattle.object.specs.declared.relocate.Relr.{Relr}
 use Rattle.object.specs.declared.relocate.Relr.the-variants.{Address, Bitmap}
-use Rattle.object.specs.declared.relocate.Action.{Action}
-use Rattle.object.specs.declared.relocate.Action.the-variants.{Ignored, Passed, Relative, Symbolic, Copy, Irelative}
 
 -- ---- RELA and PLT
 
@@ -29,17 +27,6 @@ relaAt image table i =
 unfoldable pub relasFrom : List ℕ → ℕ → ℕ → ℕ → List Rela
 relasFrom image table i zero = []
 relasFrom image table i (suc n) = relaAt image table i ∷ relasFrom image table (i + 1) n
-
--- "Types: 8 writes base + addend; 6 and 7 write the address or 0, addend unused; 5 copies ..; the rest are passed over"; type 0 gets no
--- report word, and type 37 is refused
-unfoldable pub actionOf : ℕ → Action
-actionOf kind =
-    pick (eqb kind 0) Ignored
-    (pick (eqb kind 5) Copy
-    (pick (eqb kind 6) Symbolic
-    (pick (eqb kind 7) Symbolic
-    (pick (eqb kind 8) Relative
-    (pick (eqb kind 37) Irelative Passed)))))
 
 -- ---- RELR
 

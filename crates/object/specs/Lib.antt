@@ -14,6 +14,7 @@ pub mod WalksEnd
 pub mod SymbolCount
 pub mod Record
 pub mod Loaded
+pub mod RelocationTypes
 pub mod Entries
 pub mod Invariant
 pub mod Steps

@@ -6,3 +6,4 @@ pub mod LastZero
 pub mod Slots
 pub mod Marks
 pub mod FineRange
+pub mod Actions

@@ -1,6 +1,8 @@
 // Relocation entries: port of elf/relocate.rs.
 ghost use mathlib.Core.Path.{_≡_};
-ghost use Rattle.object.specs.Entries.{relaAt, actionOf, relrAt, relrOf};
+ghost use Rattle.object.specs.RelocationTypes.{rowOf};
+ghost use Rattle.object.specs.Entries.{relaAt, relrAt, relrOf};
+ghost use Rattle.object.specs.Steps.Actions.{rowBy};
 
 // An entry of the RELA or PLT table: r_offset, the two halves of r_info, r_addend.
 pub struct Rela {
@@ -39,9 +41,9 @@ pub fn rela_at(image: &[u8], table: usize, i: u32) -> Rela
     }
 }
 
-// What the type of an entry asks for.
+// What the type of an entry asks for. No other function lists types.
 pub fn action_of(kind: u32) -> Action
-    ensures { λ r. ⌜ r ≡ actionOf kind ⌝ }
+    ensures { λ r. ⌜ rowBy r ≡ rowOf kind ⌝ }
 {
     match kind {
         0 => Action::Ignored,

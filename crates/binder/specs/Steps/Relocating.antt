@@ -14,7 +14,8 @@ use Rattle.words.specs.Hash.{gnuHash, elfHash}
 use Rattle.object.specs.TableBytes.{inWritable}
 use Rattle.object.specs.Symbol.{bindingOf}
 use Rattle.object.specs.ProgramHeader.{loadsOf, dynamicOf}
-use Rattle.object.specs.Entries.{relaAt, relrAt, relrOf, actionOf}
+use Rattle.object.specs.RelocationTypes.{Field, Row, noSearch, inScope, ignored, passedOver, turnedAway, copies, writes, rowOf}
+use Rattle.object.specs.Entries.{relaAt, relrAt, relrOf}
 use Rattle.object.specs.Record.{Record, checkedSymbol, nameOf, readRefusal, recordAt}
 use Rattle.object.specs.declared.program_header.Segment.{Segment}
 use Rattle.object.specs.declared.hash_tables.Definition.{Definition}
@@ -22,8 +23,6 @@ use Rattle.object.specs.declared.symbol.Symbol.{Symbol}
 use Rattle.object.specs.declared.relocate.Rela.{Rela}
 use Rattle.object.specs.declared.relocate.Relr.{Relr}
 use Rattle.object.specs.declared.relocate.Relr.the-variants.{Address, Bitmap}
-use Rattle.object.specs.declared.relocate.Action.{Action}
-use Rattle.object.specs.declared.relocate.Action.the-variants.{Ignored, Passed, Relative, Symbolic, Copy, Irelative}
 use Rattle.object.specs.declared.entry_symbol.CheckedSymbol.{CheckedSymbol}
 use Rattle.object.specs.declared.entry_symbol.CheckedSymbol.the-variants.{Refused, Checked}
 use Rattle.sheet.specs.Sheet.{Input, noInput}
@@ -197,10 +196,14 @@ addRelrs t r (suc n) i location a =
 
 -- ---- RELA and PLT
 
--- 8: base + addend
-unfoldable pub relativeOf : Turn → List Segment → Rela → Progress → List ℕ → Wrote
-relativeOf t segments e p a =
-    pick (inWritable segments (e .place) 8) (wrote p (patch a (t .offset + e .place) 8 (byteOf (sum64 (t .base) (e .addend)))))
+-- the bytes of an entry's field, where its symbol has the address S
+abbrev pub fieldBytes : Turn → Rela → Field → ℕ → ℕ → ℕ
+fieldBytes t e f S = byteOf (f .value S (e .addend) (t .base) (t .base + e .place))
+
+-- a field without a search
+unfoldable pub fixedOf : Turn → List Segment → Rela → Field → Progress → List ℕ → Wrote
+fixedOf t segments e f p a =
+    pick (inWritable segments (e .place) (f .width)) (wrote p (patch a (t .offset + e .place) (f .width) (fieldBytes t e f 0)))
     (wrote (refusedBy t 17 p) a)
 
 -- 14 or 15; 0 is none
@@ -212,11 +215,12 @@ symbolRefusal (Checked y) = 0
 abbrev pub keepsWeak : ℕ → Symbol → Noted → Noted
 keepsWeak last y (noted p report) = noted (pick (eqb (bindingOf y) 2) (keeps last 0 p) p) report
 
--- 6 and 7: the address that was found, which is kept, or 0 and a report word
-unfoldable pub writeFound : Turn → Rela → ℕ → Symbol → Scoped → Progress → List ℕ → List ℕ → Left
-writeFound t e i y Absent p a report =
-    withArena (patch a (t .offset + e .place) 8 (byteOf 0)) (keepsWeak (e .symbol + 1) y (unresolvedOf y (t .number) i p report))
-writeFound t e i y (Found k d x) p a report = left (keeps (e .symbol + 1) x p) (patch a (t .offset + e .place) 8 (byteOf x)) report
+-- a field with a search: by the address that was found, which is kept, or by 0, and a report word
+unfoldable pub writeFound : Turn → Rela → Field → ℕ → Symbol → Scoped → Progress → List ℕ → List ℕ → Left
+writeFound t e f i y Absent p a report =
+    withArena (patch a (t .offset + e .place) (f .width) (fieldBytes t e f 0)) (keepsWeak (e .symbol + 1) y (unresolvedOf y (t .number) i p report))
+writeFound t e f i y (Found k d x) p a report =
+    left (keeps (e .symbol + 1) x p) (patch a (t .offset + e .place) (f .width) (fieldBytes t e f x)) report
 
 -- the `n` bytes of the definition `d`, in the object at the seat `s`, may be copied to the place `to` of the object whose turn it is: the
 -- tests of refusal 18, and both ranges end inside an arena of `size` bytes
@@ -272,34 +276,35 @@ module _ (address : ℕ) (table : List ℕ) (count : ℕ) where
   soughtForCopy a name = resolveCopySeats address a table count name (gnuHash name) (elfHash name)
 
   -- the kept answer, where it is the symbol's, or a search
-  unfoldable pub answeredOf : Turn → Record → Rela → ℕ → Symbol → Progress → List ℕ → List ℕ → Left
-  answeredOf t r e i y p a report =
-      pick (eqb (p .last) (e .symbol + 1)) (left p (patch a (t .offset + e .place) 8 (byteOf (p .address))) report)
-      (writeFound t e i y (soughtFor t a (nameOf (imageIn a t) r y)) p a report)
+  unfoldable pub answeredOf : Turn → Record → Rela → Field → ℕ → Symbol → Progress → List ℕ → List ℕ → Left
+  answeredOf t r e f i y p a report =
+      pick (eqb (p .last) (e .symbol + 1)) (left p (patch a (t .offset + e .place) (f .width) (fieldBytes t e f (p .address))) report)
+      (writeFound t e f i y (soughtFor t a (nameOf (imageIn a t) r y)) p a report)
 
-  unfoldable pub symbolicOf : Turn → Record → Rela → ℕ → CheckedSymbol → Progress → List ℕ → List ℕ → Left
-  symbolicOf t r e i (Refused n) p a report = left (refusedBy t n p) a report
-  symbolicOf t r e i (Checked y) p a report =
-      pick (inWritable (r .segments) (e .place) 8) (answeredOf t r e i y p a report) (left (refusedBy t 17 p) a report)
+  unfoldable pub symbolicOf : Turn → Record → Rela → Field → ℕ → CheckedSymbol → Progress → List ℕ → List ℕ → Left
+  symbolicOf t r e f i (Refused n) p a report = left (refusedBy t n p) a report
+  symbolicOf t r e f i (Checked y) p a report =
+      pick (inWritable (r .segments) (e .place) (f .width)) (answeredOf t r e f i y p a report) (left (refusedBy t 17 p) a report)
 
   unfoldable pub copyingOf : Turn → Record → Rela → ℕ → CheckedSymbol → Progress → List ℕ → List ℕ → Left
   copyingOf t r e i (Refused n) p a report = left (refusedBy t n p) a report
   copyingOf t r e i (Checked y) p a report = copyOf table t (r .segments) e i y (soughtForCopy a (nameOf (imageIn a t) r y)) p a report
 
-  unfoldable pub runAction : Turn → Record → ℕ → Rela → Action → Progress → List ℕ → List ℕ → Left
-  runAction t r i e Ignored p a report = left p a report
-  runAction t r i e Passed p a report = withArena a (noteOf (reportSum 7 i) p report)
-  runAction t r i e Irelative p a report = left (refusedBy t 16 p) a report
-  runAction t r i e Relative p a report = withReport report (relativeOf t (r .segments) e p a)
-  runAction t r i e Symbolic p a report = symbolicOf t r e i (checkedSymbol (imageIn a t) r (e .symbol)) p a report
-  runAction t r i e Copy p a report = copyingOf t r e i (checkedSymbol (imageIn a t) r (e .symbol)) p a report
+  -- an entry, by the row of its type
+  unfoldable pub runAction : Turn → Record → ℕ → Rela → Row → Progress → List ℕ → List ℕ → Left
+  runAction t r i e ignored p a report = left p a report
+  runAction t r i e passedOver p a report = withArena a (noteOf (reportSum 7 i) p report)
+  runAction t r i e turnedAway p a report = left (refusedBy t 16 p) a report
+  runAction t r i e (writes noSearch f) p a report = withReport report (fixedOf t (r .segments) e f p a)
+  runAction t r i e (writes inScope f) p a report = symbolicOf t r e f i (checkedSymbol (imageIn a t) r (e .symbol)) p a report
+  runAction t r i e copies p a report = copyingOf t r e i (checkedSymbol (imageIn a t) r (e .symbol)) p a report
 
   -- `n` entries of the table at `at` from entry `j` on; the table's first has the number `first`
   unfoldable pub runTable : Turn → Record → ℕ → ℕ → ℕ → ℕ → Left → Left
   runTable t r at first zero j st = st
   runTable t r at first (suc n) j (left p a report) =
       unlessRefused (runTable t r at first n (j + 1))
-      (runAction t r ((first + j) % 2 ^ 32) (relaAt (imageIn a t) at j) (actionOf (relaAt (imageIn a t) at j .kind)) p a report)
+      (runAction t r ((first + j) % 2 ^ 32) (relaAt (imageIn a t) at j) (rowOf (relaAt (imageIn a t) at j .kind)) p a report)
 
   -- ---- an object
 

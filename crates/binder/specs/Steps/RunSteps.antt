@@ -11,7 +11,8 @@ use Rattle.object.specs.Record.{Record, isTableOf}
 use Rattle.object.specs.declared.program_header.Segment.{Segment}
 use Rattle.words.specs.Memory.{mem}
 use Rattle.words.specs.Words.{leAt}
-use Rattle.object.specs.Entries.{actionOf}
+use Rattle.object.specs.RelocationTypes.{rowOf}
+use Rattle.object.specs.Steps.Actions.{rowBy}
 use Rattle.object.specs.declared.relocate.Action.the-variants.{Symbolic}
 use Rattle.scope.specs.declared.scope.Scoped.{Scoped}
 use Rattle.scope.specs.declared.scope.Scoped.the-variants.{Absent, Found}
@@ -53,9 +54,9 @@ pub record SymbolsOf (t : Turn) (r : Record) (y : Symbols) (a : List ℕ) : Type
   pub strings : r .strings ≡ y .strings
   pub fine : FineOf (imageIn a t) r (y .fits) (y .ends)
 
--- the entry that stands at `k` of the arena `a` is of type 6 or 7, its place is in low .. high, and its symbol needs no further test
+-- the entry that stands at `k` of the arena `a` is Symbolic, its place is in low .. high, and its symbol needs no further test
 pub record EntryHere (a : List ℕ) (t : Turn) (y : Symbols) (k low high place index name : ℕ) : Type 0 where
-  pub acts : actionOf (leAt 4 (mem a) (k + 8)) ≡ Symbolic
+  pub acts : rowOf (leAt 4 (mem a) (k + 8)) ≡ rowBy Symbolic
   pub place-is : place ≡ leAt 8 (mem a) k
   pub above : low ≤ place
   pub below : place + 8 ≤ high

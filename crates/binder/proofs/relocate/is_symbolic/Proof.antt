@@ -1,19 +1,14 @@
 -- `binder::relocate::is_symbolic` meets its contract. Assumes nothing.
-use mathlib.Core.Path.{sym}
+use mathlib.Core.Path.{sym, ap, _∙_}
 use mathlib.Core.Bool.{true≢false}
-use Rattle.object.specs.Entries as entries
+use Rattle.object.specs.Steps.Actions.{rowBy}
+use borrow.Author.Needs.{needs}
 use Rattle.binder.proofs.relocate.is_symbolic.Statement.{statement}
 use Rattle.binder.proofs.relocate.is_symbolic.Tie as tie
 
 returns : tie.Need-returns
-unfolding entries.actionOf
 returns c =
-    λ _. rw (c .if1 .taken)
-
-returns-2 : tie.Need-returns-2
-unfolding entries.actionOf
-returns-2 c =
-    λ _. rw (c .if2 .taken)
+    λ _. sym (c .before .before .action-of .ensures) ∙ ap rowBy (c .enum-told .given .1)
 
 pub is-symbolic-spec : {M : Type 1} → statement M
-is-symbolic-spec = tie.close (tie.spec returns returns-2 (λ c e. absurd (true≢false (sym e))))
+is-symbolic-spec = tie.close (tie.spec (λ c κs. search needs) (λ c. search needs) returns (λ c e. absurd (true≢false (sym e))))

@@ -5,6 +5,7 @@ use native.Mathlib.Nat.{sub-zero}
 use native.Mathlib.Omega.{arith}
 use denote.Ref.{now}
 use lib.ListN.{length, take}
+use Rattle.object.specs.Steps.Actions.{rowBy}
 use Rattle.object.proofs.Ranges.{range-none}
 use Rattle.object.specs.Record.{heldBy}
 use Rattle.object.specs.Steps.WritableRange.{WritableRange}
@@ -71,7 +72,7 @@ loop-again c =
       omega (arith, c .before .before .before .before .before .before .before .before .before .before .before .before .before .before .if1 .left),
       c .range-after .ensures,
       λ h. c .before .if2 .left,
-      kept-symbols (a .t) (heldBy (a .o)) (c .before .before .before .before .before .before .before .before .before .before .before .before .before .before .before .before .before .before .before .before .before .before .before .before .before .before .symbols-of .result) (g .last .0) (k .last .0) (entry-kept (a .t) (heldBy (a .o)) (a .address) (now (a .table)) (a .count) (c .before .before .before .before .before .before .before .before .before .before .wrapping-add-u32 .result) (c .before .before .before .before .before .before .before .before .before .before .before .before .rela-in .result) (c .before .before .before .before .before .before .before .before .before .before .before .before .before .before .before .keep .result) (g .last .0) (l .report) (c .before .before .before .before .before .before .before .before .before .before .before .action-of .result) (k .result) (k .last .0) (k .last .1 .0) (k .ensures)) (x .1),
+      kept-symbols (a .t) (heldBy (a .o)) (c .before .before .before .before .before .before .before .before .before .before .before .before .before .before .before .before .before .before .before .before .before .before .before .before .before .before .symbols-of .result) (g .last .0) (k .last .0) (entry-kept (a .t) (heldBy (a .o)) (a .address) (now (a .table)) (a .count) (c .before .before .before .before .before .before .before .before .before .before .wrapping-add-u32 .result) (c .before .before .before .before .before .before .before .before .before .before .before .before .rela-in .result) (c .before .before .before .before .before .before .before .before .before .before .before .before .before .before .before .keep .result) (g .last .0) (l .report) (rowBy (c .before .before .before .before .before .before .before .before .before .before .before .action-of .result)) (k .result) (k .last .0) (k .last .1 .0) (k .ensures)) (x .1),
       entry-goes (a .address) (now (a .table)) (a .count) (a .t) (heldBy (a .o)) (a .at) (a .first) (a .n) (g .result .next) (c .before .before .before .before .before .before .before .before .before .before .before .before .before .before .before .keep .result) (g .last .0) (l .report) {b = k .last .0} {noted = k .last .1 .0}
           (omega (arith, c .before .before .before .before .before .before .before .before .before .before .before .before .before .before .if1 .left)) (c .before .before .before .before .before .before .before .before .before .before .before .before .rela-in .ensures) (c .before .before .before .before .before .before .before .before .before .before .before .action-of .ensures) (c .before .before .before .before .before .before .before .before .before .before .wrapping-add-u32 .ensures) (k .ensures) (x .0) (c .before .if2 .left),
     )

@@ -1,12 +1,12 @@
 -- `object::relocate::action_of` meets its contract: each arm is the definition at its type.
 -- Assumes nothing.
 use borrow.Author.Tests.{ne-eqb}
-use Rattle.object.specs.Entries.{actionOf}
+use Rattle.object.specs.RelocationTypes.{rowOf}
 use Rattle.object.proofs.relocate.action_of.Statement.{statement}
 use Rattle.object.proofs.relocate.action_of.Tie as tie
 
 returns-7 : tie.Need-returns-7
-unfolding actionOf
+unfolding rowOf
 returns-7 c =
     simp (
       ne-eqb _ _ (c .match .rest .1),
@@ -18,7 +18,7 @@ returns-7 c =
     )
 
 pub action-of-spec : {M : Type 1} → statement M
-unfolding actionOf
+unfolding rowOf
 action-of-spec =
     tie.close
     (tie.spec
