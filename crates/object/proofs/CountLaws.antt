@@ -12,8 +12,8 @@ use Rattle.words.specs.Words.{leAt}
 use Rattle.words.proofs.Words.{leAt-past}
 use lib.ListN.{length}
 use Rattle.object.specs.declared.hash_tables.HashTable.{HashTable}
-use Rattle.object.specs.declared.hash_tables.HashTable.the-variants.{Gnu}
-use Rattle.object.specs.HashTable.{bucketAt, chainAt, isLast, nextSymbol, walk}
+use Rattle.object.specs.declared.hash_tables.HashTable.the-variants.{Without, SysV, Gnu}
+use Rattle.object.specs.HashTable.{bucketCount, bucketAt, chainAt, isLast, nextSymbol, walk}
 use Rattle.object.specs.declared.hash_tables.SymbolCount.the-variants.{Known}
 use Rattle.object.specs.SymbolCount.{highest, lastReached, countOf}
 use Rattle.object.proofs.Ranges.{split}
@@ -31,18 +31,20 @@ highest-past m t n (suc k) past =
     let z : max (highest m t (n + k)) 0 ≡ highest m t (n + k) = omega arith in
     rw (add-suc n k, past (n + k) (omega arith)) (z ∙ highest-past m t n k past)
 
-pub highest-cut :
-    (m : List ℕ) (at n first b shift k : ℕ) → k ≡ min n (length m / 4 + 1)
-    → highest m (Gnu at n first b shift) k ≡ highest m (Gnu at n first b shift) n
-highest-cut m at n first b shift k e =
+cut : (m : List ℕ) (t : HashTable) (n k : ℕ) → ((i : ℕ) → 4 * i ≤ bucketAt t i) → k ≡ min n (length m / 4 + 1) → highest m t k ≡ highest m t n
+cut m t n k far e =
     let s : k + (n - k) ≡ n = omega arith in
-    let c : (length m / 4 + 1 ≤ k) ⊎ (n ≤ k) = ⊎-elim (λ (l : length m / 4 + 1 < n). inl (omega arith)) (λ (l : n ≤ length m / 4 + 1). inr (omega arith)) (split (length m / 4 + 1) n) in
     ⊎-elim
-    (λ (h : length m / 4 + 1 ≤ k).
-    sym (ap (highest m (Gnu at n first b shift)) (sym s)
-    ∙ highest-past m (Gnu at n first b shift) k (n - k) (λ i g. leAt-past 4 m (at + (16 + 8 * b + 4 * i)) (omega arith))))
-    (λ (h : n ≤ k). ap (highest m (Gnu at n first b shift)) (omega arith))
-    c
+    (λ (l : length m / 4 + 1 < n).
+    sym (ap (highest m t) (sym s)
+    ∙ highest-past m t k (n - k) (λ i g. let h = far i in leAt-past 4 m (bucketAt t i) (omega arith))))
+    (λ (l : n ≤ length m / 4 + 1). let q : k ≡ n = omega arith in ap (highest m t) q)
+    (split (length m / 4 + 1) n)
+
+pub highest-cut : (m : List ℕ) (t : HashTable) (k : ℕ) → k ≡ min (bucketCount t) (length m / 4 + 1) → highest m t k ≡ highest m t (bucketCount t)
+highest-cut m Without k e = let q : k ≡ 0 = omega arith in ap (highest m Without) q
+highest-cut m (SysV at n c) k e = cut m (SysV at n c) n k (λ i. omega arith) e
+highest-cut m (Gnu at n first b shift) k e = cut m (Gnu at n first b shift) n k (λ i. omega arith) e
 
 -- what holds of 0 and of the word of each bucket holds of the largest
 pub highest-of : (m : List ℕ) (t : HashTable) (P : ℕ → Type 0) → P 0 → (n : ℕ)

@@ -633,7 +633,14 @@ fn gnu_ok(
     }
     let mut zeros = [0usize; 17];
     crate::table_bytes::last_zeros(image, b, &mut zeros);
-    let high = crate::hash_tables::highest_bucket(image, at, buckets, first, blooms, shift);
+    let t = crate::hash_tables::HashTable::Gnu {
+        at: at,
+        buckets: buckets,
+        first: first,
+        blooms: blooms,
+        shift: shift,
+    };
+    let high = crate::hash_tables::highest_bucket(image, t);
     let known = symbol_in(image, b, &zeros, symbols, strings, high);
     let step = step_of(known, high, first as usize, image.len());
     let f = crate::table_bytes::fine_of(image, b, symbols, strings);

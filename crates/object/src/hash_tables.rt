@@ -1,7 +1,7 @@
 // Hash tables: port of hash_tables.rs. Which symbol has a name, what it says, and how many symbols there are. Pointers are offsets in the
 // image, and bytes past its end read as 0.
 ghost use mathlib.Core.Path.{_≡_};
-ghost use Prim.Native.Nat.{_+_, _*_, _/_, _%_, _^_, _<_, max};
+ghost use Prim.Native.Nat.{_+_, _*_, _/_, _%_, _^_, _≤_, _<_, max};
 ghost use lib.Dec.{eqb};
 ghost use lib.Bits.{bitOr};
 ghost use Rattle.words.specs.Choice.{both};
@@ -9,7 +9,8 @@ ghost use Rattle.words.specs.Memory.{mem};
 ghost use Rattle.words.specs.Words.{leAt};
 ghost use Rattle.words.specs.Names.{sameBytes};
 ghost use Rattle.object.specs.Symbol.{symbolName};
-ghost use Rattle.object.specs.HashTable.{sysvAt, gnuAt, fuel, walk, bloomAt, hasBits, findBy, lookupBy, small, answerBy, addressOf};
+ghost use Rattle.object.specs.HashTable.{sysvAt, gnuAt, bucketCount, bucketAt, chainAt, isLast, nextSymbol, fuel, walk, bloomAt, hasBits, mayHold, bucketOf, sameHash, isHit, lookupBy, small, answerBy, addressOf};
+ghost use Rattle.object.specs.HashCheck.{startOf};
 ghost use Rattle.object.specs.SymbolCount.{highest, lastReached, tableCount, countOf};
 
 // The chosen hash table: its offset, and the numbers of its header.
@@ -101,43 +102,113 @@ fn slot(h: u32, n: u32) -> usize
     (h % n) as usize
 }
 
-fn find_sysv(
-    image: &[u8],
-    symbols: usize,
-    strings: usize,
-    at: usize,
-    buckets: u32,
-    chains: u32,
-    name: &[u8],
-    gnu: u32,
-    elf: u32,
-) -> Found
-    ensures { λ r. ⌜ (r ≡ findBy (now (image .entry)) symbols strings (HashTable.SysV at buckets chains) (now (name .entry)) gnu elf) × small r ⌝ }
+// How many buckets the table has.
+pub(crate) fn bucket_count(t: HashTable) -> u32
+    ensures { λ r. ⌜ r ≡ bucketCount t ⌝ }
 {
-    if buckets == 0 {
-        return Found::Miss;
+    match t {
+        HashTable::Without => 0,
+        HashTable::SysV { buckets, .. } => buckets,
+        HashTable::Gnu { buckets, .. } => buckets,
     }
-    let n = buckets as usize;
-    let i = slot(elf, buckets);
-    let b = words::bytes::u32_off(image, at, 8 + 4 * i);
-    if b == 0 {
-        return Found::Miss;
-    }
-    let mut s = b as usize;
-    let mut left = (chains as usize) + 1;
-    while 0 < left {
-        if named(image, symbols, strings, s, name) {
-            return Found::Hit(s);
-        }
-        let w = words::bytes::u32_off(image, at, 8 + 4 * n + 4 * s);
-        if w == 0 {
-            return Found::Miss;
-        }
-        s = w as usize;
-        left -= 1;
-    }
-    Found::Miss
 }
+
+// Where the table starts.
+pub(crate) fn start_of(t: HashTable) -> usize
+    ensures { λ r. ⌜ r ≡ startOf t ⌝ }
+{
+    match t {
+        HashTable::Without => 0,
+        HashTable::SysV { at, .. } => at,
+        HashTable::Gnu { at, .. } => at,
+    }
+}
+
+// How far from there the word of bucket `i` stands.
+fn bucket_off(t: HashTable, i: usize) -> usize
+    requires { ⌜ i < 2 ^ 40 ⌝ }
+    ensures { λ r. ⌜ startOf t + r ≡ bucketAt t i ⌝ }
+{
+    match t {
+        HashTable::Without => 0,
+        HashTable::SysV { .. } => 8 + 4 * i,
+        HashTable::Gnu { blooms, .. } => 16 + 8 * (blooms as usize) + 4 * i,
+    }
+}
+
+// How far from there the chain word of symbol `s` stands.
+pub(crate) fn chain_off(t: HashTable, s: usize) -> usize
+    requires { ⌜ s < 2 ^ 40 ⌝ }
+    ensures { λ r. ⌜ startOf t + r ≡ chainAt t s ⌝ }
+{
+    match t {
+        HashTable::Without => 0,
+        HashTable::SysV { buckets, .. } => 8 + 4 * (buckets as usize) + 4 * s,
+        HashTable::Gnu {
+            buckets,
+            first,
+            blooms,
+            ..
+        } => 16
+            + 8 * (blooms as usize)
+            + 4 * (buckets as usize)
+            + 4 * words::bytes::monus(s, first as usize),
+    }
+}
+
+// The word of bucket `i`.
+pub(crate) fn bucket_word(image: &[u8], t: HashTable, i: usize) -> u32
+    requires { ⌜ i < 2 ^ 40 ⌝ }
+    ensures { λ r. ⌜ r ≡ leAt 4 (mem (now (image .entry))) (bucketAt t i) ⌝ }
+{
+    words::bytes::u32_off(image, start_of(t), bucket_off(t, i))
+}
+
+// ---- the walk from a bucket's word: the chain word of a symbol, whether it is the last, and which comes after it
+
+// The chain word of symbol `s`.
+pub(crate) fn chain_word(image: &[u8], t: HashTable, s: usize) -> u32
+    requires { ⌜ s < 2 ^ 40 ⌝ }
+    ensures { λ r. ⌜ r ≡ leAt 4 (mem (now (image .entry))) (chainAt t s) ⌝ }
+{
+    words::bytes::u32_off(image, start_of(t), chain_off(t, s))
+}
+
+// Whether the walk ends after a symbol with the chain word `w`.
+pub(crate) fn is_last(t: HashTable, w: u32) -> bool
+    ensures { λ r. ⌜ r ≡ isLast t w ⌝ }
+{
+    match t {
+        HashTable::Without => true,
+        HashTable::SysV { .. } => w == 0,
+        HashTable::Gnu { .. } => w % 2 == 1,
+    }
+}
+
+// The symbol after `s`, whose chain word is `w`.
+pub(crate) fn next_symbol(t: HashTable, s: usize, w: u32) -> usize
+    requires { ⌜ s < 2 ^ 40 ⌝ }
+    ensures { λ r. ⌜ (r ≡ nextSymbol t s w) × (r ≤ max (s + 1) (2 ^ 32)) ⌝ }
+{
+    match t {
+        HashTable::Without => 0,
+        HashTable::SysV { .. } => w as usize,
+        HashTable::Gnu { .. } => s + 1,
+    }
+}
+
+// How many symbols a walk has at most.
+pub(crate) fn fuel_of(image: &[u8], t: HashTable) -> usize
+    ensures { λ r. ⌜ (r ≡ fuel (now (image .entry)) t) × (r ≤ 2 ^ 32) ⌝ }
+{
+    match t {
+        HashTable::Without => 0,
+        HashTable::SysV { chains, .. } => (chains as usize) + 1,
+        HashTable::Gnu { .. } => words::bytes::smaller(image.len(), 0x1000_0000),
+    }
+}
+
+// ---- a name
 
 fn shr(h: u32, shift: u32) -> u32
     ensures { λ r. ⌜ r ≡ h / 2 ^ shift ⌝ }
@@ -165,107 +236,92 @@ fn bloom_has(image: &[u8], at: usize, blooms: u32, shift: u32, gnu: u32) -> bool
     true
 }
 
-// Whether a symbol with the chain word `w` is a hit.
-fn hit_gnu(
-    image: &[u8],
-    symbols: usize,
-    strings: usize,
-    s: usize,
-    w: u32,
-    name: &[u8],
-    gnu: u32,
-) -> bool
-    requires { ⌜ s < 2 ^ 40 ⌝ }
-    ensures { λ r. ⌜ r ≡ both (eqb (bitOr w 1) (bitOr gnu 1)) (sameBytes (symbolName (now (image .entry)) symbols strings s) (now (name .entry))) ⌝ }
+// Whether a name with the GNU hash may be in the table.
+fn may_hold(image: &[u8], t: HashTable, gnu: u32) -> bool
+    ensures { λ r. ⌜ r ≡ mayHold (now (image .entry)) t gnu ⌝ }
 {
-    if (w | 1) != (gnu | 1) {
-        return false;
+    match t {
+        HashTable::Without => false,
+        HashTable::SysV { buckets, .. } => buckets != 0,
+        HashTable::Gnu {
+            at,
+            buckets,
+            blooms,
+            shift,
+            ..
+        } => {
+            if buckets == 0 {
+                return false;
+            }
+            if blooms == 0 {
+                return false;
+            }
+            bloom_has(image, at, blooms, shift, gnu)
+        }
     }
-    named(image, symbols, strings, s, name)
 }
 
-fn find_gnu(
-    image: &[u8],
-    symbols: usize,
-    strings: usize,
-    at: usize,
-    buckets: u32,
-    first: u32,
-    blooms: u32,
-    shift: u32,
-    name: &[u8],
-    gnu: u32,
-    elf: u32,
-) -> Found
-    ensures { λ r. ⌜ (r ≡ findBy (now (image .entry)) symbols strings (HashTable.Gnu at buckets first blooms shift) (now (name .entry)) gnu elf) × small r ⌝ }
+// The bucket of a name with these hashes.
+fn bucket_of(t: HashTable, gnu: u32, elf: u32) -> usize
+    requires { ⌜ 0 < bucketCount t ⌝ }
+    ensures { λ r. ⌜ (r ≡ bucketOf t gnu elf) × (r < 2 ^ 32) ⌝ }
 {
-    if buckets == 0 {
-        return Found::Miss;
+    match t {
+        HashTable::Without => 0,
+        HashTable::SysV { buckets, .. } => slot(elf, buckets),
+        HashTable::Gnu { buckets, .. } => slot(gnu, buckets),
     }
-    if blooms == 0 {
-        return Found::Miss;
+}
+
+// Whether the chain word goes with the hash.
+fn same_hash(t: HashTable, w: u32, gnu: u32) -> bool
+    ensures { λ r. ⌜ r ≡ sameHash t w gnu ⌝ }
+{
+    match t {
+        HashTable::Without => false,
+        HashTable::SysV { .. } => true,
+        HashTable::Gnu { .. } => (w | 1) == (gnu | 1),
     }
-    if !bloom_has(image, at, blooms, shift, gnu) {
-        return Found::Miss;
+}
+
+// Whether symbol `s`, whose chain word is `w`, is a hit.
+fn accepts(image: &[u8], v: View, name: &[u8], gnu: u32, s: usize, w: u32) -> bool
+    requires { ⌜ (s < 2 ^ 40) × (w ≡ leAt 4 (mem (now image)) (chainAt (v .table) s)) ⌝ }
+    ensures { λ r. ⌜ r ≡ isHit (now (image .entry)) (v .symbols) (v .strings) (v .table) (now (name .entry)) gnu s ⌝ }
+{
+    let t = v.table;
+    if !same_hash(t, w, gnu) {
+        return false;
     }
-    let i = slot(gnu, buckets);
-    let start = 16 + 8 * (blooms as usize);
-    let b = words::bytes::u32_off(image, at, start + 4 * i);
-    if b == 0 {
-        return Found::Miss;
-    }
-    let chain = start + 4 * (buckets as usize);
-    let low = first as usize;
-    let mut s = b as usize;
-    let mut left = words::bytes::smaller(image.len(), 0x1000_0000);
-    while 0 < left {
-        let w = words::bytes::u32_off(image, at, chain + 4 * words::bytes::monus(s, low));
-        if hit_gnu(image, symbols, strings, s, w, name, gnu) {
-            return Found::Hit(s);
-        }
-        if w % 2 == 1 {
-            return Found::Miss;
-        }
-        s += 1;
-        left -= 1;
-    }
-    Found::Miss
+    named(image, v.symbols, v.strings, s, name)
 }
 
 // The first symbol with the name in the bucket of the name, whose hashes are given.
 pub fn lookup(image: &[u8], v: View, name: &[u8], gnu: u32, elf: u32) -> Found
     ensures { λ r. ⌜ (r ≡ lookupBy (now (image .entry)) v (now (name .entry)) gnu elf) × small r ⌝ }
 {
-    let symbols = v.symbols;
-    let strings = v.strings;
-    let table = v.table;
-    match table {
-        HashTable::Without => Found::Miss,
-        HashTable::SysV {
-            at,
-            buckets,
-            chains,
-        } => find_sysv(image, symbols, strings, at, buckets, chains, name, gnu, elf),
-        HashTable::Gnu {
-            at,
-            buckets,
-            first,
-            blooms,
-            shift,
-        } => find_gnu(
-            image,
-            symbols,
-            strings,
-            at,
-            buckets,
-            first,
-            blooms,
-            shift,
-            name,
-            gnu,
-            elf,
-        ),
+    let t = v.table;
+    if !may_hold(image, t, gnu) {
+        return Found::Miss;
     }
+    let b = bucket_word(image, t, bucket_of(t, gnu, elf));
+    if b == 0 {
+        return Found::Miss;
+    }
+    let mut s = b as usize;
+    let mut left = fuel_of(image, t);
+    while 0 < left {
+        let w = chain_word(image, t, s);
+        if accepts(image, v, name, gnu, s, w) {
+            return Found::Hit(s);
+        }
+        if is_last(t, w) {
+            return Found::Miss;
+        }
+        s = next_symbol(t, s, w);
+        left -= 1;
+    }
+    Found::Miss
 }
 
 // The object's answer for a name, whose hashes are given: its first hit, if that is exported.
@@ -310,74 +366,55 @@ fn larger(a: u32, b: u32) -> u32
 }
 
 // The largest word of the buckets.
-pub(crate) fn highest_bucket(
-    image: &[u8],
-    at: usize,
-    buckets: u32,
-    first: u32,
-    blooms: u32,
-    shift: u32,
-) -> usize
-    ensures { λ r. ⌜ (r ≡ highest (now (image .entry)) (HashTable.Gnu at buckets first blooms shift) buckets) × (r < 2 ^ 32) ⌝ }
+pub(crate) fn highest_bucket(image: &[u8], t: HashTable) -> usize
+    ensures { λ r. ⌜ (r ≡ highest (now (image .entry)) t (bucketCount t)) × (r < 2 ^ 32) ⌝ }
 {
-    let start = 16 + 8 * (blooms as usize);
     // a bucket past the image's end has the word 0
-    let n = words::bytes::smaller(buckets as usize, image.len() / 4 + 1);
+    let n = words::bytes::smaller(bucket_count(t) as usize, image.len() / 4 + 1);
     let mut best: u32 = 0;
     let mut i = 0;
     while i < n {
-        let w = words::bytes::u32_off(image, at, start + 4 * i);
-        best = larger(best, w);
+        best = larger(best, bucket_word(image, t, i));
         i += 1;
     }
     best as usize
 }
 
 // The last symbol of the walk from the bucket word `word`.
-fn walk_last(
-    image: &[u8],
-    at: usize,
-    buckets: u32,
-    first: u32,
-    blooms: u32,
-    shift: u32,
-    word: usize,
-) -> usize
+fn walk_last(image: &[u8], t: HashTable, word: usize) -> usize
     requires { ⌜ word < 2 ^ 32 ⌝ }
-    ensures { λ r. ⌜ (r ≡ lastReached (walk (now (image .entry)) (HashTable.Gnu at buckets first blooms shift) (fuel (now (image .entry)) (HashTable.Gnu at buckets first blooms shift)) word) word) × (r < 2 ^ 40) ⌝ }
+    ensures { λ r. ⌜ (r ≡ lastReached (walk (now (image .entry)) t (fuel (now (image .entry)) t) word) word) × (r < 2 ^ 40) ⌝ }
 {
-    let chain = 16 + 8 * (blooms as usize) + 4 * (buckets as usize);
-    let low = first as usize;
     let mut last = word;
     let mut s = word;
-    let mut left = words::bytes::smaller(image.len(), 0x1000_0000);
+    let mut left = fuel_of(image, t);
     while 0 < left {
         last = s;
-        let w = words::bytes::u32_off(image, at, chain + 4 * words::bytes::monus(s, low));
-        if w % 2 == 1 {
+        let w = chain_word(image, t, s);
+        if is_last(t, w) {
             return last;
         }
-        s += 1;
+        s = next_symbol(t, s, w);
         left -= 1;
     }
     last
 }
 
-fn gnu_count(
-    image: &[u8],
-    at: usize,
-    buckets: u32,
-    first: u32,
-    blooms: u32,
-    shift: u32,
-) -> SymbolCount
-    ensures { λ r. ⌜ r ≡ tableCount (now (image .entry)) (HashTable.Gnu at buckets first blooms shift) ⌝ }
+// What the hash table says.
+fn table_count(image: &[u8], t: HashTable) -> SymbolCount
+    ensures { λ r. ⌜ r ≡ tableCount (now (image .entry)) t ⌝ }
 {
-    let h = highest_bucket(image, at, buckets, first, blooms, shift);
-    if h == 0 {
-        return SymbolCount::Unknown;
+    match t {
+        HashTable::Without => SymbolCount::Unknown,
+        HashTable::SysV { chains, .. } => SymbolCount::Known(chains as usize),
+        HashTable::Gnu { .. } => {
+            let h = highest_bucket(image, t);
+            if h == 0 {
+                return SymbolCount::Unknown;
+            }
+            SymbolCount::Known(walk_last(image, t, h) + 1)
+        }
     }
-    SymbolCount::Known(walk_last(image, at, buckets, first, blooms, shift, h) + 1)
 }
 
 // How many symbols the object has, if that is known.
@@ -386,23 +423,9 @@ pub fn symbol_count(image: &[u8], v: View) -> SymbolCount
 {
     let symbols = v.symbols;
     let strings = v.strings;
-    let table = v.table;
     if symbols < strings {
         return SymbolCount::Known((strings - symbols) / 24);
     }
-    match table {
-        HashTable::Without => SymbolCount::Unknown,
-        HashTable::SysV {
-            at: _,
-            buckets: _,
-            chains,
-        } => SymbolCount::Known(chains as usize),
-        HashTable::Gnu {
-            at,
-            buckets,
-            first,
-            blooms,
-            shift,
-        } => gnu_count(image, at, buckets, first, blooms, shift),
-    }
+    let t = v.table;
+    table_count(image, t)
 }
