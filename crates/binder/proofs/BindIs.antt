@@ -1,11 +1,11 @@
 -- What a call to `bind` comes to, step by step, is its definition. Assumes nothing.
-use mathlib.Core.Path.{_≡_, refl, sym, ap, _∙_, subst, fun-ext}
+use mathlib.Core.Path.{_≡_, refl, sym, ap, _∙_, subst}
 use mathlib.Core.Bool.{Bool, true, false, not}
 use mathlib.Core.Logic.{⊎-elim}
 use mathlib.Core.List.{List, [], _∷_, _++_, map}
 use Prim.Native.Nat.{ℕ, zero, suc, _+_, _-_, _^_, _≤_, _<_}
 use native.Mathlib.Omega.{arith}
-use borrow.Author.Tests.{eq-eqb, ne-eqb, eqb-true, eqb-false, lt-ltb, le-ltb, le-leb, leb-true, leb-false}
+use borrow.Author.Tests.{lt-ltb, le-ltb, leb-true, leb-false}
 use lib.Dec.{leb, ltb}
 use lib.ListN.{length, getD, take, replicate, length-map}
 use Rattle.words.specs.Memory.{mem, tab}
@@ -14,15 +14,17 @@ use Rattle.model.specs.Objects as objects
 use Rattle.model.specs.Relocation.{placed, bound}
 use Rattle.model.specs.Layout.{objsOf}
 use Rattle.model.proofs.OrderLaws.{decide}
-use Rattle.sheet.specs.Sheet.{Input, noInput, sheetOk, setOf, arenaOk, twinOf}
+use Rattle.sheet.specs.Sheet.{Input, noInput, sheetOk}
+use Rattle.sheet.specs.Steps.Parts.{inputsIn, Tabled}
+use Rattle.sheet.specs.declared.sheet.Parts.{Parts}
+use Rattle.sheet.proofs.PartLaws.{handed-in}
 use Rattle.binder.specs.Instance.{File, objectAt}
-use Rattle.binder.specs.Verdict.{Verdict, noFile, passed, refused, first, loadVerdict, orderVerdict}
+use Rattle.binder.specs.Verdict.{Verdict, noFile, passed, refused, orderVerdict}
 use Rattle.binder.specs.Report.{orderWords, firstUndefined}
 use Rattle.binder.specs.SetOrder.{setOrder}
-use Rattle.binder.specs.Bind.{filesOf, namesOf, objectsOf, unless, prepareVerdict, allows, relocateVerdict, Outcome, outcome, outcomeOf, bindIn, bindOf}
-use Rattle.binder.specs.Steps.Prepared.{metBy, placeFiles, Prepared}
-use Rattle.binder.specs.Steps.Asked.{Ready}
-use Rattle.binder.specs.Steps.Settled.{endsBy, settledOf, BoundSet}
+use Rattle.binder.specs.Bind.{filesOf, namesOf, objectsOf, unless, allows, relocateVerdict, outcomeOf, bindIn, bindOf}
+use Rattle.binder.specs.Steps.Prepared.{metBy, setVerdict, Prepared}
+use Rattle.binder.specs.Steps.Settled.{endsBy, settledOf, Relocated, bindSet, BoundSet}
 use Rattle.binder.specs.Steps.Needed.{Arranged}
 use Rattle.binder.specs.Steps.Relocating.{left, started, runOrder}
 use Rattle.model.specs.Order.{OnceEach}
@@ -35,7 +37,7 @@ use Rattle.binder.specs.declared.report.Progress.{Progress}
 use Rattle.binder.proofs.OutcomeLaws.{refused-not, first-passed, unless-passed}
 use Rattle.binder.proofs.SoundLaws.{count-is}
 use Rattle.binder.proofs.QueryLaws.{placed-is}
-use Rattle.binder.proofs.QueryIs.{zero-at}
+use Rattle.binder.proofs.PrepareLaws.{Ready, passes, not-handed, refused-sheet, handed}
 use Rattle.binder.proofs.Steady.{LoadedSet}
 use Rattle.binder.proofs.RelocatedIs as relocated
 use Rattle.binder.proofs.ReportFill as fills
@@ -129,7 +131,7 @@ module _ (address size : ℕ) (table : List ℕ) (hf pf : File) (fs : List File)
         let g = ended .bound-is (q .0) in
         (sym (tab-mem a) ∙ (ap (λ (n : ℕ). tab n (mem a)) (g .1) ∙ ap (tab size) (g .0)), g .2 .report-is ∙ filled words _ (q .1)))
 
--- ---- 4 to 20
+-- ---- 1 to 20
 
 hosts : (ls : List Input) (j : ℕ) → j < length ls → getD (map (λ (o : Input). record { host = false; bytes = o .file }) ls) j noFile .host ≡ false
 hosts [] j l = absurd (omega arith)
@@ -143,22 +145,22 @@ bytes-of [] j l = absurd (omega arith)
 bytes-of (o ∷ ls) zero l = refl
 bytes-of (o ∷ ls) (suc j) l = bytes-of ls j (omega arith)
 
--- refusals 4 to 12
-pub load-refused :
-    (os : List Input) (size address : ℕ) (policy : Policy) (words : ℕ) (m : Met) (a report : List ℕ) → metBy m ≡ loadVerdict size 0 0 (filesOf os)
-    → (n k : ℕ) → m ≡ Refused n k → length a ≡ size → length report ≡ words
-    → settledOf m a report
-    ≡ bindIn (loadVerdict size 0 0 (filesOf os)) (filesOf os) (setOrder (filesOf os) (namesOf os)) size address policy words
-unfolding bindIn
-load-refused os size address policy words m a report e n k z la lr =
+-- refusals 1 to 12
+pub prepare-refused :
+    (os : List Input) (size address : ℕ) (policy : Policy) (words : ℕ) (m : Met) (a report : List ℕ) → metBy m ≡ setVerdict os size address
+    → (n k : ℕ) → m ≡ Refused n k → length a ≡ size → length report ≡ words → BoundSet os size address policy words a report m
+unfolding bindSet bindIn
+prepare-refused os size address policy words m a report e n k z la lr =
     rw (sym e ∙ ap metBy z) (settled-by size words m (refused n k) _ _ a report (ap metBy z) la lr (λ q. refused-not n k q))
 
 -- a set that was loaded
 module _
-    (address size : ℕ) (table : List ℕ) (h p : Input) (ls : List Input) (arena a : List ℕ) (r : Met)
-    (ready : Ready (h ∷ (p ∷ ls)) (length ls + 2) arena address) (len : length arena ≡ size) (kept : length a ≡ length arena)
-    (made : Prepared (filesOf (h ∷ (p ∷ ls))) arena a table r) (z : r ≡ Passed)
+    (address size : ℕ) (table : List ℕ) (h p : Input) (ls : List Input) (arena a : List ℕ) (r : Met) (len : length arena ≡ size)
+    (kept : length a ≡ length arena) (made : Prepared (h ∷ (p ∷ ls)) address arena a table r) (z : r ≡ Passed)
   where
+    passed-it : Ready (h ∷ (p ∷ ls)) size address
+    passed-it = subst (λ (n : ℕ). Ready (h ∷ (p ∷ ls)) n address) len (passes (h ∷ (p ∷ ls)) address arena a table r made z)
+
     abbrev fs : List File
     fs = map fileOf ls
 
@@ -186,18 +188,15 @@ module _
     loaded =
         record {
           others = λ k l g. not-host k l (omega (arith, many));
-          loads = subst (λ (n : ℕ). loadVerdict n 0 0 (hostFile h ∷ (fileOf p ∷ fs)) ≡ passed) len (sym (made .met) ∙ ap metBy z);
+          loads = passed-it .loads;
           seats = made .table z;
-          end = omega (arith, ready .end);
-          small = omega (arith, ready .small);
+          end = passed-it .end;
+          small = passed-it .small;
         }
 
     pub placed-arena : mem a ≡ placed made-set
     unfolding filesOf
-    placed-arena =
-        made .arena z
-        ∙ (ap (placeFiles (hostFile h ∷ (fileOf p ∷ fs)) 0) (ap mem (ready .zeros) ∙ fun-ext (zero-at (length arena)))
-        ∙ sym (placed-is address (hostFile h) (fileOf p) fs))
+    placed-arena = made .arena z ∙ sym (placed-is address (hostFile h) (fileOf p) fs)
 
     -- the order that the code made is the order of the set
     pub ordered :
@@ -208,80 +207,62 @@ module _
         let n : length ls + 2 ≡ length (h ∷ (p ∷ ls)) = omega arith in
         order-loaded address size table a h p ls loaded
         (λ k l. lies address size table (hostFile h) (fileOf p) fs loaded k l)
-        (λ k l. starts address size table (hostFile h) (fileOf p) fs loaded a (mem arena) (kept ∙ len) (made .arena z) k l)
+        (λ k l. starts address size table (hostFile h) (fileOf p) fs loaded a (λ _. 0) (kept ∙ len) (made .arena z) k l)
         order (subst (λ (i : ℕ). Arranged (h ∷ (p ∷ ls)) i a table order) n o)
 
-    -- 14 to 20: the objects were relocated in the order of the set
-    pub bound-set :
-        (policy : Policy) (words : ℕ) (order : List ℕ) → order ≡ setOrder (filesOf (h ∷ (p ∷ ls))) (namesOf (h ∷ (p ∷ ls)))
-        → (report : List ℕ) → report ≡ replicate words 0
-        → (q : Progress) (a′ report′ : List ℕ)
-        → left q a′ report′ ≡ runOrder address table (length ls + 2) (h ∷ (p ∷ ls)) order (left started a report)
-        → (m : Met) → metBy m ≡ endsBy policy q
-        → settledOf m a′ report′
-        ≡ bindIn (loadVerdict size 0 0 (filesOf (h ∷ (p ∷ ls)))) (filesOf (h ∷ (p ∷ ls)))
-        (setOrder (filesOf (h ∷ (p ∷ ls))) (namesOf (h ∷ (p ∷ ls)))) size address policy words
+    -- 14 to 20: the objects were relocated in an order that has each once
+    pub bound-in :
+        (policy : Policy) (words : ℕ) (order : List ℕ) → OnceEach (objects.count made-set) order → (report : List ℕ) → report ≡ replicate words 0
+        → (a′ report′ : List ℕ) (m : Met) → Relocated (h ∷ (p ∷ ls)) (length ls + 2) table order a address policy report a′ report′ m
+        → settledOf m a′ report′ ≡ bindIn (setVerdict (h ∷ (p ∷ ls)) size address) (filesOf (h ∷ (p ∷ ls))) order size address policy words
     unfolding filesOf bindIn objectsOf
-    bound-set policy words order o report zeros q a′ report′ e m me =
-        let once : OnceEach (objects.count made-set) order = subst (λ (l : List ℕ). OnceEach (objects.count made-set) l) (sym o)
-        (order-is address (hostFile h) (fileOf p) fs (namesOf (h ∷ (p ∷ ls))) (names-length h p ls ∙ sym (length-map ls fileOf))) in
+    bound-in policy words order once report zeros a′ report′ m g =
         let n : length a ≡ size = kept ∙ len in
-        let run : left q a′ report′ ≡ runOrder address table (objects.count made-set) (h ∷ (p ∷ ls)) order (left started a report) = rw many e in
+        let run : left (g .progress) a′ report′ ≡ runOrder address table (objects.count made-set) (h ∷ (p ∷ ls)) order (left started a report) =
+        rw many (g .leaves) in
         let ended = relocated.relocated-is address size table (hostFile h) (fileOf p) fs loaded (h ∷ (p ∷ ls)) (λ k l. files-are k (omega (arith, many)))
-        order once words a report placed-arena n zeros q a′ report′ run in
-        relocated-set address size table (hostFile h) (fileOf p) fs policy order words q a′ report′ ended m me
-        ∙ rw (o, loaded .loads)
+        order once words a report placed-arena n zeros (g .progress) a′ report′ run in
+        relocated-set address size table (hostFile h) (fileOf p) fs policy order words (g .progress) a′ report′ ended m (g .met)
+        ∙ rw (passed-it .verdict-is)
+
+    -- the order of the set does
+    pub in-order : (order : List ℕ) → order ≡ setOrder (filesOf (h ∷ (p ∷ ls))) (namesOf (h ∷ (p ∷ ls))) → OnceEach (objects.count made-set) order
+    unfolding filesOf
+    in-order order o =
+        subst (λ (l : List ℕ). OnceEach (objects.count made-set) l) (sym o)
+        (order-is address (hostFile h) (fileOf p) fs (namesOf (h ∷ (p ∷ ls))) (names-length h p ls ∙ sym (length-map ls fileOf)))
 
 -- whatever objects the table of parts names
 pub bind-is :
-    (os : List Input) (count : ℕ) (arena a table : List ℕ) (address : ℕ) (r : Met) → Ready os count arena address → length a ≡ length arena
-    → Prepared (filesOf os) arena a table r → r ≡ Passed → (order : Order) → Arranged os count a table order
+    (os : List Input) (count : ℕ) (arena a table : List ℕ) (address : ℕ) (r : Met) → length os ≡ count → length a ≡ length arena
+    → Prepared os address arena a table r → r ≡ Passed → (order : Order) → Arranged os count a table order
     → (policy : Policy) (report : List ℕ) → report ≡ replicate (length report) 0
-    → (q : Progress) (a′ report′ : List ℕ)
-    → left q a′ report′ ≡ runOrder address table count os (take (order .count) (order .list)) (left started a report)
-    → (m : Met) → metBy m ≡ endsBy policy q → BoundSet os arena address policy report a′ report′ m
-bind-is [] count arena a table address r ready kept made z order o policy report zeros q a′ report′ e m me =
-    absurd (omega (arith, ready .many, ready .two))
-bind-is (h ∷ []) count arena a table address r ready kept made z order o policy report zeros q a′ report′ e m me =
-    absurd (omega (arith, ready .many, ready .two))
-bind-is (h ∷ (p ∷ ls)) count arena a table address r ready kept made z order o policy report zeros q a′ report′ e m me =
-    let c : count ≡ length ls + 2 = omega (arith, ready .many) in
-    let ready′ : Ready (h ∷ (p ∷ ls)) (length ls + 2) arena address = subst (λ (n : ℕ). Ready (h ∷ (p ∷ ls)) n arena address) c ready in
-    bound-set address (length arena) table h p ls arena a r ready′ refl kept made z policy (length report) (take (order .count) (order .list))
-    (ordered address (length arena) table h p ls arena a r ready′ refl kept made z order
-    (subst (λ (n : ℕ). Arranged (h ∷ (p ∷ ls)) n a table order) c o))
-    report zeros q a′ report′ (rw (← c) e) m me
+    → (a′ report′ : List ℕ) (m : Met) → Relocated os count table (take (order .count) (order .list)) a address policy report a′ report′ m
+    → BoundSet os (length arena) address policy (length report) a′ report′ m
+unfolding bindSet
+bind-is [] count arena a table address r many kept made z order o policy report zeros a′ report′ m g =
+    absurd (omega (arith, passes [] address arena a table r made z .two))
+bind-is (h ∷ []) count arena a table address r many kept made z order o policy report zeros a′ report′ m g =
+    absurd (omega (arith, passes (h ∷ []) address arena a table r made z .two))
+bind-is (h ∷ (p ∷ ls)) count arena a table address r many kept made z order o policy report zeros a′ report′ m g =
+    let c : count ≡ length ls + 2 = omega (arith, many) in
+    let same = ordered address (length arena) table h p ls arena a r refl kept made z order
+    (subst (λ (n : ℕ). Arranged (h ∷ (p ∷ ls)) n a table order) c o) in
+    bound-in address (length arena) table h p ls arena a r refl kept made z policy (length report) (take (order .count) (order .list))
+    (in-order address (length arena) table h p ls arena a r refl kept made z (take (order .count) (order .list)) same) report zeros a′ report′ m
+    (subst (λ (n : ℕ). Relocated (h ∷ (p ∷ ls)) n table (take (order .count) (order .list)) a address policy report a′ report′ m) c g)
+    ∙ ap
+    (λ (l : List ℕ). bindIn (setVerdict (h ∷ (p ∷ ls)) (length arena) address) (filesOf (h ∷ (p ∷ ls))) l (length arena) address policy (length report))
+    same
 
--- ---- 1 to 3
+-- ---- the objects of a sheet
 
-module _
-    (sheet bytes : List ℕ) (size address : ℕ) (policy : Policy) (words : ℕ) (a report : List ℕ) (la : length a ≡ size)
-    (lr : length report ≡ words)
-  where
-    pub call-one :
-        sheetOk sheet (length bytes) ≡ false
-        → settledOf (Refused 1 0) a report ≡ bindOf sheet bytes size address policy words
-    unfolding bindOf bindIn prepareVerdict unless outcomeOf settledOf
-    call-one e = rw (e, la, lr)
-
-    module _ (e : sheetOk sheet (length bytes) ≡ true) where
-      pub call-two :
-          arenaOk size address ≡ false
-          → settledOf (Refused 2 0) a report ≡ bindOf sheet bytes size address policy words
-      unfolding bindOf bindIn prepareVerdict unless outcomeOf settledOf
-      call-two g = rw (e, g, la, lr)
-
-      module _ (g : arenaOk size address ≡ true) where
-        pub call-three :
-            (t : ℕ) → t ≡ twinOf (setOf sheet bytes) → (t ≡ 0 → ⊥)
-            → settledOf (Refused 3 t) a report ≡ bindOf sheet bytes size address policy words
-        unfolding bindOf bindIn prepareVerdict unless outcomeOf settledOf
-        call-three t q ne = rw (e, g, ← q, ne-eqb t 0 ne, la, lr)
-
-        pub call-binds :
-            twinOf (setOf sheet bytes) ≡ 0
-            → bindIn (loadVerdict size 0 0 (filesOf (setOf sheet bytes))) (filesOf (setOf sheet bytes))
-            (setOrder (filesOf (setOf sheet bytes)) (namesOf (setOf sheet bytes))) size address policy words
-            ≡ bindOf sheet bytes size address policy words
-        unfolding bindOf prepareVerdict unless
-        call-binds q = rw (e, g, eq-eqb (twinOf (setOf sheet bytes)) 0 q)
+pub bind-handed :
+    (sheet bytes : List ℕ) (size address : ℕ) (p : Parts) → Tabled sheet (length bytes) p → (policy : Policy) (words : ℕ)
+    → bindSet (inputsIn bytes p) size address policy words ≡ bindOf sheet bytes size address policy words
+unfolding bindSet bindOf bindIn outcomeOf
+bind-handed sheet bytes size address p t policy words =
+    ⊎-elim
+    (λ (ok : sheetOk sheet (length bytes) ≡ true). rw (handed-in t ok bytes, handed sheet bytes size address p t ok))
+    (λ (bad : sheetOk sheet (length bytes) ≡ false). rw (not-handed sheet bytes size address p t bad, refused-sheet sheet bytes size address p t bad))
+    (decide (sheetOk sheet (length bytes)))

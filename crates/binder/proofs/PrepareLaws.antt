@@ -1,17 +1,19 @@
--- Loading the objects of a set, one after another: the turn of the loop and its ends. Assumes nothing.
-use mathlib.Core.Path.{_≡_, refl, sym, ap, _∙_, subst}
+-- Loading the objects of a set, one after another: the turn of the loop and its ends; preparing a set. Assumes nothing.
+use mathlib.Core.Path.{_≡_, refl, sym, ap, _∙_, subst, fun-ext}
 use mathlib.Core.Bool.{Bool, true, false}
 use mathlib.Core.List.{List, [], _∷_, map}
-use Prim.Native.Nat.{ℕ, zero, suc, _+_, _-_, _*_, _≤_, _<_}
+use Prim.Native.Nat.{ℕ, zero, suc, _+_, _-_, _*_, _%_, _^_, _≤_, _<_}
 use native.Mathlib.Omega.{arith}
 use native.Mathlib.Numerals.{add-one}
 use native.Mathlib.Nat.{add-zero}
-use borrow.Author.Tests.{eq-eqb, ne-eqb}
+use borrow.Author.Tests.{eq-eqb, ne-eqb, le-leb, lt-leb, leb-true}
 use borrow.Rule.Slice.PartMut.{putMid}
-use lib.Dec.{eqb}
-use lib.ListN.{length, getD, take, drop, length-take, length-drop, length-map, List·getD-map}
+use lib.Dec.{eqb, leb}
+use lib.ListN.{length, getD, take, drop, replicate, length-take, length-drop, length-map, List·getD-map}
 use lib.Seq.{drop-cons, drop-length}
+use Rattle.words.specs.Memory as memory
 use Rattle.words.specs.Memory.{Mem, mem, write, patch}
+use Rattle.words.proofs.Choice.{both-true}
 use Rattle.words.proofs.Slices.{put-tail, mem-patch, length-tab}
 use Rattle.object.specs.declared.dynamic_fields.Read.{Read}
 use Rattle.object.specs.declared.hash_tables.View.{View}
@@ -23,18 +25,22 @@ use Rattle.object.specs.Record as recordIs
 use Rattle.object.specs.Record.{Record, heldBy, viewOf}
 use Rattle.object.specs.Loaded.{objectRecord, objectRefusal, LoadedBy}
 use Rattle.object.proofs.LoadedLaws.{loaded-part}
-use Rattle.sheet.specs.Sheet.{Input, noInput}
+use Rattle.sheet.specs.Sheet as sheets
+use Rattle.sheet.specs.Sheet.{Input, noInput, sheetOk, setOf, arenaOk, twinOf}
+use Rattle.sheet.specs.Steps.Parts.{inputsIn, Tabled}
+use Rattle.sheet.specs.declared.sheet.Parts.{Parts}
+use Rattle.sheet.proofs.PartLaws.{handed-in, two-parts}
 use Rattle.binder.specs.Instance.{File, fileRecord}
 use Rattle.binder.specs.Verdict.{passed, refused, first, verdict, loadVerdict, noFile}
-use Rattle.binder.specs.Bind.{filesOf}
+use Rattle.binder.specs.Bind.{filesOf, unless, prepareVerdict}
 use Rattle.scope.specs.Steps.Seats.{seatAt, Filtered}
-use Rattle.binder.specs.Steps.Prepared.{metBy, seatOf, placeFiles, Seated, SeatedAt, LoadedAt, Prepared}
+use Rattle.binder.specs.Steps.Prepared.{metBy, seatOf, placeFiles, Seated, SeatedAt, LoadedAt, LoadedFiles, setVerdict, Prepared}
 use Rattle.scope.specs.declared.seats.Seat.{Seat}
 use Rattle.binder.specs.declared.prepare.Met.{Met}
 use Rattle.binder.specs.declared.prepare.Met.the-variants.{Passed, Refused}
 use Rattle.binder.specs.declared.prepare.Loaded.{Loaded}
 use Rattle.binder.specs.declared.prepare.Loaded as loads
-use Rattle.binder.proofs.OutcomeLaws.{refused-not}
+use Rattle.binder.proofs.OutcomeLaws.{refused-not, first-passed, unless-passed}
 
 -- ---- one object
 
@@ -134,7 +140,7 @@ module _ (os : List Input) (a₀ a table : List ℕ) (off k : ℕ) (h : Loading 
         ∙ ap (λ (f : File). f ∷ drop (suc k) (filesOf os)) (file-at os k l)
 
     module _ (a′ : List ℕ) (p : Loaded) (r : LoadedAt (eqb k 0) (getD os k noInput .file) off a a′ p) where
-      pub load-fail : (n : ℕ) → p ≡ loads.the-variants.Refused n → (t : List ℕ) → Prepared (filesOf os) a₀ a′ t (Refused n k)
+      pub load-fail : (n : ℕ) → p ≡ loads.the-variants.Refused n → (t : List ℕ) → LoadedFiles (filesOf os) a₀ a′ t (Refused n k)
       unfolding loadVerdict verdict
       load-fail n e t =
           let g : (n ≡ objectRefusal (eqb k 0) (length a - off) (getD os k noInput .file)) × (n ≡ 0 → ⊥) =
@@ -174,7 +180,7 @@ module _ (os : List Input) (a₀ a table : List ℕ) (off k : ℕ) (h : Loading 
             filtered = filters (h .filtered);
           }
 
-  pub load-finish : k ≡ length os → Prepared (filesOf os) a₀ a table Passed
+  pub load-finish : k ≡ length os → LoadedFiles (filesOf os) a₀ a table Passed
   unfolding loadVerdict placeFiles Seated
   load-finish e =
       let n : drop k (filesOf os) ≡ [] = rw (e, ← files-length os) (drop-length (filesOf os)) in
@@ -185,8 +191,109 @@ module _ (os : List Input) (a₀ a table : List ℕ) (off k : ℕ) (h : Loading 
         filtered = λ z j l. h .filtered j (omega (arith, files-length os));
       }
 
--- the words of every filter of a set that was loaded
+-- ---- preparing: refusals 1 to 3, then loading
+
+pub zero-at : (n i : ℕ) → mem (replicate n 0) i ≡ 0
+unfolding memory.mem
+zero-at zero i = refl
+zero-at (suc n) zero = refl
+zero-at (suc n) (suc i) = zero-at n i
+
+module _ (os : List Input) (address : ℕ) (arena : List ℕ) where
+  -- a refusal before anything is loaded
+  refuses :
+      (n k : ℕ) → setVerdict os (length arena) address ≡ refused n k → (arena′ table : List ℕ) → Prepared os address arena arena′ table (Refused n k)
+  refuses n k e arena′ table =
+      record {
+        met = sym e;
+        arena = λ z. refused-not n k (ap metBy z);
+        table = λ z. refused-not n k (ap metBy z);
+        filtered = λ z. refused-not n k (ap metBy z);
+      }
+
+  pub prepare-one : length os < 2 → (arena′ table : List ℕ) → Prepared os address arena arena′ table (Refused 1 0)
+  unfolding setVerdict unless
+  prepare-one l = refuses 1 0 (rw (lt-leb 2 (length os) l))
+
+  module _ (two : 2 ≤ length os) where
+    pub prepare-two : arenaOk (length arena) address ≡ false → (arena′ table : List ℕ) → Prepared os address arena arena′ table (Refused 2 0)
+    unfolding setVerdict unless
+    prepare-two e = refuses 2 0 (rw (le-leb 2 (length os) two, e))
+
+    module _ (ok : arenaOk (length arena) address ≡ true) where
+      pub prepare-three : (t : ℕ) → t ≡ twinOf os → (t ≡ 0 → ⊥) → (arena′ table : List ℕ) → Prepared os address arena arena′ table (Refused 3 t)
+      unfolding setVerdict unless
+      prepare-three t e ne = refuses 3 t (rw (le-leb 2 (length os) two, ok, ← e, ne-eqb t 0 ne))
+
+      pub prepare-loads :
+          twinOf os ≡ 0 → arena ≡ replicate (length arena) 0 → (arena′ table : List ℕ) (r : Met) → LoadedFiles (filesOf os) arena arena′ table r
+          → Prepared os address arena arena′ table r
+      unfolding setVerdict unless
+      prepare-loads none zeros arena′ table r h =
+          record {
+            met = h .met ∙ rw (le-leb 2 (length os) two, ok, eq-eqb (twinOf os) 0 none);
+            arena = λ z. h .arena z ∙ ap (placeFiles (filesOf os) 0) (ap mem zeros ∙ fun-ext (zero-at (length arena)));
+            table = h .table;
+            filtered = λ z k l. h .filtered z k (omega (arith, files-length os));
+          }
+
+-- a set that passed
+pub record Ready (os : List Input) (size address : ℕ) : Type 0 where
+  pub verdict-is : setVerdict os size address ≡ passed
+  pub two : 2 ≤ length os
+  pub loads : loadVerdict size 0 0 (filesOf os) ≡ passed
+  pub end : address + size ≤ 2 ^ 63
+  pub small : size ≤ 2 ^ 28
+
+pub ready : (os : List Input) (size address : ℕ) → setVerdict os size address ≡ passed → Ready os size address
+unfolding setVerdict sheets.arenaOk
+ready os size address e =
+    let a = first-passed (unless (leb 2 (length os)) 1 0) _ e in
+    let b = first-passed (unless (arenaOk size address) 2 0) _ (a .1) in
+    let c = first-passed (unless (eqb (twinOf os) 0) 3 (twinOf os)) (loadVerdict size 0 0 (filesOf os)) (b .1) in
+    let p = both-true (eqb (address % 4096) 0) _ (unless-passed (arenaOk size address) 2 0 (b .0)) in
+    let q = both-true (leb size (2 ^ 28)) _ (p .1) in
+    record {
+      verdict-is = e;
+      two = leb-true 2 (length os) (unless-passed (leb 2 (length os)) 1 0 (a .0));
+      loads = c .1;
+      end = leb-true (address + size) (2 ^ 63) (q .1);
+      small = leb-true size (2 ^ 28) (q .0);
+    }
+
+pub passes :
+    (os : List Input) (address : ℕ) (arena arena′ table : List ℕ) (r : Met) → Prepared os address arena arena′ table r → r ≡ Passed
+    → Ready os (length arena) address
+passes os address arena arena′ table r made z = ready os (length arena) address (sym (made .met) ∙ ap metBy z)
+
+-- the words of every filter of a set that was prepared
 pub all-filtered :
-    (os : List Input) (count : ℕ) (before after table : List ℕ) (r : Met) → Prepared (filesOf os) before after table r → r ≡ Passed
+    (os : List Input) (count address : ℕ) (arena arena′ table : List ℕ) (r : Met) → Prepared os address arena arena′ table r → r ≡ Passed
     → length os ≡ count → Filtered table count
-all-filtered os count before after table r made z many = λ k l. made .filtered z k (omega (arith, files-length os))
+all-filtered os count address arena arena′ table r made z many = λ k l. made .filtered z k (omega (arith, many))
+
+-- a table of parts names as many objects as it counts
+pub many-parts : {sheet : List ℕ} {n : ℕ} {p : Parts} → Tabled sheet n p → (bytes : List ℕ) → length (inputsIn bytes p) ≡ p .count
+many-parts t bytes = ap length (t .same bytes) ∙ t .count bytes
+
+-- the objects of a sheet: none where it is refused
+module _ (sheet bytes : List ℕ) (size address : ℕ) (p : Parts) (t : Tabled sheet (length bytes) p) where
+  pub not-handed : sheetOk sheet (length bytes) ≡ false → setVerdict (inputsIn bytes p) size address ≡ refused 1 0
+  unfolding setVerdict unless
+  not-handed bad = rw (t .same bytes, bad)
+
+  pub refused-sheet : sheetOk sheet (length bytes) ≡ false → prepareVerdict sheet bytes size address ≡ refused 1 0
+  unfolding prepareVerdict unless
+  refused-sheet bad = rw bad
+
+  pub handed : sheetOk sheet (length bytes) ≡ true → setVerdict (setOf sheet bytes) size address ≡ prepareVerdict sheet bytes size address
+  unfolding setVerdict prepareVerdict unless
+  handed ok =
+      let two : 2 ≤ length (setOf sheet bytes) = omega (
+        arith,
+        two-parts t ok,
+        t .count bytes,
+        ap length (handed-in t ok bytes),
+        ap length (t .same bytes),
+      ) in
+      rw (ok, le-leb 2 (length (setOf sheet bytes)) two)

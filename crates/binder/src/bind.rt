@@ -2,14 +2,15 @@
 ghost use mathlib.Core.Path.{_≡_};
 ghost use Prim.Native.Nat.{_≤_};
 ghost use lib.Dec.{eqb};
-ghost use lib.ListN.{length, replicate};
+ghost use lib.ListN.{length, replicate, take};
 ghost use Rattle.sheet.specs.Steps.Parts.{inputsIn};
 ghost use Rattle.binder.specs.Bind.{outcome, bindOf, allows};
-ghost use Rattle.binder.specs.Steps.Asked.{Ready};
-ghost use Rattle.binder.specs.Steps.Settled.{endsBy, BoundSet, BoundCall, settledOf};
+ghost use Rattle.scope.specs.Steps.Seats.{Filtered};
+ghost use Rattle.binder.specs.Steps.Settled.{endsBy, Relocated, BoundSet, settledOf};
 ghost use Rattle.binder.specs.Steps.Prepared.{metBy};
 use crate::Answer;
 use crate::Policy;
+use crate::order::Order;
 use crate::prepare::Met;
 use crate::report::Progress;
 use sheet::sheet::Parts;
@@ -58,7 +59,25 @@ fn end(p: Progress, policy: Policy) -> Met
     Met::Passed
 }
 
-// Refusals 4 to 20 of the objects that the table of parts names, in an arena and a report of zeros.
+// Refusals 14 to 20 of the objects that the table of parts names, which are loaded: they are relocated in any order of them.
+fn bind_in(
+    bytes: &[u8],
+    parts: Parts,
+    arena: &mut [u8],
+    address: u64,
+    policy: Policy,
+    report: &mut [u32],
+    table: &[u64],
+    order: Order,
+) -> Met
+    requires { ⌜ (order .count ≤ 64) × Filtered (now table) (parts .count) ⌝ }
+    ensures { λ r. ⌜ Relocated (inputsIn (now (bytes .entry)) parts) (parts .count) (now (table .entry)) (take (order .count) (order .list)) (now (arena .entry)) address policy (now (report .entry)) (now (arena .exit)) (now (report .exit)) r ⌝ }
+{
+    let p = crate::relocate::run_order(bytes, parts, arena, report, table, address, order);
+    end(p, policy)
+}
+
+// Refusals 1 to 20 of the objects that the table of parts names, bound in the order of the set.
 fn bind_set(
     bytes: &[u8],
     parts: Parts,
@@ -67,53 +86,16 @@ fn bind_set(
     policy: Policy,
     report: &mut [u32],
 ) -> Met
-    requires { ⌜ Ready (inputsIn (now bytes) parts) (parts .count) (now arena) address × (now report ≡ replicate (length (now report)) 0) ⌝ }
-    ensures { λ r. ⌜ BoundSet (inputsIn (now (bytes .entry)) parts) (now (arena .entry)) address policy (now (report .entry)) (now (arena .exit)) (now (report .exit)) r ⌝ }
+    requires { ⌜ (parts .count ≤ 64) × (length (inputsIn (now bytes) parts) ≡ parts .count) × (now arena ≡ replicate (length (now arena)) 0) × (now report ≡ replicate (length (now report)) 0) ⌝ }
+    ensures { λ r. ⌜ BoundSet (inputsIn (now (bytes .entry)) parts) (length (now (arena .entry))) address policy (length (now (report .entry))) (now (arena .exit)) (now (report .exit)) r ⌝ }
 {
     let mut table = [0u64; 1024];
-    let m = crate::prepare::load_all(bytes, parts, arena, &mut table);
+    let m = crate::prepare::prepare(bytes, parts, arena, address, &mut table);
     let Met::Passed = m else {
         return m;
     };
     let order = crate::needs::order_of(bytes, parts, arena, &table);
-    let p = crate::relocate::run_order(bytes, parts, arena, report, &table, address, order);
-    end(p, policy)
-}
-
-// Refusals 1 to 3, and the rest, in an arena and a report of zeros.
-fn try_bind(
-    sheet: &[u32],
-    bytes: &[u8],
-    arena: &mut [u8],
-    address: u64,
-    policy: Policy,
-    report: &mut [u32],
-) -> Met
-    requires { ⌜ (now arena ≡ replicate (length (now arena)) 0) × (now report ≡ replicate (length (now report)) 0) ⌝ }
-    ensures { λ r. ⌜ BoundCall (now (sheet .entry)) (now (bytes .entry)) (now (arena .entry)) address policy (now (report .entry)) (now (arena .exit)) (now (report .exit)) r ⌝ }
-{
-    let n = bytes.len();
-    if !sheet::sheet::sheet_ok(sheet, n) {
-        return Met::Refused {
-            number: 1,
-            object: 0,
-        };
-    }
-    if !sheet::sheet::arena_ok(arena.len(), address) {
-        return Met::Refused {
-            number: 2,
-            object: 0,
-        };
-    }
-    let parts = sheet::sheet::parts_of(sheet, n);
-    let t = sheet::sheet::twin(bytes, parts);
-    if t != 0 {
-        return Met::Refused {
-            number: 3,
-            object: t as u32,
-        };
-    }
-    bind_set(bytes, parts, arena, address, policy, report)
+    bind_in(bytes, parts, arena, address, policy, report, &table, order)
 }
 
 // The answer; a refusal leaves zeros. No other function wipes after a refusal of `bind`.
@@ -144,6 +126,7 @@ pub fn bind(
 {
     sheet::wipe::clear(arena);
     sheet::wipe::clear_words(report);
-    let m = try_bind(sheet, bytes, arena, address, policy, report);
+    let parts = sheet::sheet::parts_of(sheet, bytes.len());
+    let m = bind_set(bytes, parts, arena, address, policy, report);
     settle(m, arena, report)
 }

@@ -1,10 +1,10 @@
-// Loading the objects of a set into the arena: refusals 4 to 12, object by object.
+// What every call does first: refusals 1 to 3 of a set, then its objects into the arena, refusals 4 to 12, object by object.
 ghost use mathlib.Core.Path.{_≡_};
 ghost use Prim.Native.Nat.{_≤_};
-ghost use lib.ListN.{length};
+ghost use lib.ListN.{length, replicate};
 ghost use Rattle.sheet.specs.Steps.Parts.{inputsIn};
 ghost use Rattle.binder.specs.Bind.{filesOf};
-ghost use Rattle.binder.specs.Steps.Prepared.{LoadedAt, Prepared};
+ghost use Rattle.binder.specs.Steps.Prepared.{LoadedAt, LoadedFiles, Prepared};
 use scope::seats::Seat;
 use sheet::sheet::Parts;
 
@@ -41,9 +41,9 @@ fn load_at(arena: &mut [u8], off: usize, file: &[u8], host: bool) -> Loaded
 }
 
 // Loads the objects that the table of parts names, one after another, and fills the table of seats.
-pub(crate) fn load_all(bytes: &[u8], parts: Parts, arena: &mut [u8], table: &mut [u64]) -> Met
+fn load_all(bytes: &[u8], parts: Parts, arena: &mut [u8], table: &mut [u64]) -> Met
     requires { ⌜ (parts .count ≤ 64) × (length (inputsIn (now bytes) parts) ≡ parts .count) × (1024 ≤ length (now table)) ⌝ }
-    ensures { λ r. ⌜ Prepared (filesOf (inputsIn (now (bytes .entry)) parts)) (now (arena .entry)) (now (arena .exit)) (now (table .exit)) r ⌝ }
+    ensures { λ r. ⌜ LoadedFiles (filesOf (inputsIn (now (bytes .entry)) parts)) (now (arena .entry)) (now (arena .exit)) (now (table .exit)) r ⌝ }
 {
     let count = parts.count;
     let mut off = 0;
@@ -66,4 +66,38 @@ pub(crate) fn load_all(bytes: &[u8], parts: Parts, arena: &mut [u8], table: &mut
         }
     }
     Met::Passed
+}
+
+// Refusals 1 to 12 of the objects that the table of parts names; what passes is loaded, and its seats are in the table. A refused sheet's
+// table of parts names no object.
+pub(crate) fn prepare(
+    bytes: &[u8],
+    parts: Parts,
+    arena: &mut [u8],
+    address: u64,
+    table: &mut [u64],
+) -> Met
+    requires { ⌜ (parts .count ≤ 64) × (length (inputsIn (now bytes) parts) ≡ parts .count) × (1024 ≤ length (now table)) × (now arena ≡ replicate (length (now arena)) 0) ⌝ }
+    ensures { λ r. ⌜ Prepared (inputsIn (now (bytes .entry)) parts) address (now (arena .entry)) (now (arena .exit)) (now (table .exit)) r ⌝ }
+{
+    if parts.count < 2 {
+        return Met::Refused {
+            number: 1,
+            object: 0,
+        };
+    }
+    if !sheet::sheet::arena_ok(arena.len(), address) {
+        return Met::Refused {
+            number: 2,
+            object: 0,
+        };
+    }
+    let t = sheet::sheet::twin(bytes, parts);
+    if t != 0 {
+        return Met::Refused {
+            number: 3,
+            object: t as u32,
+        };
+    }
+    load_all(bytes, parts, arena, table)
 }

@@ -1,11 +1,12 @@
 // The public query: the address of a name in a set, for an object of it.
 ghost use mathlib.Core.Path.{_≡_};
-ghost use Prim.Native.Nat.{_+_, _≤_, _^_};
+ghost use Prim.Native.Nat.{_≤_};
 ghost use lib.ListN.{length, replicate};
 ghost use Rattle.sheet.specs.Steps.Parts.{inputsIn};
 ghost use Rattle.binder.specs.Steps.ScopeModel.{scopedOf};
 ghost use Rattle.binder.specs.Bind.{replied, replyOf, queryOf};
-ghost use Rattle.binder.specs.Steps.Asked.{askOf, Ready};
+ghost use Rattle.binder.specs.Steps.Asked.{askOf};
+ghost use Rattle.binder.specs.declared.Reply.the-variants.{Refused};
 use crate::Reply;
 use crate::prepare::Met;
 use scope::scope::Scoped;
@@ -30,7 +31,18 @@ fn reply_of(s: Scoped) -> Reply
     }
 }
 
-// Refusals 4 to 13 of a set in an arena of zeros, and the answer.
+// A refusal: it leaves zeros.
+fn refuse(number: u32, object: u32, arena: &mut [u8]) -> Reply
+    ensures { λ r. ⌜ replied r (now (arena .exit)) ≡ replied (Refused number object) (replicate (length (now (arena .entry))) 0) ⌝ }
+{
+    sheet::wipe::clear(arena);
+    Reply::Refused {
+        number: number,
+        object: object,
+    }
+}
+
+// Refusals 1 to 13 of the objects that the table of parts names, and the answer.
 fn ask_set(
     bytes: &[u8],
     parts: Parts,
@@ -39,25 +51,17 @@ fn ask_set(
     requester: usize,
     name: &[u8],
 ) -> Reply
-    requires { ⌜ Ready (inputsIn (now bytes) parts) (parts .count) (now arena) address ⌝ }
+    requires { ⌜ (parts .count ≤ 64) × (length (inputsIn (now bytes) parts) ≡ parts .count) × (now arena ≡ replicate (length (now arena)) 0) ⌝ }
     ensures { λ r. ⌜ replied r (now (arena .exit)) ≡ askOf (inputsIn (now (bytes .entry)) parts) (length (now (arena .entry))) address requester (now (name .entry)) ⌝ }
 {
     let count = parts.count;
     let mut table = [0u64; 1024];
-    let m = crate::prepare::load_all(bytes, parts, arena, &mut table);
+    let m = crate::prepare::prepare(bytes, parts, arena, address, &mut table);
     if let Met::Refused { number, object } = m {
-        sheet::wipe::clear(arena);
-        return Reply::Refused {
-            number: number,
-            object: object,
-        };
+        return refuse(number, object, arena);
     }
     if count <= requester {
-        sheet::wipe::clear(arena);
-        return Reply::Refused {
-            number: 13,
-            object: 0,
-        };
+        return refuse(13, 0, arena);
     }
     let gnu = words::hash::gnu_hash(name);
     let s = scope::scope::resolve(arena, &table, count, address, requester, name, gnu);
@@ -76,26 +80,6 @@ pub fn query(
     ensures { λ r. ⌜ replied r (now (arena .exit)) ≡ queryOf (now (sheet .entry)) (now (bytes .entry)) (length (now (arena .entry))) address requester (now (name .entry)) ⌝ }
 {
     sheet::wipe::clear(arena);
-    let n = bytes.len();
-    if !sheet::sheet::sheet_ok(sheet, n) {
-        return Reply::Refused {
-            number: 1,
-            object: 0,
-        };
-    }
-    if !sheet::sheet::arena_ok(arena.len(), address) {
-        return Reply::Refused {
-            number: 2,
-            object: 0,
-        };
-    }
-    let parts = sheet::sheet::parts_of(sheet, n);
-    let t = sheet::sheet::twin(bytes, parts);
-    if t != 0 {
-        return Reply::Refused {
-            number: 3,
-            object: t as u32,
-        };
-    }
+    let parts = sheet::sheet::parts_of(sheet, bytes.len());
     ask_set(bytes, parts, arena, address, requester as usize, name)
 }

@@ -54,7 +54,7 @@ use Rattle.object.specs.declared.program_header.Dynamic.the-variants.{At}
 use Rattle.object.specs.declared.hash_tables.HashTable.the-variants.{Without, SysV}
 use Rattle.object.specs.declared.hash_tables.SymbolCount.the-variants.{Unknown, Known}
 use Rattle.object.proofs.RefusalLaws.{after-none}
-use Rattle.binder.proofs.QueryIs.{zero-at}
+use Rattle.binder.proofs.PrepareLaws.{zero-at}
 use Rattle.demands.specs.PairOfSheets.{bytesOf, hostFile, programFile, libraryFile}
 
 -- ---- a file and zeros

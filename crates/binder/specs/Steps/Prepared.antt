@@ -1,16 +1,19 @@
--- Loading the objects of a set, one after another: what the loop does, in its own order. Document 01, "Placed bytes": "Host at arena offset 0,
--- then each object at the next free offset". `Bind` has what it comes to. Assumes nothing.
+-- Preparing a set: refusals 1 to 12, and its objects loaded one after another, in the code's order. Document 01, "Refused, in checking order";
+-- "Placed bytes": "Host at arena offset 0, then each object at the next free offset". `Bind` has what it comes to. Assumes nothing.
 use mathlib.Core.Bool.{Bool}
 use mathlib.Core.List.{List, [], _∷_}
 use mathlib.Core.Path.{_≡_}
 use Prim.Native.Nat.{ℕ, _+_, _-_, _≤_}
+use lib.Dec.{eqb, leb}
 use lib.ListN.{length}
 use Rattle.words.specs.Memory.{Mem, mem, write}
 use Rattle.object.specs.Placed.{objectSpan, objectBytes}
 use Rattle.object.specs.Record.{viewOf}
 use Rattle.object.specs.Loaded.{objectRefusal}
+use Rattle.sheet.specs.Sheet.{Input, arenaOk, twinOf}
 use Rattle.binder.specs.Instance.{File, fileRecord}
-use Rattle.binder.specs.Verdict.{Verdict, passed, refused, loadVerdict}
+use Rattle.binder.specs.Verdict.{Verdict, passed, refused, first, loadVerdict}
+use Rattle.binder.specs.Bind.{filesOf, unless}
 use Rattle.scope.specs.Steps.Seats.{seatAt, Filtered}
 use Rattle.scope.specs.declared.seats.Seat.{Seat}
 use Rattle.binder.specs.declared.prepare.Met.{Met}
@@ -51,8 +54,23 @@ LoadedAt host file off before after (loads.the-variants.Refused n) = (n ≡ obje
 LoadedAt host file off before after (loads.the-variants.At s) = SeatedAt host file off before after s
 
 -- what loading a list of files leaves
-pub record Prepared (files : List File) (before after seats : List ℕ) (r : Met) : Type 0 where
+pub record LoadedFiles (files : List File) (before after seats : List ℕ) (r : Met) : Type 0 where
   pub met : metBy r ≡ loadVerdict (length before) 0 0 files
   pub arena : r ≡ Passed → mem after ≡ placeFiles files 0 (mem before)
   pub table : r ≡ Passed → Seated seats 0 0 files
   pub filtered : r ≡ Passed → Filtered seats (length files)
+
+-- 1 to 12 of the objects that a table of parts names. A sheet that is not refused has two at least; a refused one is handed on as none.
+unfoldable pub setVerdict : List Input → ℕ → ℕ → Verdict
+setVerdict os size address =
+    first (unless (leb 2 (length os)) 1 0)
+    (first (unless (arenaOk size address) 2 0)
+    (first (unless (eqb (twinOf os) 0) 3 (twinOf os))
+    (loadVerdict size 0 0 (filesOf os))))
+
+-- what preparing them leaves
+pub record Prepared (os : List Input) (address : ℕ) (before after seats : List ℕ) (r : Met) : Type 0 where
+  pub met : metBy r ≡ setVerdict os (length before) address
+  pub arena : r ≡ Passed → mem after ≡ placeFiles (filesOf os) 0 (λ _. 0)
+  pub table : r ≡ Passed → Seated seats 0 0 (filesOf os)
+  pub filtered : r ≡ Passed → Filtered seats (length os)

@@ -1,18 +1,16 @@
--- The end of a call to `bind`: what each of its steps answers. Document 01, "Refused, in checking order" (19 and 20); demand 1, "a refusal
+-- What each step of a call to `bind` answers. Document 01, "Refused, in checking order" (19 and 20); demand 1, "a refusal
 -- leaves zeros in arena and report". `Bind` has what it comes to. Assumes nothing.
-use mathlib.Core.Bool.{Bool, true, false, not}
-use mathlib.Core.List.{List, _++_}
+use mathlib.Core.Bool.{not}
+use mathlib.Core.List.{List}
 use mathlib.Core.Path.{_≡_}
-use Prim.Native.Nat.{ℕ, _-_}
+use Prim.Native.Nat.{ℕ}
 use lib.ListN.{length, replicate}
-use Rattle.words.specs.Memory.{tab}
-use Rattle.model.specs.Relocation.{bound}
-use Rattle.sheet.specs.Sheet.{Input, setOf}
-use Rattle.binder.specs.Verdict.{Verdict, passed, refused, first, verdict, loadVerdict}
-use Rattle.binder.specs.Report.{orderWords}
+use Rattle.sheet.specs.Sheet.{Input}
+use Rattle.binder.specs.Verdict.{Verdict, first, verdict}
 use Rattle.binder.specs.SetOrder.{setOrder}
-use Rattle.binder.specs.Bind.{filesOf, namesOf, objectsOf, unless, prepareVerdict, allows, relocateVerdict, Outcome, outcome, bindIn, bindOf}
-use Rattle.binder.specs.Steps.Prepared.{metBy}
+use Rattle.binder.specs.Bind.{filesOf, namesOf, unless, allows, Outcome, outcome, bindIn}
+use Rattle.binder.specs.Steps.Prepared.{metBy, setVerdict}
+use Rattle.binder.specs.Steps.Relocating.{left, started, runOrder}
 use Rattle.binder.specs.declared.Policy.{Policy}
 use Rattle.binder.specs.declared.Answer as answers
 use Rattle.binder.specs.declared.prepare.Met.{Met}
@@ -31,13 +29,19 @@ settledOf Passed arena report = outcome answers.the-variants.Bound arena report
 settledOf (Refused n k) arena report =
     outcome (answers.the-variants.Refused n k) (replicate (length arena) 0) (replicate (length report) 0)
 
--- what is left of a set that passed refusals 1 to 3: settled, it is `bindIn`
-abbrev pub BoundSet : List Input → List ℕ → ℕ → Policy → List ℕ → List ℕ → List ℕ → Met → Type 0
-BoundSet os arena address policy report arena′ report′ m =
-    settledOf m arena′ report′
-    ≡ bindIn (loadVerdict (length arena) 0 0 (filesOf os)) (filesOf os) (setOrder (filesOf os) (namesOf os)) (length arena) address policy (length report)
+-- 14 to 20 of loaded objects, relocated in an order: how far it came, what it leaves, and the refusal
+pub record Relocated
+    (os : List Input) (count : ℕ) (table order arena : List ℕ) (address : ℕ) (policy : Policy) (report arena′ report′ : List ℕ) (m : Met)
+    : Type 0 where
+  pub progress : Progress
+  pub leaves : left progress arena′ report′ ≡ runOrder address table count os order (left started arena report)
+  pub met : metBy m ≡ endsBy policy progress
 
--- what is left of a call
-abbrev pub BoundCall : List ℕ → List ℕ → List ℕ → ℕ → Policy → List ℕ → List ℕ → List ℕ → Met → Type 0
-BoundCall sheet bytes arena address policy report arena′ report′ m =
-    settledOf m arena′ report′ ≡ bindOf sheet bytes (length arena) address policy (length report)
+-- the objects that a table of parts names, bound in the order of the set
+unfoldable pub bindSet : List Input → ℕ → ℕ → Policy → ℕ → Outcome
+bindSet os size address policy words =
+    bindIn (setVerdict os size address) (filesOf os) (setOrder (filesOf os) (namesOf os)) size address policy words
+
+-- what is left of them: settled, it is `bindSet`
+abbrev pub BoundSet : List Input → ℕ → ℕ → Policy → ℕ → List ℕ → List ℕ → Met → Type 0
+BoundSet os size address policy words arena′ report′ m = settledOf m arena′ report′ ≡ bindSet os size address policy words
