@@ -14,6 +14,7 @@ use Rattle.binder.proofs.relocate.relatives.Tie as tie
 use Rattle.binder.proofs.relocate.relatives.Reads as reads
 use Rattle.binder.proofs.relocate.relatives.Lts as lts
 use Rattle.binder.proofs.relocate.in_reach.Reads as in-reach-reads
+use Rattle.binder.proofs.relocate.is_relative.Reads as is-relative-reads
 use Rattle.words.proofs.bytes.store_in.Reads as store-in-reads
 use Rattle.words.proofs.bytes.sum_u64.Reads as sum-u64-reads
 use Rattle.words.proofs.bytes.u32_in.Reads as u32-in-reads
@@ -63,78 +64,81 @@ u32-in-requires : tie.Need-u32-in-requires Inv-loop μ-loop
 u32-in-requires c κs =
     let l = c .before .before .loop in let g = l .inv .4 in search (needs, g .span, g .entries)
 
+is-relative-requires : tie.Need-is-relative-requires Inv-loop μ-loop
+is-relative-requires c κs = search needs
+
 same-length : tie.Need-same-length Inv-loop μ-loop
 same-length c =
-    c .before .before .before .before .loop .inv .0
+    c .before .before .before .before .before .loop .inv .0
 
 returns-2 : tie.Need-returns-2 Inv-loop μ-loop
 returns-2 c =
-    (c .before .before .before .before .loop .inv .1, c .before .before .before .before .loop .inv .2, c .before .before .before .before .loop .inv .6)
+    (c .before .before .before .before .before .loop .inv .1, c .before .before .before .before .before .loop .inv .2, c .before .before .before .before .before .loop .inv .6)
 
 u64-in-requires : tie.Need-u64-in-requires Inv-loop μ-loop
 u64-in-requires c κs =
-    let l = c .before .before .before .before .before .loop in let g = l .inv .4 in search (needs, g .span, g .entries)
+    let l = c .before .before .before .before .before .before .loop in let g = l .inv .4 in search (needs, g .span, g .entries)
 
 same-length-2 : tie.Need-same-length-2 Inv-loop μ-loop
 same-length-2 c =
-    c .before .before .before .before .before .before .before .loop .inv .0
+    c .before .before .before .before .before .before .before .before .loop .inv .0
 
 returns-3 : tie.Need-returns-3 Inv-loop μ-loop
 returns-3 c =
-    (c .before .before .before .before .before .before .before .loop .inv .1, c .before .before .before .before .before .before .before .loop .inv .2, c .before .before .before .before .before .before .before .loop .inv .6)
+    (c .before .before .before .before .before .before .before .before .loop .inv .1, c .before .before .before .before .before .before .before .before .loop .inv .2, c .before .before .before .before .before .before .before .before .loop .inv .6)
 
 same-length-3 : tie.Need-same-length-3 Inv-loop μ-loop
 same-length-3 c =
-    c .before .before .before .before .before .before .before .before .loop .inv .0
+    c .before .before .before .before .before .before .before .before .before .loop .inv .0
 
 returns-4 : tie.Need-returns-4 Inv-loop μ-loop
 returns-4 c =
-    (c .before .before .before .before .before .before .before .before .loop .inv .1, c .before .before .before .before .before .before .before .before .loop .inv .2, c .before .before .before .before .before .before .before .before .loop .inv .6)
+    (c .before .before .before .before .before .before .before .before .before .loop .inv .1, c .before .before .before .before .before .before .before .before .before .loop .inv .2, c .before .before .before .before .before .before .before .before .before .loop .inv .6)
 
 add-u64-in : tie.Need-add-u64-in Inv-loop μ-loop
 add-u64-in c =
-    let l = c .before .before .before .before .before .before .before .before .before .loop in let g = l .inv .4 in search (needs, g .span, g .entries)
+    let l = c .before .before .before .before .before .before .before .before .before .before .loop in let g = l .inv .4 in search (needs, g .span, g .entries)
 
 u64-in-requires-2 : tie.Need-u64-in-requires-2 Inv-loop μ-loop
 u64-in-requires-2 c κs =
-    let l = c .before .before .before .before .before .before .before .before .before .loop in let g = l .inv .4 in search (needs, g .span, g .entries)
+    let l = c .before .before .before .before .before .before .before .before .before .before .loop in let g = l .inv .4 in search (needs, g .span, g .entries)
 
 sum-u64-requires : tie.Need-sum-u64-requires Inv-loop μ-loop
 sum-u64-requires c κs = search needs
 
 add-store-in : tie.Need-add-store-in Inv-loop μ-loop
 add-store-in c =
-    let l = c .before .before .before .before .before .before .before .before .before .before .before .before .before .loop in let g = l .inv .4 in search (needs, g .span, g .inside)
+    let l = c .before .before .before .before .before .before .before .before .before .before .before .before .before .before .loop in let g = l .inv .4 in search (needs, g .span, g .inside)
 
 store-in-requires : tie.Need-store-in-requires Inv-loop μ-loop
 store-in-requires c κs =
-    let l = c .before .before .before .before .before .before .before .before .before .before .before .before .before .loop in let g = l .inv .4 in search (needs, g .span, g .inside)
+    let l = c .before .before .before .before .before .before .before .before .before .before .before .before .before .before .loop in let g = l .inv .4 in search (needs, g .span, g .inside)
 
 add-k-3 : tie.Need-add-k-3 Inv-loop μ-loop
 add-k-3 c =
-    let l = c .before .before .before .before .before .before .before .before .before .before .before .before .before .before .before .before .loop in let g = l .inv .4 in search (needs, g .span, g .entries)
+    let l = c .before .before .before .before .before .before .before .before .before .before .before .before .before .before .before .before .before .loop in let g = l .inv .4 in search (needs, g .span, g .entries)
 
 add-i : tie.Need-add-i Inv-loop μ-loop
 add-i c = search needs
 
 loop-less : tie.Need-loop-less Inv-loop μ-loop
 loop-less c =
-    counts-down (c .before .before .before .before .before .before .before .before .before .before .before .before .before .before .before .loop-test .taken)
+    counts-down (c .before .before .before .before .before .before .before .before .before .before .before .before .before .before .before .before .loop-test .taken)
 
 loop-again : tie.Need-loop-again Inv-loop μ-loop
 loop-again c =
-    let a = c .before .before .before .before .before .before .before .before .before .before .before .before .before .before .before .before .before .before .before .before .before .args in
-    let l = c .before .before .before .before .before .before .before .before .before .before .before .before .before .before .before .before .loop in
+    let a = c .before .before .before .before .before .before .before .before .before .before .before .before .before .before .before .before .before .before .before .before .before .before .args in
+    let l = c .before .before .before .before .before .before .before .before .before .before .before .before .before .before .before .before .before .loop in
     let g = l .inv .4 in
     let s = c .before .before .store-in in (
       s .kept .0 ∙ l .inv .0,
       omega (arith, l .inv .1),
-      omega (arith, c .before .before .before .before .before .before .before .before .before .before .before .before .before .before .before .loop-test .taken),
+      omega (arith, c .before .before .before .before .before .before .before .before .before .before .before .before .before .before .before .before .loop-test .taken),
       omega (arith, l .inv .3),
       g,
       l .inv .5,
-      relative-turn (a .t) (a .at) (a .n) (a .low) (a .high) (l .i) (l .arena) {v = c .before .before .before .before .before .sum-u64 .result} {b = s .last .0} (c .before .before .before .before .before .before .before .before .before .before .before .before .before .before .before .loop-test .taken) (g .entries) (l .inv .3)
-          (c .before .before .before .before .before .before .before .before .before .before .before .before .before .u32-in .ensures) (c .before .before .before .before .before .before .before .before .before .before .before .before .if2 .left) (c .before .before .before .before .before .before .before .before .before .before .u64-in .ensures) (omega (arith, c .before .before .before .before .before .before .before .before .before .if3 .left)) (omega (arith, c .before .before .before .before .before .before .before .before .if4 .left, l .inv .5))
+      relative-turn (a .t) (a .at) (a .n) (a .low) (a .high) (l .i) (l .arena) {v = c .before .before .before .before .before .sum-u64 .result} {b = s .last .0} (c .before .before .before .before .before .before .before .before .before .before .before .before .before .before .before .before .loop-test .taken) (g .entries) (l .inv .3)
+          (c .before .before .before .before .before .before .before .before .before .before .before .before .before .before .u32-in .ensures) (c .before .before .before .before .before .before .before .before .before .before .before .before .before .is-relative .ensures (not-false _ (c .before .before .before .before .before .before .before .before .before .before .before .before .if2 .left))) (c .before .before .before .before .before .before .before .before .before .before .u64-in .ensures) (omega (arith, c .before .before .before .before .before .before .before .before .before .if3 .left)) (omega (arith, c .before .before .before .before .before .before .before .before .if4 .left, l .inv .5))
           (c .before .before .before .before .before .before .u64-in2 .ensures) (c .before .before .before .before .before .sum-u64 .ensures) (s .ensures) (a .start) (now (a .arena)) (l .inv .6),
     )
 
@@ -161,6 +165,7 @@ relatives-spec =
     loop-holds
     add-u32-in
     u32-in-requires
+    is-relative-requires
     same-length
     returns-2
     u64-in-requires

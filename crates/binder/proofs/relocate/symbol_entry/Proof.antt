@@ -1,4 +1,3 @@
-use Rattle.object.specs.Entries.{actionOf}
 use borrow.Author.Tests.{not-false}
 use native.Mathlib.Omega.{arith}
 use mathlib.Core.Path.{_∙_, ap}
