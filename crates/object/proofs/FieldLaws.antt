@@ -18,8 +18,8 @@ use Rattle.object.specs.declared.dynamic_array.Needs.{Needs}
 use Rattle.object.specs.declared.dynamic_array.DynamicArray.{DynamicArray}
 use Rattle.object.specs.DynamicArray.{Item, itemAt, itemRoom, itemsIn, endIn, endsInside, noField, field, lastValue, firstOf, allOf}
 use Rattle.object.specs.DynamicTags as DT
-use Rattle.object.specs.DynamicFields.{fieldOf, fieldsOf, neededOffsets, Needed}
-use Rattle.object.specs.Steps.Slots.{slotOf, slotField, fieldIn, keptOf, putOf, needStep, ArrayAt}
+use Rattle.object.specs.DynamicFields.{fieldOf, fieldsOf, neededOffsets}
+use Rattle.object.specs.Steps.Slots.{slotOf, slotField, fieldIn, keptOf, putOf, needStep, Needed, ArrayAt}
 
 -- ---- slots
 
