@@ -20,7 +20,7 @@ use Rattle.object.specs.declared.dynamic_array.Needs.{Needs}
 use Rattle.object.specs.declared.program_header.Dynamic.{Dynamic}
 use Rattle.object.specs.declared.program_header.Dynamic.the-variants.{Missing, At}
 use Rattle.object.specs.DynamicFields as fields
-use Rattle.object.specs.DynamicFields.{Needed}
+use Rattle.object.specs.Steps.Slots.{Needed}
 use Rattle.object.specs.ProgramHeader.{dynamicOf}
 use Rattle.sheet.specs.declared.sheet.Part.{Part}
 use Rattle.sheet.specs.declared.sheet.Parts.{Parts}

@@ -18,8 +18,8 @@ use Rattle.object.specs.declared.dynamic_array.Needs.{Needs}
 use Rattle.object.specs.declared.dynamic_array.DynamicArray.{DynamicArray}
 use Rattle.object.specs.DynamicArray.{Item, itemAt, itemRoom, itemsIn, endIn, endsInside, noField, field, lastValue, firstOf, allOf}
 use Rattle.object.specs.DynamicTags as DT
-use Rattle.object.specs.DynamicFields.{fieldOf, fieldsOf, neededOffsets, Needed}
-use Rattle.object.specs.Steps.Slots.{slotOf, slotField, fieldIn, keptOf, putOf, needStep, ArrayAt}
+use Rattle.object.specs.DynamicFields.{fieldOf, fieldsOf, neededOffsets}
+use Rattle.object.specs.Steps.Slots.{slotOf, slotField, fieldIn, keptOf, putOf, needStep, Needed, ArrayAt}
 
 -- ---- slots
 
@@ -27,26 +27,17 @@ use Rattle.object.specs.Steps.Slots.{slotOf, slotField, fieldIn, keptOf,
 tagOf : ℕ → ℕ
 tagOf k = pick (ltb k 37) k DT.GNU-HASH
 
-tag-of : (tag : ℕ) → 0 < slotOf tag → tagOf (slotOf tag) ≡ tag
+slot-tag : (tag : ℕ) → (slotOf tag < 38) × (0 < slotOf tag → tagOf (slotOf tag) ≡ tag)
 unfolding tagOf slotOf
-tag-of tag = go (decLt tag 37) (ℕ-discrete tag DT.GNU-HASH)
+slot-tag tag = go (decLt tag 37) (ℕ-discrete tag DT.GNU-HASH)
   where
-    go : Dec (tag < 37) → Dec (tag ≡ DT.GNU-HASH) → 0 < slotOf tag → tagOf (slotOf tag) ≡ tag
-    go (yes l) d h = rw (lt-ltb tag 37 l, lt-ltb tag 37 l)
-    go (no l) (yes e) h = rw e
-    go (no l) (no ne) h = absurd (omega (arith, rw (le-ltb tag 37 (omega arith), ne-eqb tag DT.GNU-HASH ne) at h))
+    go : Dec (tag < 37) → Dec (tag ≡ DT.GNU-HASH) → (slotOf tag < 38) × (0 < slotOf tag → tagOf (slotOf tag) ≡ tag)
+    go (yes l) d = rw (lt-ltb tag 37 l, lt-ltb tag 37 l) (omega arith, λ h. refl)
+    go (no l) (yes e) = rw e (omega arith, λ h. refl)
+    go (no l) (no ne) = rw (le-ltb tag 37 (omega arith), ne-eqb tag DT.GNU-HASH ne) (omega arith, λ h. absurd (omega arith))
 
 slot-apart : (t tag : ℕ) → 0 < slotOf tag → (t ≡ tag → ⊥) → slotOf t ≡ slotOf tag → ⊥
-slot-apart t tag h ne e = ne (sym (tag-of t (rw e h)) ∙ (ap tagOf e ∙ tag-of tag h))
-
-slot-room : (tag : ℕ) → slotOf tag < 38
-unfolding slotOf
-slot-room tag = go (decLt tag 37) (ℕ-discrete tag DT.GNU-HASH)
-  where
-    go : Dec (tag < 37) → Dec (tag ≡ DT.GNU-HASH) → slotOf tag < 38
-    go (yes l) d = rw (lt-ltb tag 37 l) (omega arith)
-    go (no l) (yes e) = rw e (omega arith)
-    go (no l) (no ne) = rw (le-ltb tag 37 (omega arith), ne-eqb tag DT.GNU-HASH ne) (omega arith)
+slot-apart t tag h ne e = ne (sym (slot-tag t .1 (rw e h)) ∙ (ap tagOf e ∙ slot-tag tag .1 h))
 
 -- what more entries give after `d`
 unfoldable pub fieldFrom : ℕ → Field → List Item → Field
@@ -57,43 +48,39 @@ module _ (image slots : List ℕ) (room : length slots ≡ 38) (tag : ℕ) (h : 
   abbrev v : ℕ
   v = leAt 8 (mem image) place
 
-  -- one of another tag
-  put-other :
-      (t : ℕ) → (t ≡ tag → ⊥)
-      → fieldFrom tag (fieldIn image slots tag) (record { tag = t; value = v } ∷ xs) ≡ fieldFrom tag (fieldIn image (putOf slots t place) tag) xs
+  abbrev was : ℕ
+  was = getD slots (slotOf tag) 0
+
+  abbrev Turn : ℕ → Type 0
+  Turn t = fieldFrom tag (fieldIn image slots tag) (record { tag = t; value = v } ∷ xs) ≡ fieldFrom tag (fieldIn image (putOf slots t place) tag) xs
+
+  put-other : (t : ℕ) → (t ≡ tag → ⊥) → Turn t
   unfolding fieldFrom firstOf lastValue
   put-other t ne =
       rw (ne-eqb t tag ne, getD-set-other slots (slotOf t) (slotOf tag) (keptOf t (getD slots (slotOf t) 0) place) 0 (λ e. slot-apart t tag h ne (sym e)))
 
-  here : getD (putOf slots tag place) (slotOf tag) 0 ≡ keptOf tag (getD slots (slotOf tag) 0) place
-  here = getD-set-same slots (slotOf tag) (keptOf tag (getD slots (slotOf tag) 0) place) 0 (omega (arith, room, slot-room tag))
+  here : getD (putOf slots tag place) (slotOf tag) 0 ≡ keptOf tag was place
+  here = getD-set-same slots (slotOf tag) (keptOf tag was place) 0 (omega (arith, room, slot-tag tag .0))
 
-  put-last :
-      (tag ≡ DT.HASH → ⊥)
-      → fieldFrom tag (fieldIn image slots tag) (record { tag = tag; value = v } ∷ xs) ≡ fieldFrom tag (fieldIn image (putOf slots tag place) tag) xs
+  put-last : (tag ≡ DT.HASH → ⊥) → Turn tag
   unfolding fieldFrom firstOf lastValue keptOf slotField
   put-last ne = rw (here, ne-eqb tag DT.HASH ne, eq-eqb tag tag refl, ne-eqb place 0 (λ z. absurd (omega arith)))
 
-  put-first :
-      tag ≡ DT.HASH
-      → fieldFrom tag (fieldIn image slots tag) (record { tag = tag; value = v } ∷ xs) ≡ fieldFrom tag (fieldIn image (putOf slots tag place) tag) xs
+  put-first : tag ≡ DT.HASH → Turn tag
   unfolding fieldFrom firstOf lastValue keptOf slotField
-  put-first e = rw (here, eq-eqb tag DT.HASH e, eq-eqb tag tag refl) (go (ℕ-discrete (getD slots (slotOf tag) 0) 0))
+  put-first e = rw (here, eq-eqb tag DT.HASH e, eq-eqb tag tag refl) (go (ℕ-discrete was 0))
     where
       go :
-          Dec (getD slots (slotOf tag) 0 ≡ 0)
-          → firstOf tag (pick (fieldIn image slots tag .given) (fieldIn image slots tag) (field v)) xs
-          ≡ firstOf tag (slotField image (pick (eqb (getD slots (slotOf tag) 0) 0) place (getD slots (slotOf tag) 0))) xs
+          Dec (was ≡ 0)
+          → firstOf tag (pick (slotField image was .given) (slotField image was) (field v)) xs
+          ≡ firstOf tag (slotField image (pick (eqb was 0) place was)) xs
       go (yes z) = rw (z, ne-eqb place 0 (λ z. absurd (omega arith)))
-      go (no ne) = rw (ne-eqb (getD slots (slotOf tag) 0) 0 ne, ne-eqb (getD slots (slotOf tag) 0) 0 ne)
+      go (no ne) = rw (ne-eqb was 0 ne, ne-eqb was 0 ne)
 
-  pub put-turn :
-      (t : ℕ) → fieldFrom tag (fieldIn image slots tag) (record { tag = t; value = v } ∷ xs) ≡ fieldFrom tag (fieldIn image (putOf slots t place) tag) xs
+  put-turn : (t : ℕ) → Turn t
   put-turn t = go (ℕ-discrete t tag) (ℕ-discrete tag DT.HASH)
     where
-      go :
-          Dec (t ≡ tag) → Dec (tag ≡ DT.HASH)
-          → fieldFrom tag (fieldIn image slots tag) (record { tag = t; value = v } ∷ xs) ≡ fieldFrom tag (fieldIn image (putOf slots t place) tag) xs
+      go : Dec (t ≡ tag) → Dec (tag ≡ DT.HASH) → Turn t
       go (no ne) d = put-other t ne
       go (yes e) (no ne) = rw e (put-last ne)
       go (yes e) (yes f) = rw e (put-first f)
@@ -108,7 +95,7 @@ pub record Left (whole : List ℕ) (n : Needs) (left : List ℕ) : Type 0 where
   pub list : n .count ≤ 64 → take (n .count) (n .list) ++ left ≡ whole
   pub full : 64 < n .count → n .list ≡ take 64 whole
 
-pub left-all : (whole : List ℕ) (n : Needs) → Left whole n [] → Needed whole n
+left-all : (whole : List ℕ) (n : Needs) → Left whole n [] → Needed whole n
 left-all whole n h =
     record {
       count = omega (arith, h .count, h .most);
@@ -117,7 +104,7 @@ left-all whole n h =
       more = λ l. h .full (omega (arith, h .count, h .most));
     }
 
-pub left-none : (whole : List ℕ) (n : Needs) → length (n .list) ≡ 64 → n .count ≡ 0 → Left whole n whole
+left-none : (whole : List ℕ) (n : Needs) → length (n .list) ≡ 64 → n .count ≡ 0 → Left whole n whole
 left-none whole n l z =
     record { room = l; most = omega arith; count = omega arith; list = λ h. rw z; full = λ h. absurd (omega arith) }
 
@@ -163,7 +150,7 @@ unfolding needStep
 needs-other n tag v ne = rw (ne-eqb tag 1 ne)
 
 -- one entry
-pub left-step :
+left-step :
     (whole : List ℕ) (n r : Needs) (x : Item) (xs : List Item) → Left whole n (allOf 1 (x ∷ xs)) → r ≡ needStep n (x .tag) (x .value)
     → Left whole r (allOf 1 xs)
 unfolding allOf
@@ -202,7 +189,7 @@ module _ (image : List ℕ) (at : ℕ) where
       record {
         room = rw e (length-replicate {A = ℕ} 38 0);
         inside = omega arith;
-        fields = λ tag h. rw (e, getD-replicate {A = ℕ} 38 (slotOf tag) 0 0 (slot-room tag));
+        fields = λ tag h. rw (e, getD-replicate {A = ℕ} 38 (slotOf tag) 0 0 (slot-tag tag .0));
         needed = left-none _ needs l z;
         ended = refl;
       }
@@ -215,17 +202,14 @@ module _ (image : List ℕ) (at : ℕ) where
     unfolding fieldFrom firstOf lastValue allOf
     ends b e t =
         record {
-          fields = λ tag h. none tag (fieldIn image slots tag) ∙ (ap (fieldFrom tag (fieldIn image slots tag)) (sym e) ∙ w .fields tag h);
+          fields = λ tag h. none (eqb tag DT.HASH) (fieldIn image slots tag) ∙ (ap (fieldFrom tag (fieldIn image slots tag)) (sym e) ∙ w .fields tag h);
           needs = left-all _ needs (rw e at (w .needed));
           ended = sym t ∙ w .ended;
         }
       where
-        none : (tag : ℕ) (d : Field) → d ≡ fieldFrom tag d []
-        none tag d = go (eqb tag DT.HASH)
-          where
-            go : (b : Bool) → d ≡ pick b d d
-            go true = refl
-            go false = refl
+        none : (b : Bool) (d : Field) → d ≡ pick b d d
+        none true d = refl
+        none false d = refl
 
     pub walk-end : 0 < left → leAt 8 (mem image) i ≡ 0 → ArrayAt image at (record { slots = slots; needs = needs; ended = true })
     unfolding itemsIn endIn

@@ -1,7 +1,7 @@
 -- The laws of `below`, of table bytes and of writable segments. No contract cites this file. Assumes nothing.
 use mathlib.Core.Path.{_≡_, refl, sym, _∙_}
 use mathlib.Core.Bool.{Bool, true, false, not}
-use mathlib.Core.List.{List, [], _∷_, map}
+use mathlib.Core.List.{List, [], _∷_}
 use mathlib.Core.Logic.{_⊎_, inl, inr, ⊎-elim}
 use Prim.Native.Nat.{ℕ, zero, suc, _+_, _-_, _/_, _%_, _≤_, _<_}
 use native.Mathlib.Nat.{eq-or-lt-of-le, le-of-suc-le-suc, not-suc-le-zero}
@@ -9,16 +9,13 @@ use native.Mathlib.Numerals.{add-one}
 use native.Mathlib.Omega.{arith}
 use borrow.Author.Tests.{eq-eqb, le-leb, lt-ltb, le-ltb, eqb-true, leb-true, ltb-true, ltb-false}
 use lib.Dec.{eqb, leb, ltb}
-use lib.ListN.{length, getD, take, drop, drop-of-length-le, length-take, length-map}
-use lib.Seq.{drop-cons, getD-take}
+use lib.ListN.{length, getD, take, drop, drop-of-length-le}
 use Rattle.words.specs.Choice.{both, either, every, some, below}
 use Rattle.words.proofs.Choice.{both-true, both-false}
 use Rattle.object.specs.declared.program_header.Segment.{Segment}
 use Rattle.object.specs.TableBytes.{isWritable, holdsRange, isTable, tableBytes, inWritable}
 use Rattle.object.specs.Steps.WritableRange.{WritableRange}
-
-pub length-mapped : (X Y : Type 0) (f : X → Y) (l : List X) (n : ℕ) → length (map f l) ≡ n → length l ≡ n
-length-mapped X Y f l n e = sym (length-map l f) ∙ e
+use Rattle.object.proofs.ListTests.{one-left, some-turn}
 
 pub split : (a b : ℕ) → (a < b) ⊎ (b ≤ a)
 split a b = go (ltb a b) refl
@@ -90,14 +87,6 @@ seg-out s i never =
     go true true false a b c = refl
     go true true true a b c = let h = c refl in absurd (never (a refl) (b refl) (omega arith))
 
--- ---- the segments from the `i`th on
-
-module _ (c : ℕ) (l : List Segment) (i : ℕ) (d : Segment) (h : i < c) (h′ : i < length l) where
-  one : drop i (take c l) ≡ getD l i d ∷ drop (i + 1) (take c l)
-  one =
-      let w : i < length (take c l) = simp length-take (omega arith) in
-      rw (drop-cons (take c l) i d w, getD-take c l i d h, add-one)
-
 -- ---- table bytes
 
 module _ (span : ℕ) (l : List Segment) (at n : ℕ) where
@@ -125,7 +114,7 @@ module _ (at n c : ℕ) (l : List Segment) (i : ℕ) where
         ≡ both (below (λ k. spares (getD l i d) (at + k)) n) (below (λ k. every (λ s. spares s (at + k)) (drop (i + 1) (take c l))) n)
     unfolding every
     first =
-        rw (one c l i d h h′)
+        rw (one-left l c i d h h′)
         (below-both (λ k. spares (getD l i d) (at + k)) (λ k. every (λ s. spares s (at + k)) (drop (i + 1) (take c l))) n)
 
     pub rest-no : below (λ k. spares (getD l i d) (at + k)) n ≡ false
@@ -141,23 +130,6 @@ module _ (at n c : ℕ) (l : List Segment) (i : ℕ) where
 pub table-inside : (span : ℕ) (l : List Segment) (i : ℕ) → isTable span l i ≡ true → i < span
 unfolding isTable
 table-inside span l i e = ltb-true i span (both-true (ltb i span) (every (λ s. spares s i) l) e .0)
-
--- ---- writable segments
-
-module _ (at n c : ℕ) (l : List Segment) (i : ℕ) where
-  pub some-end : length (take c l) ≤ i → inWritable (drop i (take c l)) at n ≡ false
-  unfolding inWritable some
-  some-end h = rw (drop-of-length-le (take c l) h)
-
-  module _ (d : Segment) (h : i < c) (h′ : i < length l) where
-    pub some-yes : both (isWritable (getD l i d)) (holdsRange (getD l i d) at n) ≡ true → inWritable (drop i (take c l)) at n ≡ true
-    unfolding inWritable some
-    some-yes e = rw (one c l i d h h′, e)
-
-    pub some-on : both (isWritable (getD l i d)) (holdsRange (getD l i d) at n) ≡ false
-        → inWritable (drop i (take c l)) at n ≡ inWritable (drop (i + 1) (take c l)) at n
-    unfolding inWritable some
-    some-on e = rw (one c l i d h h′, e)
 
 -- ---- ranges of places in one writable segment
 
@@ -202,7 +174,9 @@ pub range-at :
     (c : ℕ) (l : List Segment) (i : ℕ) (d : Segment) (at n high : ℕ) → i < c → i < length l
     → both (isWritable (getD l i d)) (holdsRange (getD l i d) at n) ≡ true → high ≤ getD l i d .vaddr + getD l i d .memsz
     → WritableRange (take c l) (getD l i d .vaddr) high
+unfolding inWritable
 range-at c l i d at n high h h′ e top p k low fits pos =
     let w = both-true (isWritable (getD l i d)) (holdsRange (getD l i d) at n) e in
     let u : p + k ≤ getD l i d .vaddr + getD l i d .memsz = omega arith in
-    writable-after i (take c l) p k (some-yes p k c l i d h h′ (rw (w .0, le-leb _ _ low, le-leb _ _ u)))
+    let here : both (isWritable (getD l i d)) (holdsRange (getD l i d) p k) ≡ true = rw (w .0, le-leb _ _ low, le-leb _ _ u) in
+    writable-after i (take c l) p k (some-turn l c i d h h′ (λ s. both (isWritable s) (holdsRange s p k)) true here)

@@ -1,13 +1,10 @@
 -- The fields of the dynamic array, by their tags. System V gABI, "Dynamic Section". Document 01, "The object record": "A repeated tag: the
 -- last counts"; "Of hash tables, the last GNU (0x6ffffef5), else the first SysV (4)". Assumes nothing.
 use mathlib.Core.List.{List}
-use mathlib.Core.Path.{_≡_}
-use Prim.Native.Nat.{ℕ, _≤_, _<_, min}
+use Prim.Native.Nat.{ℕ}
 use lib.Dec.{eqb}
-use lib.ListN.{length, take}
 use Rattle.words.specs.Choice.{pick}
 use Rattle.object.specs.declared.dynamic_array.Field.{Field}
-use Rattle.object.specs.declared.dynamic_array.Needs.{Needs}
 use Rattle.object.specs.DynamicTags as DT
 use Rattle.object.specs.DynamicArray.{Item, noField, lastValue, firstOf, allOf, itemsOf}
 
@@ -26,10 +23,3 @@ fieldsOf image at = fieldOf (itemsOf image at)
 -- DT_NEEDED: the offsets of the needs' names, in file order
 abbrev pub neededOffsets : List ℕ → ℕ → List ℕ
 neededOffsets image at = allOf DT.NEEDED (itemsOf image at)
-
--- the table of needs that the code keeps: "up to 64 needed offsets"; a count of 65 says that there are more, and the first 64 are held
-pub record Needed (needs : List ℕ) (n : Needs) : Type 0 where
-  pub count : n .count ≡ min (length needs) 65
-  pub room : length (n .list) ≡ 64
-  pub list : length needs ≤ 64 → take (n .count) (n .list) ≡ needs
-  pub more : 64 < length needs → n .list ≡ take 64 needs

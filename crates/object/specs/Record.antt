@@ -3,7 +3,7 @@
 use mathlib.Core.Bool.{Bool, true}
 use mathlib.Core.List.{List, []}
 use mathlib.Core.Path.{_≡_}
-use Prim.Native.Nat.{ℕ, _+_, _*_, _/_, _^_, _<_}
+use Prim.Native.Nat.{ℕ, _+_, _*_, _/_}
 use lib.Dec.{eqb, leb, ltb}
 use lib.ListN.{length, take}
 use Rattle.words.specs.Choice.{pick, both, either, every}
@@ -23,7 +23,6 @@ use Rattle.object.specs.declared.entry_symbol.CheckedSymbol.{CheckedSymb
 use Rattle.object.specs.declared.entry_symbol.CheckedSymbol.the-variants.{Refused, Checked}
 use Rattle.object.specs.declared.dynamic_fields.ObjectData.{ObjectData}
 use Rattle.object.specs.declared.dynamic_fields.Read.{Read}
-use Rattle.object.specs.declared.table_bytes.Bounds.{Bounds}
 use Rattle.object.specs.DynamicArray.{endsInside}
 use Rattle.object.specs.DynamicTags as DT
 use Rattle.object.specs.DynamicFields.{Fields, fieldsOf, neededOffsets}
@@ -167,16 +166,6 @@ unfoldable pub tablesOk : Bool → List ℕ → Record → Bool
 tablesOk host image r =
     both (needsOk image r)
     (both (either host (relocationsOk r)) (tableOk (isTableOf r) image (r .symbols) (r .strings) (r .table)))
-
--- what the functions below `read_object` are told of the struct: the bounds are its own, and the counted bytes fit a usize
-pub record BoundsOf (o : ObjectData) (b : Bounds) : Type 0 where
-  pub span : b .span ≡ o .span
-  pub segments : take (b .count) (b .segments) ≡ take (o .count) (o .segments)
-
-pub record RelocationCounts (o : ObjectData) : Type 0 where
-  pub relas : 24 * o .relas < 2 ^ 64
-  pub plts : 24 * o .plts < 2 ^ 64
-  pub relrs : 8 * o .relrs < 2 ^ 64
 
 -- the refusal of an object whose dynamic array stands there, and its record
 unfoldable pub readRefusal : Bool → List ℕ → List Segment → Dynamic → ℕ

@@ -4,6 +4,7 @@ pub mod LoadTable
 pub mod WritableRange
 pub mod LastZero
 pub mod Slots
+pub mod RecordBounds
 pub mod Marks
 pub mod FineRange
 pub mod Actions

@@ -1,8 +1,8 @@
 // The dynamic array: port of dynamic_array.rs, and of the walk in dynamic_fields.rs.
 ghost use mathlib.Core.Path.{_≡_};
 ghost use Prim.Native.Nat.{_≤_, _<_};
-ghost use Rattle.object.specs.DynamicFields.{neededOffsets, Needed};
-ghost use Rattle.object.specs.Steps.Slots.{slotOf, keptOf, putOf, fieldIn, needStep, ArrayAt};
+ghost use Rattle.object.specs.DynamicFields.{neededOffsets};
+ghost use Rattle.object.specs.Steps.Slots.{slotOf, keptOf, putOf, fieldIn, needStep, Needed, ArrayAt};
 
 // The tags that are read.
 pub(crate) const DT_NEEDED: u64 = 1;

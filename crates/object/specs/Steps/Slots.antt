@@ -1,9 +1,9 @@
 -- The dynamic array as the code reads it, in one pass: a slot for each tag, and the needs. Assumes nothing.
 use mathlib.Core.List.{List}
 use mathlib.Core.Path.{_≡_}
-use Prim.Native.Nat.{ℕ, _+_, _<_}
+use Prim.Native.Nat.{ℕ, _+_, _≤_, _<_, min}
 use lib.Dec.{eqb, ltb}
-use lib.ListN.{getD, set}
+use lib.ListN.{length, getD, set, take}
 use Rattle.words.specs.Choice.{pick}
 use Rattle.words.specs.Memory.{mem}
 use Rattle.words.specs.Words.{leAt}
@@ -12,7 +12,7 @@ use Rattle.object.specs.declared.dynamic_array.Needs.{Needs}
 use Rattle.object.specs.declared.dynamic_array.DynamicArray.{DynamicArray}
 use Rattle.object.specs.DynamicArray.{noField, field, endsInside}
 use Rattle.object.specs.DynamicTags as DT
-use Rattle.object.specs.DynamicFields.{Fields, fieldsOf, neededOffsets, Needed}
+use Rattle.object.specs.DynamicFields.{Fields, fieldsOf, neededOffsets}
 
 -- the slot of a tag: below 37 the tag itself, then one for each that is far above; 0 for the tags that have none
 unfoldable pub slotOf : ℕ → ℕ
@@ -37,6 +37,13 @@ unfoldable pub needStep : Needs → ℕ → ℕ → Needs
 needStep o tag v =
     pick (eqb tag DT.NEEDED)
     (pick (ltb (o .count) 64) (record { list = set (o .list) (o .count) v; count = o .count + 1 }) (record { list = o .list; count = 65 })) o
+
+-- the table of needs that the code keeps: "up to 64 needed offsets"; a count of 65 says that there are more, and the first 64 are held
+pub record Needed (needs : List ℕ) (n : Needs) : Type 0 where
+  pub count : n .count ≡ min (length needs) 65
+  pub room : length (n .list) ≡ 64
+  pub list : length needs ≤ 64 → take (n .count) (n .list) ≡ needs
+  pub more : 64 < length needs → n .list ≡ take 64 needs
 
 -- the same of each tag that has a slot
 abbrev pub SameFields : Fields → Fields → Type 0

@@ -14,9 +14,6 @@ use mathlib.Core.Bool.{Bool, true, false}
 use mathlib.Core.Path.{_≡_, refl, sym, ap, _∙_}
 use Rattle.object.proofs.dynamic_fields.needs_ok.Statement.{statement}
 use Rattle.object.proofs.dynamic_fields.needs_ok.Tie as tie
-use Rattle.object.proofs.dynamic_fields.needs_ok.Reads as reads
-use Rattle.object.proofs.dynamic_fields.needs_ok.Lts as lts
-use Rattle.object.proofs.table_bytes.name_ok.Reads as name-ok-reads
 
 -- the name of a need is in table bytes
 abbrev nameOk : List ℕ → ObjectData → ℕ → Bool
@@ -35,15 +32,6 @@ unfolding needsOk
 loop-holds c =
     (search needs, refl)
 
-mul-n : tie.Need-mul-n Inv-loop μ-loop
-mul-n c = search needs
-
-element-copy-out-n : tie.Need-element-copy-out-n Inv-loop μ-loop
-element-copy-out-n c = search needs
-
-name-ok-requires : tie.Need-name-ok-requires Inv-loop μ-loop
-name-ok-requires c κs = search needs
-
 returns : tie.Need-returns Inv-loop μ-loop
 returns c =
     let a = c .before .before .before .before .before .before .args in
@@ -52,12 +40,6 @@ returns c =
     let wide : length (a .t3 .needed) ≡ 64 = search needs in
     sym (l .inv .1 ∙ every-turn (a .t3 .needed) (a .t3 .needs) (l .i) 0 (omega arith) (omega arith) (nameOk image (a .t3)) false
     (rw (c .before .before .before .before .before .before .pre .0 .span, c .before .before .before .before .before .before .pre .0 .segments) at (sym (c .before .name-ok .ensures) ∙ not-true _ (c .if1 .taken))))
-
-add-i : tie.Need-add-i Inv-loop μ-loop
-add-i c = search needs
-
-loop-less : tie.Need-loop-less Inv-loop μ-loop
-loop-less c = search needs
 
 loop-again : tie.Need-loop-again Inv-loop μ-loop
 loop-again c =
@@ -83,11 +65,11 @@ needs-ok-spec =
     Inv-loop
     μ-loop
     loop-holds
-    mul-n
-    element-copy-out-n
-    name-ok-requires
+    (λ c. search needs)
+    (λ c. search needs)
+    (λ c κs. search needs)
     returns
-    add-i
-    loop-less
+    (λ c. search needs)
+    (λ c. search needs)
     loop-again
     returns-2)

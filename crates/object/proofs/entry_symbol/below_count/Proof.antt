@@ -3,8 +3,6 @@ use mathlib.Core.Path.{sym}
 use borrow.Author.Tests.{lt-ltb, le-ltb}
 use Rattle.object.proofs.entry_symbol.below_count.Statement.{statement}
 use Rattle.object.proofs.entry_symbol.below_count.Tie as tie
-use Rattle.object.proofs.entry_symbol.below_count.Reads as reads
-use Rattle.object.proofs.entry_symbol.below_count.Lts as lts
 
 returns : tie.Need-returns
 returns c =

@@ -3,18 +3,6 @@ use mathlib.Core.Path.{_∙_}
 use borrow.Author.Needs.{needs}
 use Rattle.object.proofs.entry_symbol.index_ok.Statement.{statement}
 use Rattle.object.proofs.entry_symbol.index_ok.Tie as tie
-use Rattle.object.proofs.entry_symbol.index_ok.Reads as reads
-use Rattle.object.proofs.entry_symbol.index_ok.Lts as lts
-use Rattle.object.proofs.entry_symbol.below_count.Reads as below-count-reads
-
-enum-told : tie.Need-enum-told
-enum-told c = search needs
-
-enum-known-known : tie.Need-enum-known-known
-enum-known-known c = search needs
-
-below-count-requires : tie.Need-below-count-requires
-below-count-requires c κs = search needs
 
 returns : tie.Need-returns
 unfolding indexOk
@@ -28,4 +16,4 @@ returns-2 c =
 
 pub index-ok-spec : {M : Type 1} → statement M
 index-ok-spec =
-    tie.close (tie.spec enum-told enum-known-known below-count-requires returns returns-2)
+    tie.close (tie.spec (λ c. search needs) (λ c. search needs) (λ c κs. search needs) returns returns-2)

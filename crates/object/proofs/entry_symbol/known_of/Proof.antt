@@ -6,15 +6,6 @@ use Rattle.object.specs.Record.{indexOk}
 use Rattle.object.proofs.entry_symbol.known_of.Statement.{statement}
 use Rattle.object.proofs.entry_symbol.known_of.Tie as tie
 
-enum-told : tie.Need-enum-told
-enum-told c = search needs
-
-enum-known-known : tie.Need-enum-known-known
-enum-known-known c = search needs
-
-smaller-requires : tie.Need-smaller-requires
-smaller-requires c κs = search needs
-
 returns : tie.Need-returns
 unfolding indexOk
 returns c =
@@ -26,4 +17,4 @@ returns-2 c =
     (omega (arith, c .smaller .ensures), λ s h. rw (c .before .before .known .given .1) (lt-ltb s (c .before .before .known .given .0 .0) (omega (arith, c .smaller .ensures))))
 
 pub known-of-spec : {M : Type 1} → statement M
-known-of-spec = tie.close (tie.spec enum-told enum-known-known smaller-requires returns returns-2)
+known-of-spec = tie.close (tie.spec (λ c. search needs) (λ c. search needs) (λ c κs. search needs) returns returns-2)
