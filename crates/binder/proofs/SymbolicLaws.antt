@@ -55,14 +55,14 @@ module _
     (at n low high : ℕ)
     (s : Run)
     (a : List ℕ)
-    {k kind place index name number found : ℕ}
+    {k rtype place index name number found : ℕ}
     {b : List ℕ}
     (some : s .next < n)
     (fits : at + 24 * n ≤ t .span)
     (inside : y .symbols + 24 * y .fits ≤ t .span)
     (stands : k ≡ t .offset + at + 24 * s .next)
-    (kind-is : kind ≡ leAt 4 (mem a) (k + 8))
-    (acts-so : rowOf kind ≡ rowBy Symbolic)
+    (rtype-is : rtype ≡ leAt 4 (mem a) (k + 8))
+    (acts-so : rowOf rtype ≡ rowBy Symbolic)
     (place-is : place ≡ leAt 8 (mem a) k)
     (above : low ≤ place)
     (below : place + 8 ≤ high)
@@ -78,9 +78,9 @@ module _
     abbrev e : Rela
     e = relaAt (imageIn a t) at (s .next)
 
-    kind-here : e .kind ≡ kind
+    rtype-here : e .rtype ≡ rtype
     unfolding entries.relaAt
-    kind-here = number-in t a 4 (at + (24 * s .next + 8)) (k + 8) (omega arith) (omega arith) kind-is
+    rtype-here = number-in t a 4 (at + (24 * s .next + 8)) (k + 8) (omega arith) (omega arith) rtype-is
 
     place-here : e .place ≡ place
     unfolding entries.relaAt
@@ -90,8 +90,8 @@ module _
     unfolding entries.relaAt
     index-here = number-in t a 4 (at + (24 * s .next + 12)) (k + 12) (omega arith) (omega arith) index-is
 
-    acts : rowBy Symbolic ≡ rowOf (e .kind)
-    acts = sym (ap rowOf kind-here ∙ acts-so)
+    acts : rowBy Symbolic ≡ rowOf (e .rtype)
+    acts = sym (ap rowOf rtype-here ∙ acts-so)
 
     module _ (r : Record) (of : SymbolsOf t r y a) where
       abbrev y-here : Symbol
