@@ -156,6 +156,6 @@ module _ (S : Objs) (k : ℕ) (image : List ℕ) (r : Record) (base : ℕ)
       let a = first-passed (verdict (entryRefusal S k image r e) k) (entriesVerdict S k image r es) v in
       ⊎-elim
       (λ (t : x ≡ entryOf image r base e).
-      subst (λ (y : Entry). Inside S k y) (sym t) (entry-inside e (rowOf (e .kind)) (verdict-passed (entryRefusal S k image r e) k (a .0))))
+      subst (λ (y : Entry). Inside S k y) (sym t) (entry-inside e (rowOf (e .rtype)) (verdict-passed (entryRefusal S k image r e) k (a .0))))
       (λ (t : List·Memᴰ x (map (entryOf image r base) es)). entries-inside es (a .1) x t)
       (List·Memᴰ·cases-cons m)

@@ -26,7 +26,6 @@ pub mod RelocatedIs
 pub mod LoopLaws
 pub mod RunLaws
 pub mod KeptLaws
-pub mod RowsSame
 pub mod RelativeLaws
 pub mod SymbolicLaws
 pub mod BitLaws

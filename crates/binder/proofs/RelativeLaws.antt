@@ -32,13 +32,13 @@ module _
     (t : Turn)
     (at n low high i : ℕ)
     (a : List ℕ)
-    {k kind place addend v : ℕ}
+    {k rtype place addend v : ℕ}
     {b : List ℕ}
     (some : i < n)
     (fits : at + 24 * n ≤ t .span)
     (stands : k ≡ t .offset + at + 24 * i)
-    (kind-is : kind ≡ leAt 4 (mem a) (k + 8))
-    (acts-so : rowOf kind ≡ rowBy Relative)
+    (rtype-is : rtype ≡ leAt 4 (mem a) (k + 8))
+    (acts-so : rowOf rtype ≡ rowBy Relative)
     (place-is : place ≡ leAt 8 (mem a) k)
     (above : low ≤ place)
     (below : place + 8 ≤ high)
@@ -46,9 +46,9 @@ module _
     (sum-is : v ≡ sum64 (t .base) addend)
     (written : b ≡ patch a (t .offset + place) 8 (byteOf v))
   where
-    kind-here : relaAt (imageIn a t) at i .kind ≡ kind
+    rtype-here : relaAt (imageIn a t) at i .rtype ≡ rtype
     unfolding entries.relaAt
-    kind-here = number-in t a 4 (at + (24 * i + 8)) (k + 8) (omega arith) (omega arith) kind-is
+    rtype-here = number-in t a 4 (at + (24 * i + 8)) (k + 8) (omega arith) (omega arith) rtype-is
 
     place-here : relaAt (imageIn a t) at i .place ≡ place
     unfolding entries.relaAt
@@ -58,8 +58,8 @@ module _
     unfolding entries.relaAt
     addend-here = number-in t a 8 (at + (24 * i + 16)) (k + 16) (omega arith) (omega arith) addend-is
 
-    acts : rowBy Relative ≡ rowOf (relaAt (imageIn a t) at i .kind)
-    acts = sym (ap rowOf kind-here ∙ acts-so)
+    acts : rowBy Relative ≡ rowOf (relaAt (imageIn a t) at i .rtype)
+    acts = sym (ap rowOf rtype-here ∙ acts-so)
 
     ran :
         (address : ℕ) (table : List ℕ) (count : ℕ) (r : Record) (number : ℕ) (p : Progress) (report : List ℕ) → WritableRange (r .segments) low high

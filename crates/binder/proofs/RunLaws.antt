@@ -70,7 +70,7 @@ module _ (address : ℕ) (table : List ℕ) (count : ℕ) (t : Turn) (r : Record
   entriesLeft n i st = runTable address table count t r at first (n - i) i st
 
   module _ (n i : ℕ) (p : Progress) (a report : List ℕ) {q : Progress} {b noted : List ℕ} {e : Rela} {act : Row} {number : ℕ} (some : i < n)
-      (he : e ≡ relaAt (imageIn a t) at i) (ha : act ≡ rowOf (e .kind)) (hn : number ≡ (first + i) % 2 ^ 32)
+      (he : e ≡ relaAt (imageIn a t) at i) (ha : act ≡ rowOf (e .rtype)) (hn : number ≡ (first + i) % 2 ^ 32)
       (run : left q b noted ≡ runAction address table count t r number e act p a report) {end : Left} (all : entriesLeft n i (left p a report) ≡ end) where
     entry-step : entriesLeft n i (left p a report) ≡ unlessRefused (entriesLeft n (i + 1)) (left q b noted)
     unfolding runTable

@@ -70,9 +70,9 @@ module _
     abbrev e : Rela
     e = relaAt (imageIn a t) at (s .next)
 
-    kind-here : e .kind ≡ leAt 4 (mem a) (k + 8)
+    rtype-here : e .rtype ≡ leAt 4 (mem a) (k + 8)
     unfolding entries.relaAt
-    kind-here = number-in t a 4 (at + (24 * s .next + 8)) (k + 8) (omega arith) (omega arith) refl
+    rtype-here = number-in t a 4 (at + (24 * s .next + 8)) (k + 8) (omega arith) (omega arith) refl
 
     place-here : e .place ≡ place
     unfolding entries.relaAt
@@ -82,8 +82,8 @@ module _
     unfolding entries.relaAt
     index-here = number-in t a 4 (at + (24 * s .next + 12)) (k + 12) (omega arith) (omega arith) (here .index-is)
 
-    acts : rowBy Symbolic ≡ rowOf (e .kind)
-    acts = sym (ap rowOf kind-here ∙ here .acts)
+    acts : rowBy Symbolic ≡ rowOf (e .rtype)
+    acts = sym (ap rowOf rtype-here ∙ here .acts)
 
     module _ (r : Record) (of : SymbolsOf t r y a) where
       abbrev y-here : Symbol

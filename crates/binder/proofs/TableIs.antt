@@ -57,7 +57,7 @@ some-append p (x ∷ xs) ys = ap (either (p x)) (some-append p xs ys) ∙ either
 -- the words of an entry
 abbrev entryWord : Objs → ℕ → List ℕ → Record → ℕ → Rela → List ℕ
 entryWord S k image r i e =
-    pick (isUndefined S k image r e) (reportWord 6 i ∷ []) (pick (isPassed (rowOf (e .kind))) (reportWord 7 i ∷ []) [])
+    pick (isUndefined S k image r e) (reportWord 6 i ∷ []) (pick (isPassed (rowOf (e .rtype))) (reportWord 7 i ∷ []) [])
 
 module _ (S : Objs) (k : ℕ) (image : List ℕ) (r : Record) where
   verdicts-append : (xs ys : List Rela) → entriesVerdict S k image r (xs ++ ys) ≡ first (entriesVerdict S k image r xs) (entriesVerdict S k image r ys)
@@ -149,11 +149,11 @@ module _ (address size : ℕ) (table : List ℕ) (h pr : File) (fs : List File) 
         → Ran size n (verdict (entryRefusal S k image r (relaAt image at j)) k)
         (Does (ws ++ entryWord S k image r i (relaAt image at j)) (earlier u (pick (isUndefined S k image r (relaAt image at j)) k 0))
         (effect S k (entryOf image r ((obj S k) .base) (relaAt image at j)) m))
-        (runAction address table (count S) t r ((start + j) % 2 ^ 32) (relaAt (imageIn a t) at j) (rowOf (relaAt (imageIn a t) at j .kind)) p a report)
+        (runAction address table (count S) t r ((start + j) % 2 ^ 32) (relaAt (imageIn a t) at j) (rowOf (relaAt (imageIn a t) at j .rtype)) p a report)
     one-entry i j e b ws u m p a report d =
         rw (number i j e b, same a (d .written .steady) j b)
         (entry-ran address size table h pr fs L k lo hi n a₀ ws u m p a report d i (omega arith) (relaAt image at j)
-        (rowOf (relaAt image at j .kind)))
+        (rowOf (relaAt image at j .rtype)))
 
     pub table-ran :
         (c i j : ℕ) → i ≡ start + j → j + c ≤ c′ → (ws : List ℕ) (u : ℕ) (m : Mem) (p : Progress) (a report : List ℕ) → Does ws u m p a report
@@ -178,7 +178,7 @@ module _ (address size : ℕ) (table : List ℕ) (h pr : File) (fs : List File) 
         (table-ran c (i + 1) (j + 1) (omega arith) (omega arith) (ws ++ entryWord S k image r i (relaAt image at j))
         (earlier u (pick (isUndefined S k image r (relaAt image at j)) k 0))
         (effect S k (entryOf image r ((obj S k) .base) (relaAt image at j)) m) p′ a′ report′ d′))
-        (runAction address table (count S) t r ((start + j) % 2 ^ 32) (relaAt (imageIn a t) at j) (rowOf (relaAt (imageIn a t) at j .kind)) p a report)
+        (runAction address table (count S) t r ((start + j) % 2 ^ 32) (relaAt (imageIn a t) at j) (rowOf (relaAt (imageIn a t) at j .rtype)) p a report)
         (one-entry i j e (omega arith) ws u m p a report d)
 
   -- ---- RELA, then PLT

@@ -65,7 +65,7 @@ entryBy image r base e copies =
     copy (e .place) (symbolName image (r .symbols) (r .strings) (e .symbol)) (symbolAt image (r .symbols) (e .symbol) .size)
 
 abbrev pub entryOf : List ℕ → Record → ℕ → Rela → Entry
-entryOf image r base e = entryBy image r base e (rowOf (e .kind))
+entryOf image r base e = entryBy image r base e (rowOf (e .rtype))
 
 -- the object of a file at an offset, in an arena at `address`; the host's relocation tables are not read
 unfoldable pub objectAt : ℕ → File → ℕ → Obj

@@ -39,7 +39,7 @@ undefinedBy S k image r e (writes inScope f) = unresolved image r e (resolve S k
 undefinedBy S k image r e copies = unresolved image r e (resolveCopy S (symbolName image (r .symbols) (r .strings) (e .symbol)))
 
 abbrev pub isUndefined : Objs → ℕ → List ℕ → Record → Rela → Bool
-isUndefined S k image r e = undefinedBy S k image r e (rowOf (e .kind))
+isUndefined S k image r e = undefinedBy S k image r e (rowOf (e .rtype))
 
 abbrev pub isPassed : Row → Bool
 isPassed ignored = false
@@ -53,7 +53,7 @@ unfoldable pub entryReport : Objs → ℕ → List ℕ → Record → ℕ → Li
 entryReport S k image r i [] = []
 entryReport S k image r i (e ∷ es) =
     pick (isUndefined S k image r e) (reportWord 6 i ∷ [])
-    (pick (isPassed (rowOf (e .kind))) (reportWord 7 i ∷ []) [])
+    (pick (isPassed (rowOf (e .rtype))) (reportWord 7 i ∷ []) [])
     ++ entryReport S k image r (i + 1) es
 
 unfoldable pub objectWords : Objs → ℕ → File → List ℕ

@@ -86,7 +86,7 @@ refusalBy S k image r e copies =
     symbolThen (checkedSymbol image r (e .symbol)) (λ y. copyRefusal S k r (e .place) (y .size) (resolveCopy S (nameOf image r y)))
 
 abbrev pub entryRefusal : Objs → ℕ → List ℕ → Record → Rela → ℕ
-entryRefusal S k image r e = refusalBy S k image r e (rowOf (e .kind))
+entryRefusal S k image r e = refusalBy S k image r e (rowOf (e .rtype))
 
 -- the words that RELR names, then the entries of RELA and PLT
 unfoldable pub wordsVerdict : ℕ → Record → List Word → Verdict

@@ -32,7 +32,7 @@ use sheet::sheet::Parts;
 
 // ---- RELA and PLT
 
-// Type 8: base + addend.
+// Relative: base + addend.
 fn relative(arena: &mut [u8], p: Progress, t: Turn, b: Bounds, e: Rela) -> Progress
     ensures { λ r. ⌜ wrote r (now (arena .exit)) ≡ fixedOf t (take (b .count) (b .segments)) e relativeField p (now (arena .entry)) ⌝ }
 {
@@ -91,7 +91,7 @@ fn search_copy(
     scope::scope::resolve_copy(arena, table, count, address, wanted, gnu)
 }
 
-// Types 6 and 7, of the entry with number `i` and the symbol `y`: what was found, which is kept, or 0 and a word of the report.
+// Symbolic, of the entry with number `i` and the symbol `y`: what was found, which is kept, or 0 and a word of the report.
 fn write_found(
     arena: &mut [u8],
     report: &mut [u32],
@@ -316,20 +316,20 @@ fn symbols_of(arena: &[u8], t: Turn, o: ObjectData) -> Symbols
     }
 }
 
-fn is_relative(kind: u32) -> bool
-    ensures { λ r. ⌜ (r ≡ true → rowOf kind ≡ rowBy actions.Relative) ⌝ }
+fn is_relative(rtype: u32) -> bool
+    ensures { λ r. ⌜ (r ≡ true → rowOf rtype ≡ rowBy actions.Relative) ⌝ }
 {
-    let a = object::relocate::action_of(kind);
+    let a = object::relocate::action_of(rtype);
     match a {
         Action::Relative => true,
         _ => false,
     }
 }
 
-fn is_symbolic(kind: u32) -> bool
-    ensures { λ r. ⌜ (r ≡ true → rowOf kind ≡ rowBy actions.Symbolic) ⌝ }
+fn is_symbolic(rtype: u32) -> bool
+    ensures { λ r. ⌜ (r ≡ true → rowOf rtype ≡ rowBy actions.Symbolic) ⌝ }
 {
-    let a = object::relocate::action_of(kind);
+    let a = object::relocate::action_of(rtype);
     match a {
         Action::Symbolic => true,
         _ => false,
@@ -471,12 +471,12 @@ fn symbolics(
 }
 
 // The range to be used after an entry: after one that the loops above do, the segment of its place.
-fn range_after(w: Writable, b: Bounds, kind: u32, place: usize) -> Writable
+fn range_after(w: Writable, b: Bounds, rtype: u32, place: usize) -> Writable
     requires { ⌜ WritableRange (take (b .count) (b .segments)) (w .low) (w .high) ⌝ }
     ensures { λ r. ⌜ WritableRange (take (b .count) (b .segments)) (r .low) (r .high) ⌝ }
 {
-    if !is_relative(kind) {
-        if !is_symbolic(kind) {
+    if !is_relative(rtype) {
+        if !is_symbolic(rtype) {
             return w;
         }
     }
@@ -518,13 +518,13 @@ fn run_table(
             return q;
         }
         let e = rela_in(arena, t, at, j);
-        let a = object::relocate::action_of(e.kind);
+        let a = object::relocate::action_of(e.rtype);
         let number = std::num::wrapping_add_u32(first, j);
         q = run_action(arena, report, q, table, count, address, t, o, number, e, a);
         if q.refusal != 0 {
             return q;
         }
-        w = range_after(w, b, e.kind, e.place);
+        w = range_after(w, b, e.rtype, e.place);
         i = j + 1;
     }
     q

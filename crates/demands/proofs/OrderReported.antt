@@ -66,7 +66,7 @@ entries-none : (S : Objs) (k : ℕ) (image : List ℕ) (r : Record) (i : ℕ) (e
 unfolding entryReport numbersOf
 entries-none S k image r i [] = refl
 entries-none S k image r i (e ∷ es) =
-    entry-none i (isUndefined S k image r e) (isPassed (rowOf (e .kind))) (entryReport S k image r (i + 1) es)
+    entry-none i (isUndefined S k image r e) (isPassed (rowOf (e .rtype))) (entryReport S k image r (i + 1) es)
     ∙ entries-none S k image r (i + 1) es
 
 -- the words of an order whose numbers fit 28 bits

@@ -228,7 +228,7 @@ module _ (P : ℕ → ℕ → Type 0) where
     entries-meets image r [] = tt
     entries-meets image r (e ∷ es) =
         first-meets (verdict (entryRefusal S k image r e) k) _
-        (verdict-meets 14 18 (entryRefusal S k image r e) k (entry-range S k image r e (rowOf (e .kind))) (h _)) (entries-meets image r es)
+        (verdict-meets 14 18 (entryRefusal S k image r e) k (entry-range S k image r e (rowOf (e .rtype))) (h _)) (entries-meets image r es)
 
     object-meets : (f : File) → Meets P (objectVerdict S k f)
     unfolding objectVerdict

@@ -46,4 +46,4 @@ pub record Cases : Type 0 where
   -- 64 bits is 2^64 - 8
   pub relative :
       (image : List ℕ) (r : Record) (p s : ℕ)
-      → entryOf image r 0x10004000 (record { place = p; kind = 8; symbol = s; addend = 2 ^ 64 - 8 }) ≡ fixed p 8 0x10003FF8
+      → entryOf image r 0x10004000 (record { place = p; rtype = 8; symbol = s; addend = 2 ^ 64 - 8 }) ≡ fixed p 8 0x10003FF8

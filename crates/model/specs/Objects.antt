@@ -7,11 +7,11 @@ use lib.ListN.{length, getD}
 use Rattle.words.specs.Memory.{Mem, In}
 use Rattle.model.specs.Symbols.{Name, Found}
 
--- an entry of the RELA or PLT table; a place is an offset from the object's base.
---   fixed    makes no search and writes the low `width` bytes of a number: type 8, base + addend
---   symbol   searches for the name and writes the low `width` bytes of what `value` makes of the address, or of 0: types 6 and 7
---   copy     searches for the name and copies the smaller of two sizes, `size` being its own symbol's: type 5
---   pass     writes nothing: the rest
+-- an entry of the RELA or PLT table; a place is an offset from the object's base. Its type decides which it is (object/specs/RelocationTypes).
+--   fixed    makes no search and writes the low `width` bytes of a number
+--   symbol   searches for the name and writes the low `width` bytes of what `value` makes of the address, or of 0
+--   copy     searches for the name and copies the smaller of two sizes, `size` being its own symbol's
+--   pass     writes nothing
 pub data Entry : Type 0 where
   fixed : (place width number : ℕ) → Entry
   symbol : (place width : ℕ) (name : Name) (value : ℕ → ℕ) → Entry

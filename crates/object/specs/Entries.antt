@@ -18,7 +18,7 @@ unfoldable pub relaAt : List ℕ → ℕ → ℕ → Rela
 relaAt image table i =
     record {
       place = leAt 8 (mem image) (table + 24 * i);
-      kind = leAt 4 (mem image) (table + (24 * i + 8));
+      rtype = leAt 4 (mem image) (table + (24 * i + 8));
       symbol = leAt 4 (mem image) (table + (24 * i + 12));
       addend = leAt 8 (mem image) (table + (24 * i + 16));
     }

@@ -7,7 +7,7 @@ ghost use Rattle.object.specs.Steps.Actions.{rowBy};
 // An entry of the RELA or PLT table: r_offset, the two halves of r_info, r_addend.
 pub struct Rela {
     pub place: usize,
-    pub kind: u32,
+    pub rtype: u32,
     pub symbol: u32,
     pub addend: u64,
 }
@@ -35,17 +35,17 @@ pub fn rela_at(image: &[u8], table: usize, i: u32) -> Rela
     let k = 24 * (i as usize);
     Rela {
         place: words::bytes::u64_off(image, table, k) as usize,
-        kind: words::bytes::u32_off(image, table, k + 8),
+        rtype: words::bytes::u32_off(image, table, k + 8),
         symbol: words::bytes::u32_off(image, table, k + 12),
         addend: words::bytes::u64_off(image, table, k + 16),
     }
 }
 
 // What the type of an entry asks for. No other function lists types.
-pub fn action_of(kind: u32) -> Action
-    ensures { λ r. ⌜ rowBy r ≡ rowOf kind ⌝ }
+pub fn action_of(rtype: u32) -> Action
+    ensures { λ r. ⌜ rowBy r ≡ rowOf rtype ⌝ }
 {
-    match kind {
+    match rtype {
         0 => Action::Ignored,
         5 => Action::Copy,
         6 => Action::Symbolic,

@@ -180,10 +180,10 @@ fn show_action(a: Action) {
 
 fn show_rela(e: Rela) {
     size(e.place);
-    small(e.kind);
+    small(e.rtype);
     small(e.symbol);
     field(e.addend);
-    show_action(object::relocate::action_of(e.kind));
+    show_action(object::relocate::action_of(e.rtype));
 }
 
 fn show_address(at: usize) {

@@ -304,7 +304,7 @@ module _ (address : ℕ) (table : List ℕ) (count : ℕ) where
   runTable t r at first zero j st = st
   runTable t r at first (suc n) j (left p a report) =
       unlessRefused (runTable t r at first n (j + 1))
-      (runAction t r ((first + j) % 2 ^ 32) (relaAt (imageIn a t) at j) (rowOf (relaAt (imageIn a t) at j .kind)) p a report)
+      (runAction t r ((first + j) % 2 ^ 32) (relaAt (imageIn a t) at j) (rowOf (relaAt (imageIn a t) at j .rtype)) p a report)
 
   -- ---- an object
 
