@@ -1,19 +1,25 @@
 -- Symbols, names and chain words that need no further test of refusals 12, 14 and 15. No contract cites this file. Assumes nothing.
-use mathlib.Core.Path.{_≡_, _∙_}
+use mathlib.Core.Path.{_≡_, refl, _∙_}
 use mathlib.Core.Bool.{Bool, true}
 use mathlib.Core.List.{List}
 use Prim.Native.Nat.{ℕ, _+_, _-_, _*_, _/_, _≤_, _<_}
 use native.Mathlib.Nat.{add-zero}
 use native.Mathlib.Omega.{arith}
-use lib.ListN.{length}
+use borrow.Author.Tests.{lt-ltb}
+use lib.ListN.{length, take}
 use Rattle.words.specs.Memory.{mem}
 use Rattle.words.specs.Words.{leAt}
 use Rattle.object.specs.declared.entry_symbol.CheckedSymbol.the-variants.{Checked}
-use Rattle.object.specs.TableBytes.{tableBytes, tableName}
+use Rattle.object.specs.declared.hash_tables.HashTable.the-variants.{SysV, Gnu}
+use Rattle.object.specs.declared.hash_tables.View.{View}
+use Rattle.object.specs.declared.table_bytes.Bounds.{Bounds}
+use Rattle.object.specs.declared.check.Shortcuts.{Shortcuts}
+use Rattle.object.specs.TableBytes.{isTable, tableBytes, tableName}
 use Rattle.object.specs.Steps.LastZero.{RunOf}
 use Rattle.object.specs.Symbol.{symbolFrom, symbolAt}
-use Rattle.object.specs.HashCheck.{symbolOk}
+use Rattle.object.specs.HashCheck.{chainOk, symbolOk}
 use Rattle.object.specs.Record.{Record, isTableOf, indexOk, checkedSymbol}
+use Rattle.object.specs.Steps.Marks.{stepIn, LinksOk, ShortcutsOk}
 use Rattle.object.specs.Steps.FineRange.{TablesFine, LinksFine, FineOf}
 use Rattle.object.proofs.LastZeroLaws.{name-yes, bytes-yes}
 use Rattle.object.proofs.ReadingsSame.{name-ok-same}
@@ -82,3 +88,22 @@ fine-same image image′ r fits ends f len agree = record {
   names = λ n h. name-ok-same (isTableOf r) image image′ agree (r .strings + n) ∙ f .names n h;
   inside = f .inside;
 }
+
+-- ---- what the check of a hash table goes by
+
+-- a symbol that all of it reaches passes
+pub at-once : (b : Bounds) (m : List ℕ) (v : View) (q : Shortcuts) (s : ℕ) → ShortcutsOk b m v q
+    → (s - q .low < q .links) × (s < q .fits) × (leAt 4 (mem m) (v .symbols + 24 * s) < q .ends) → stepIn b m v s ≡ true
+at-once b m v q s o (l, f, e) =
+    rw (o .links s (rw (o .low) at l))
+    (tables-pass m (isTable (b .span) (take (b .count) (b .segments))) (v .symbols) (v .strings) (b .span) (q .fits) (q .ends) (o .tables) s
+    (leAt 4 (mem m) (v .symbols + 24 * s)) f refl e)
+
+module _ (isT : ℕ → Bool) (at n : ℕ) where
+  pub links-sysv : (c : ℕ) → LinksOk isT (SysV at n c) c
+  unfolding chainOk
+  links-sysv c s l = lt-ltb s c (omega arith)
+
+  pub links-gnu : (first b shift links : ℕ) → LinksFine isT at (16 + 8 * b + 4 * n) links → LinksOk isT (Gnu at n first b shift) links
+  unfolding chainOk
+  links-gnu first b shift links h s l = h (s - first) l

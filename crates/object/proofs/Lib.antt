@@ -11,6 +11,7 @@ pub mod Ranges
 pub mod LastZeroLaws
 pub mod SymbolLaws
 pub mod FindLaws
+pub mod WalkLengths
 pub mod WalkLaws
 pub mod CheckLaws
 pub mod WalkEnds

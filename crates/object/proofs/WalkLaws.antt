@@ -1,24 +1,23 @@
--- The turns of a check of a walk. No contract cites this file. Assumes nothing.
-use mathlib.Core.Path.{_≡_, refl, sym, _∙_}
-use mathlib.Core.Bool.{Bool, true, false, not}
-use mathlib.Core.List.{List, []}
-use Prim.Native.Nat.{ℕ, zero, suc, _+_, _-_, _*_, _≤_, _<_}
+-- The turns of a check of a walk, and the check of a bucket. No contract cites this file. Assumes nothing.
+use mathlib.Core.Path.{_≡_, refl, sym}
+use mathlib.Core.Bool.{Bool, true, false}
+use mathlib.Core.List.{List}
+use Prim.Native.Nat.{ℕ, zero, suc, _+_, _≤_, _<_}
 use native.Mathlib.Nat.{not-suc-le-zero}
-use native.Mathlib.Numerals.{add-one}
 use native.Mathlib.Omega.{arith}
-use borrow.Author.Tests.{ne-eqb, le-leb, lt-leb, not-false}
-use lib.Dec.{leb, leb·zero, leb·suc-suc, leb·suc-zero}
+use borrow.Author.Tests.{ne-eqb, le-leb, lt-leb}
+use lib.Dec.{eqb, leb, leb·zero}
 use lib.ListN.{length}
-use Rattle.words.specs.Choice.{pick, every}
+use Rattle.words.specs.Choice.{both, every}
 use Rattle.words.specs.Memory.{mem}
 use Rattle.words.specs.Words.{leAt}
 use Rattle.words.proofs.Choice.{both-false}
 use Rattle.object.specs.declared.hash_tables.HashTable.{HashTable}
-use Rattle.object.specs.declared.hash_tables.HashTable.the-variants.{SysV, Gnu}
-use Rattle.object.specs.TableBytes.{tableBytes}
-use Rattle.object.specs.HashCheck.{bucketOk, lengthOk, chainOk, symbolOk, stepOk, walkOk}
-use Rattle.object.specs.HashTable.{chainAt, isLast, nextSymbol, fuel, walk, walkFrom}
-use Rattle.object.specs.Steps.Marks.{within}
+use Rattle.object.specs.declared.hash_tables.HashTable.the-variants.{Without, SysV, Gnu}
+use Rattle.object.specs.HashTable.{bucketAt, chainAt, isLast, nextSymbol, fuel, walk, walkFrom}
+use Rattle.object.specs.HashCheck.{bucketOk, lengthOk, stepOk, walkOk}
+use Rattle.object.specs.Steps.Marks.{Passes, wordOk, lowest}
+use Rattle.object.proofs.WalkLengths.{length-fits}
 
 module _ (m : List ℕ) (t : HashTable) (p : ℕ → Bool) (s : ℕ) where
   pub every-no : (n : ℕ) → 0 < n → p s ≡ false → every p (walk m t n s) ≡ false
@@ -31,69 +30,70 @@ module _ (m : List ℕ) (t : HashTable) (p : ℕ → Bool) (s : ℕ) where
   unfolding walk every
   every-on n w k q we e la = rw (q, e, ← we, la)
 
-  pub every-out : (n : ℕ) → n ≤ 0 → every p (walk m t n s) ≡ true
+  pub length-on : (n w k : ℕ) → n ≡ suc k → w ≡ leAt 4 (mem m) (chainAt t s) → isLast t w ≡ false
+      → length (walk m t n s) ≡ suc (length (walk m t k (nextSymbol t s w)))
+  unfolding walk
+  length-on n w k q we la = rw (q, ← we, la)
+
+  pub none-left : (n : ℕ) → n ≤ 0 → (every p (walk m t n s) ≡ true) × (length (walk m t n s) ≡ 0)
   unfolding walk every
-  every-out zero l = refl
-  every-out (suc n) l = absurd (not-suc-le-zero l)
+  none-left zero l = (refl, refl)
+  none-left (suc n) l = absurd (not-suc-le-zero l)
 
-  pub within-no : (n : ℕ) → p s ≡ false → within m t p s n ≡ false
-  unfolding within walk every
-  within-no n e = rw e (both-false (leb (length (walk m t (suc n) s)) n) false refl)
+-- ---- the check of a bucket by its word
 
-  pub within-out : (n : ℕ) → n ≤ 0 → within m t p s n ≡ false
-  unfolding within walk
-  within-out zero l = rw (leb·suc-zero (length (pick (isLast t (leAt 4 (mem m) (chainAt t s))) [] [])))
-  within-out (suc n) l = absurd (not-suc-le-zero l)
+module _ (isT : ℕ → Bool) (m : List ℕ) (symbols strings : ℕ) (t : HashTable) (i : ℕ) where
+  pub bucket-empty : leAt 4 (mem m) (bucketAt t i) ≡ 0 → walkOk isT m symbols strings t i ≡ true
+  unfolding walkOk walkFrom every bucketOk lengthOk
+  bucket-empty e = rw (e, none-ok t .0, none-ok t .1)
+    where
+      none-ok : (t : HashTable) → (bucketOk t 0 ≡ true) × (lengthOk t 0 ≡ true)
+      none-ok Without = (refl, refl)
+      none-ok (SysV at n c) = (refl, leb·zero c)
+      none-ok (Gnu at n first b shift) = (refl, refl)
 
-  pub within-last : (n w : ℕ) → 0 < n → w ≡ leAt 4 (mem m) (chainAt t s) → p s ≡ true → isLast t w ≡ true
-      → within m t p s n ≡ true
-  unfolding within walk every
-  within-last n w l we e la = rw (e, ← we, la, le-leb 1 n l)
+  pub bucket-word : (w : ℕ) → w ≡ leAt 4 (mem m) (bucketAt t i) → (w ≡ 0 → ⊥)
+      → walkOk isT m symbols strings t i ≡ wordOk m t (stepOk isT m symbols strings t) w
+  unfolding walkOk walkFrom wordOk
+  bucket-word w e nz = rw (← e, ne-eqb w 0 nz)
 
-pub within-on : (m : List ℕ) (t : HashTable) (p : ℕ → Bool) (s n w k : ℕ) → n ≡ suc k → w ≡ leAt 4 (mem m) (chainAt t s)
-    → p s ≡ true → isLast t w ≡ false → within m t p s n ≡ within m t p (nextSymbol t s w) k
-unfolding within walk every
-within-on m t p s n w k q we e la =
-    rw (q, e, ← we, la) (rw leb·suc-suc)
+-- a System V walk may have no more symbols than the chain count
+pub over : (c : ℕ) → false ≡ leb (c + 1) c
+over c = sym (lt-leb (c + 1) c (omega arith))
 
--- ---- the check of a bucket
+both-right : (b : Bool) → both b true ≡ b
+both-right true = refl
+both-right false = refl
 
-module _ (isT : ℕ → Bool) (m : List ℕ) (symbols strings at n : ℕ) where
-  module _ (c i : ℕ) where
-    pub sysv-empty : leAt 4 (mem m) (at + (8 + 4 * i)) ≡ 0 → walkOk isT m symbols strings (SysV at n c) i ≡ true
-    unfolding walkOk walkFrom every bucketOk lengthOk
-    sysv-empty e = rw (e, leb·zero c)
+fits : (t : HashTable) (w : ℕ) → 0 < w → lowest t ≤ w → bucketOk t w ≡ true
+unfolding bucketOk
+fits Without w nz l = refl
+fits (SysV at n c) w nz l = refl
+fits (Gnu at n first b shift) w nz l = rw (ne-eqb w 0 (λ e. omega arith), le-leb first w l)
 
-    pub sysv-start : (b : ℕ) → b ≡ leAt 4 (mem m) (at + (8 + 4 * i)) → (b ≡ 0 → ⊥)
-        → walkOk isT m symbols strings (SysV at n c) i ≡ within m (SysV at n c) (stepOk isT m symbols strings (SysV at n c)) b c
-    unfolding walkOk walkFrom bucketOk lengthOk within
-    sysv-start b e nz = rw (← e, ne-eqb b 0 nz, add-one c)
+module _ (m : List ℕ) (t : HashTable) (p : ℕ → Bool) (w : ℕ) where
+  pub word-low : 0 < w → w < lowest t → wordOk m t p w ≡ false
+  unfolding wordOk bucketOk
+  word-low nz l = rw (low t l)
+    where
+      low : (t : HashTable) → w < lowest t → bucketOk t w ≡ false
+      low Without l = absurd (not-suc-le-zero l)
+      low (SysV at n c) l = absurd (not-suc-le-zero l)
+      low (Gnu at n first b shift) l = rw (ne-eqb w 0 (λ e. omega arith), lt-leb first w l)
 
-  module _ (first blooms shift i : ℕ) where
-    pub gnu-empty : leAt 4 (mem m) (at + (16 + 8 * blooms + 4 * i)) ≡ 0 → walkOk isT m symbols strings (Gnu at n first blooms shift) i ≡ true
-    unfolding walkOk walkFrom every bucketOk lengthOk
-    gnu-empty e = rw e
+  pub word-failed : every p (walk m t (fuel m t) w) ≡ false → wordOk m t p w ≡ false
+  unfolding wordOk
+  word-failed e =
+      let k = lengthOk t (length (walk m t (fuel m t) w)) in
+      both-false (bucketOk t w) (both k (every p (walk m t (fuel m t) w))) (both-false k (every p (walk m t (fuel m t) w)) e)
 
-    pub gnu-low : (b : ℕ) → b ≡ leAt 4 (mem m) (at + (16 + 8 * blooms + 4 * i)) → (b ≡ 0 → ⊥) → b < first
-        → walkOk isT m symbols strings (Gnu at n first blooms shift) i ≡ false
-    unfolding walkOk bucketOk
-    gnu-low b e nz l = rw (← e, ne-eqb b 0 nz, lt-leb first b l)
+  pub word-cut : 0 < w → lowest t ≤ w → every p (walk m t (fuel m t) w) ≡ true → length (walk m t (fuel m t) w) ≡ fuel m t
+      → wordOk m t p w ≡ lengthOk t (fuel m t)
+  unfolding wordOk
+  word-cut nz l e k = rw (fits t w nz l, e, k) (both-right (lengthOk t (fuel m t)))
 
-    pub gnu-start : (b : ℕ) → b ≡ leAt 4 (mem m) (at + (16 + 8 * blooms + 4 * i)) → (b ≡ 0 → ⊥) → first ≤ b
-        → walkOk isT m symbols strings (Gnu at n first blooms shift) i
-        ≡ every (stepOk isT m symbols strings (Gnu at n first blooms shift)) (walk m (Gnu at n first blooms shift) (fuel m (Gnu at n first blooms shift)) b)
-    unfolding walkOk walkFrom bucketOk lengthOk
-    gnu-start b e nz l = rw (← e, ne-eqb b 0 nz, le-leb first b l)
-
--- ---- one turn of the check of a GNU walk
-
-pub gnu-step : (isT : ℕ → Bool) (m : List ℕ) (symbols strings at n first blooms shift s : ℕ) (d y : Bool)
-    → d ≡ tableBytes isT (at + (16 + 8 * blooms + 4 * n + 4 * (s - first))) 4 → y ≡ symbolOk isT m symbols strings s → not d ≡ false → not y ≡ false
-    → stepOk isT m symbols strings (Gnu at n first blooms shift) s ≡ true
-unfolding chainOk
-gnu-step isT m symbols strings at n first blooms shift s d y de ye nd ny = rw (← de, not-false d nd) (sym ye ∙ not-false y ny)
-
-module _ (m : List ℕ) (t : HashTable) (p : ℕ → Bool) (f : Bool) (s k w : ℕ) (left : f ≡ every p (walk m t k s)) (more : 0 < k)
-    (we : w ≡ leAt 4 (mem m) (chainAt t s)) (st : p s ≡ true) where
-  pub left-on : isLast t w ≡ false → f ≡ every p (walk m t (k - 1) (nextSymbol t s w))
-  left-on la = left ∙ every-on m t p s k w (k - 1) (omega arith) we st la
+pub word-ended : (isT : ℕ → Bool) (m : List ℕ) (symbols strings : ℕ) (t : HashTable) (w : ℕ) → 0 < w → lowest t ≤ w
+    → Passes m t (stepOk isT m symbols strings t) w → wordOk m t (stepOk isT m symbols strings t) w ≡ true
+unfolding wordOk
+word-ended isT m symbols strings t w nz l h =
+    rw (fits t w nz l, length-fits isT m symbols strings t w h) (h .1 (fuel m t) .1)

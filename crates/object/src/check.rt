@@ -2,34 +2,41 @@
 // earlier walk passed: it is marked. In a System V table the symbols below 16,384 have a mark each; in a GNU table each symbol, or each
 // `step`th of more (`step_of`).
 ghost use mathlib.Core.Path.{_≡_};
-ghost use mathlib.Core.Bool.{true, false};
-ghost use Prim.Native.Nat.{_+_, _-_, _*_, _^_, _≤_, _<_};
-ghost use lib.ListN.{length, take, getD};
-ghost use Rattle.words.specs.Choice.{every, below};
+ghost use mathlib.Core.Bool.{true};
+ghost use mathlib.Core.List.{List};
+ghost use Prim.Native.Nat.{ℕ, _+_, _-_, _*_, _^_, _<_};
+ghost use lib.ListN.{take};
+ghost use Rattle.words.specs.Choice.{below};
 ghost use Rattle.words.specs.Memory.{mem};
-ghost use Rattle.object.specs.declared.hash_tables.HashTable.the-variants.{SysV, Gnu};
+ghost use Rattle.words.specs.Words.{leAt};
 ghost use Rattle.object.specs.TableBytes.{isTable, tableBytes};
-ghost use Rattle.object.specs.HashTable.{fuel, walk};
-ghost use Rattle.object.specs.HashCheck.{symbolOk, stepOk, walkOk, tableOk};
+ghost use Rattle.object.specs.HashTable.{bucketCount, fuel};
+ghost use Rattle.object.specs.HashCheck.{startOf, tableSize, numbersOk, lengthOk, chainOk, symbolOk, walkOk, tableOk};
 ghost use Rattle.object.specs.Steps.LastZero.{LastZeros};
-ghost use Rattle.object.specs.Steps.FineRange.{TablesFine, LinksFine};
-ghost use Rattle.object.specs.Steps.Marks.{MarkAt, NewMark, Marked, SysvMore, GnuMore, within, Passes};
-use crate::table_bytes::Fine;
+ghost use Rattle.object.specs.Steps.Marks.{MarkAt, NewMark, Marked, MarksMore, Passes, WalkedTo, wordOk, stepIn, ShortcutsOk};
+use crate::hash_tables::HashTable;
+use crate::hash_tables::View;
+use crate::table_bytes::Bounds;
 
-// Whether a walk passes, and how many symbols it passed before a marked one or its end.
-struct Walked {
-    ok: bool,
-    count: usize,
+// What the check of a table's walks goes by. At once pass: the first `links` symbols from `low` on, as far as the chain goes; the first `fits`
+// symbols, and names at the first `ends` places of the strings, as far as table bytes go. Mark `j` is that of symbol `low + j * step`.
+struct Shortcuts {
+    fits: usize,
+    ends: usize,
+    links: usize,
+    low: usize,
+    step: usize,
+}
+
+// What following a walk came to: its end, or a marked symbol; a symbol that does not pass; as many symbols as a walk may have.
+enum Walked {
+    Ended,
+    Failed,
+    Cut,
 }
 
 // Whether symbol `s`, and its name with the zero byte, are in table bytes.
-fn symbol_fits(
-    image: &[u8],
-    b: crate::table_bytes::Bounds,
-    symbols: usize,
-    strings: usize,
-    s: usize,
-) -> bool
+fn symbol_fits(image: &[u8], b: Bounds, symbols: usize, strings: usize, s: usize) -> bool
     requires { ⌜ s < 2 ^ 40 ⌝ }
     ensures { λ r. ⌜ r ≡ symbolOk (isTable (b .span) (take (b .count) (b .segments))) (now (image .entry)) symbols strings s ⌝ }
 {
@@ -41,13 +48,7 @@ fn symbol_fits(
 }
 
 // The same for any index: refusal 15.
-pub fn symbol_ok(
-    image: &[u8],
-    b: crate::table_bytes::Bounds,
-    symbols: usize,
-    strings: usize,
-    s: u32,
-) -> bool
+pub fn symbol_ok(image: &[u8], b: Bounds, symbols: usize, strings: usize, s: u32) -> bool
     ensures { λ r. ⌜ r ≡ symbolOk (isTable (b .span) (take (b .count) (b .segments))) (now (image .entry)) symbols strings s ⌝ }
 {
     symbol_fits(image, b, symbols, strings, s as usize)
@@ -56,7 +57,7 @@ pub fn symbol_ok(
 // The same as `symbol_fits`, without reading the name.
 fn symbol_in(
     image: &[u8],
-    b: crate::table_bytes::Bounds,
+    b: Bounds,
     zeros: &[usize; 17],
     symbols: usize,
     strings: usize,
@@ -84,512 +85,233 @@ fn symbol_in(
     crate::table_bytes::both_in(image, b, zeros, p, 24, strings + w)
 }
 
-// The same, at once for most symbols.
-fn symbol_quick(
-    image: &[u8],
-    b: crate::table_bytes::Bounds,
-    zeros: &[usize; 17],
-    f: Fine,
-    symbols: usize,
-    strings: usize,
-    s: usize,
-) -> bool
-    requires { ⌜ (s < 2 ^ 40) × LastZeros (mem (now image)) (b .span) (b .segments) (now zeros)
-        × TablesFine (isTable (b .span) (take (b .count) (b .segments))) (now image) symbols strings (b .span) (f .fits) (f .ends) ⌝ }
-    ensures { λ r. ⌜ r ≡ symbolOk (isTable (b .span) (take (b .count) (b .segments))) (now (image .entry)) symbols strings s ⌝ }
+// Whether symbol `s` passes at once, as most do.
+fn passes_at_once(image: &[u8], symbols: usize, q: Shortcuts, s: usize) -> bool
+    requires { ⌜ s < 2 ^ 40 ⌝ }
+    ensures { λ r. ⌜ (r ≡ true → (s - q .low < q .links) × (s < q .fits) × (leAt 4 (mem (now (image .entry))) (symbols + 24 * s) < q .ends)) ⌝ }
 {
-    if f.fits <= s {
-        return symbol_in(image, b, zeros, symbols, strings, s);
-    }
-    let w = words::bytes::u32_at(image, symbols + 24 * s) as usize;
-    if f.ends <= w {
-        return symbol_in(image, b, zeros, symbols, strings, s);
-    }
-    true
-}
-
-// Whether chain word `d`, which stands `k` places after `at`, is in table bytes: at once for the first `links`.
-fn link_quick(b: crate::table_bytes::Bounds, at: usize, k: usize, d: usize, links: usize) -> bool
-    requires { ⌜ (d < links → tableBytes (isTable (b .span) (take (b .count) (b .segments))) (at + k) 4 ≡ true) ⌝ }
-    ensures { λ r. ⌜ r ≡ tableBytes (isTable (b .span) (take (b .count) (b .segments))) (at + k) 4 ⌝ }
-{
-    if links <= d {
-        return crate::table_bytes::table_off(b, at, k, 4);
-    }
-    true
-}
-
-// Whether `d` has a mark, and it is set.
-fn is_marked(seen: &[bool; 16384], step: usize, d: usize) -> bool
-    requires { ⌜ 0 < step ⌝ }
-    ensures { λ r. ⌜ (r ≡ true → MarkAt (now (seen .entry)) step d) ⌝ }
-{
-    if d % step != 0 {
+    if q.links <= words::bytes::monus(s, q.low) {
         return false;
     }
-    let j = d / step;
-    if j < 16384 {
-        return seen[j];
+    if q.fits <= s {
+        return false;
     }
+    let w = words::bytes::u32_off(image, symbols, 24 * s) as usize;
+    if q.ends <= w {
+        return false;
+    }
+    true
+}
+
+// Whether a System V index is below the chain count, or the chain word of a GNU symbol is in table bytes.
+fn chain_ok(b: Bounds, t: HashTable, s: usize) -> bool
+    requires { ⌜ s < 2 ^ 40 ⌝ }
+    ensures { λ r. ⌜ r ≡ chainOk (isTable (b .span) (take (b .count) (b .segments))) t s ⌝ }
+{
+    match t {
+        HashTable::Without => false,
+        HashTable::SysV { chains, .. } => s < (chains as usize),
+        HashTable::Gnu { at, .. } => {
+            let k = crate::hash_tables::chain_off(t, s);
+            crate::table_bytes::table_off(b, at, k, 4)
+        }
+    }
+}
+
+// Whether symbol `s` passes.
+fn passes(image: &[u8], b: Bounds, zeros: &[usize; 17], v: View, s: usize) -> bool
+    requires { ⌜ (s < 2 ^ 40) × LastZeros (mem (now image)) (b .span) (b .segments) (now zeros) ⌝ }
+    ensures { λ r. ⌜ r ≡ stepIn b (now (image .entry)) v s ⌝ }
+{
+    let t = v.table;
+    if !chain_ok(b, t, s) {
+        return false;
+    }
+    symbol_in(image, b, zeros, v.symbols, v.strings, s)
+}
+
+// The number of the mark of symbol `s`; 16,384 or more where it has none.
+fn mark_of(low: usize, step: usize, s: usize) -> usize
+    requires { ⌜ 0 < step ⌝ }
+    ensures { λ r. ⌜ (r < 16384 → s ≡ low + r * step) ⌝ }
+{
+    if s < low {
+        return 16384;
+    }
+    let d = s - low;
+    if step == 1 {
+        return d;
+    }
+    if d % step != 0 {
+        return 16384;
+    }
+    d / step
+}
+
+// Whether symbol `s` is marked.
+fn is_marked(seen: &[bool; 16384], low: usize, step: usize, s: usize) -> bool
+    requires { ⌜ 0 < step ⌝ }
+    ensures { λ r. ⌜ (r ≡ true → MarkAt (now (seen .entry)) low step s) ⌝ }
+{
+    let j = mark_of(low, step, s);
+    if 16384 <= j {
+        return false;
+    }
+    seen[j]
+}
+
+// Marks symbol `s`, if it has a mark; whether it was marked.
+fn set_mark(seen: &mut [bool; 16384], low: usize, step: usize, s: usize) -> bool
+    requires { ⌜ 0 < step ⌝ }
+    ensures { λ _. ⌜ NewMark (now (seen .entry)) (now (seen .exit)) low step s ⌝ }
+{
+    let j = mark_of(low, step, s);
+    if 16384 <= j {
+        return false;
+    }
+    if seen[j] {
+        return true;
+    }
+    seen[j] = true;
     false
 }
 
-// Sets the mark of `d`, if it has one.
-fn set_mark(seen: &mut [bool; 16384], step: usize, d: usize)
-    requires { ⌜ 0 < step ⌝ }
-    ensures { λ _. ⌜ NewMark (now (seen .entry)) (now (seen .exit)) step d ⌝ }
-{
-    if d % step != 0 {
-        return;
-    }
-    let j = d / step;
-    if j < 16384 {
-        seen[j] = true;
-    }
-}
-
-// The walk of a System V table from `word`. No walk from a marked symbol has more than `total` symbols.
-fn sysv_walk(
+// Follows the walk from `word`.
+fn follow(
     image: &[u8],
-    b: crate::table_bytes::Bounds,
+    b: Bounds,
     zeros: &[usize; 17],
-    f: Fine,
-    symbols: usize,
-    strings: usize,
-    at: usize,
-    buckets: u32,
-    chains: u32,
+    v: View,
+    q: Shortcuts,
     seen: &[bool; 16384],
-    total: usize,
     word: usize,
 ) -> Walked
-    requires { ⌜ (word < 2 ^ 32) × LastZeros (mem (now image)) (b .span) (b .segments) (now zeros)
-        × Marked (now seen) 1 (λ s. within (now image) (SysV at buckets chains) (stepOk (isTable (b .span) (take (b .count) (b .segments))) (now image) symbols strings (SysV at buckets chains)) s (total) ≡ true)
-        × TablesFine (isTable (b .span) (take (b .count) (b .segments))) (now image) symbols strings (b .span) (f .fits) (f .ends) ⌝ }
-    ensures { λ r. ⌜ (r .ok ≡ within (now (image .entry)) (SysV at buckets chains) (stepOk (isTable (b .span) (take (b .count) (b .segments))) (now (image .entry)) symbols strings (SysV at buckets chains)) word chains)
-        × (r .count ≤ chains)
-        × (r .ok ≡ true → within (now (image .entry)) (SysV at buckets chains) (stepOk (isTable (b .span) (take (b .count) (b .segments))) (now (image .entry)) symbols strings (SysV at buckets chains)) word (total + r .count) ≡ true) ⌝ }
+    requires { ⌜ (word < 2 ^ 32) × LastZeros (mem (now image)) (b .span) (b .segments) (now zeros) × ShortcutsOk b (now image) v q
+        × Marked (now seen) (q .low) (q .step) (Passes (now image) (v .table) (stepIn b (now image) v)) ⌝ }
+    ensures { λ r. ⌜ WalkedTo (now (image .entry)) (v .table) (stepIn b (now (image .entry)) v) word r ⌝ }
 {
-    let n = buckets as usize;
-    let most = chains as usize;
+    let t = v.table;
+    let symbols = v.symbols;
     let mut s = word;
-    let mut left = most;
+    let mut left = crate::hash_tables::fuel_of(image, t);
     while 0 < left {
-        if most <= s {
-            return Walked {
-                ok: false,
-                count: 0,
-            };
+        if is_marked(seen, q.low, q.step, s) {
+            return Walked::Ended;
         }
-        if is_marked(seen, 1, s) {
-            if total <= left {
-                return Walked {
-                    ok: true,
-                    count: most - left,
-                };
+        if !passes_at_once(image, symbols, q, s) {
+            if !passes(image, b, zeros, v, s) {
+                return Walked::Failed;
             }
         }
-        if !symbol_quick(image, b, zeros, f, symbols, strings, s) {
-            return Walked {
-                ok: false,
-                count: 0,
-            };
+        let w = crate::hash_tables::chain_word(image, t, s);
+        if crate::hash_tables::is_last(t, w) {
+            return Walked::Ended;
         }
-        let w = words::bytes::u32_off(image, at, 8 + 4 * n + 4 * s);
-        if w == 0 {
-            return Walked {
-                ok: true,
-                count: most - left + 1,
-            };
-        }
-        s = w as usize;
+        s = crate::hash_tables::next_symbol(t, s, w);
         left -= 1;
     }
-    Walked {
-        ok: false,
-        count: 0,
-    }
+    Walked::Cut
 }
 
-// Marks the symbols of the walk from `word`, `n` of them.
-fn sysv_mark(
+// Marks the symbols of the walk from `word`, to its end or a marked one.
+fn mark_walk(
     image: &[u8],
-    at: usize,
-    buckets: u32,
-    chains: u32,
-    seen: &mut [bool; 16384],
-    word: usize,
-    n: usize,
-)
-    requires { ⌜ word < 2 ^ 32 ⌝ }
-    ensures { λ _. ⌜ SysvMore (now (image .entry)) (SysV at buckets chains) (now (seen .entry)) (now (seen .exit)) word ⌝ }
-{
-    let chain = 8 + 4 * (buckets as usize);
-    let mut s = word;
-    let mut i = 0;
-    while i < n {
-        set_mark(seen, 1, s);
-        let w = words::bytes::u32_off(image, at, chain + 4 * s);
-        if w == 0 {
-            return;
-        }
-        s = w as usize;
-        i += 1;
-    }
-}
-
-// The walk of bucket `i` of a System V table; its symbols get marks, and `total` grows by the count.
-fn sysv_bucket(
-    image: &[u8],
-    b: crate::table_bytes::Bounds,
-    zeros: &[usize; 17],
-    f: Fine,
-    symbols: usize,
-    strings: usize,
-    at: usize,
-    buckets: u32,
-    chains: u32,
-    seen: &mut [bool; 16384],
-    total: usize,
-    i: usize,
-) -> Walked
-    requires { ⌜ (i < buckets) × (total ≤ chains) × LastZeros (mem (now image)) (b .span) (b .segments) (now zeros)
-        × Marked (now seen) 1 (λ s. within (now image) (SysV at buckets chains) (stepOk (isTable (b .span) (take (b .count) (b .segments))) (now image) symbols strings (SysV at buckets chains)) s (total) ≡ true)
-        × TablesFine (isTable (b .span) (take (b .count) (b .segments))) (now image) symbols strings (b .span) (f .fits) (f .ends) ⌝ }
-    ensures { λ r. ⌜ (r .ok ≡ walkOk (isTable (b .span) (take (b .count) (b .segments))) (now (image .entry)) symbols strings (SysV at buckets chains) i)
-        × (total + r .count ≤ chains)
-        × (r .ok ≡ true → Marked (now (seen .exit)) 1 (λ s. within (now (image .entry)) (SysV at buckets chains) (stepOk (isTable (b .span) (take (b .count) (b .segments))) (now (image .entry)) symbols strings (SysV at buckets chains)) s (total + r .count) ≡ true)) ⌝ }
-{
-    let head = words::bytes::u32_off(image, at, 8 + 4 * i);
-    if head == 0 {
-        return Walked { ok: true, count: 0 };
-    }
-    let s = head as usize;
-    let w = sysv_walk(
-        image,
-        b,
-        zeros,
-        f,
-        symbols,
-        strings,
-        at,
-        buckets,
-        chains,
-        seen,
-        total,
-        s,
-    );
-    if !w.ok {
-        return Walked {
-            ok: false,
-            count: 0,
-        };
-    }
-    let count = w.count;
-    if (chains as usize) - total < count {
-        return Walked { ok: true, count: 0 };
-    }
-    sysv_mark(image, at, buckets, chains, seen, s, count);
-    Walked {
-        ok: true,
-        count: count,
-    }
-}
-
-// The walks of all buckets of a System V table.
-fn sysv_walks(
-    image: &[u8],
-    b: crate::table_bytes::Bounds,
-    zeros: &[usize; 17],
-    f: Fine,
-    symbols: usize,
-    strings: usize,
-    at: usize,
-    buckets: u32,
-    chains: u32,
-    seen: &mut [bool; 16384],
-) -> bool
-    requires { ⌜ LastZeros (mem (now image)) (b .span) (b .segments) (now zeros)
-        × Marked (now seen) 1 (λ s. within (now image) (SysV at buckets chains) (stepOk (isTable (b .span) (take (b .count) (b .segments))) (now image) symbols strings (SysV at buckets chains)) s (0) ≡ true)
-        × TablesFine (isTable (b .span) (take (b .count) (b .segments))) (now image) symbols strings (b .span) (f .fits) (f .ends) ⌝ }
-    ensures { λ r. ⌜ r ≡ below (walkOk (isTable (b .span) (take (b .count) (b .segments))) (now (image .entry)) symbols strings (SysV at buckets chains)) buckets ⌝ }
-{
-    let n = buckets as usize;
-    let mut total = 0;
-    let mut i = 0;
-    while i < n {
-        let w = sysv_bucket(
-            image,
-            b,
-            zeros,
-            f,
-            symbols,
-            strings,
-            at,
-            buckets,
-            chains,
-            seen,
-            total,
-            i,
-        );
-        if !w.ok {
-            return false;
-        }
-        total += w.count;
-        i += 1;
-    }
-    true
-}
-
-fn sysv_ok(
-    image: &[u8],
-    b: crate::table_bytes::Bounds,
-    symbols: usize,
-    strings: usize,
-    at: usize,
-    buckets: u32,
-    chains: u32,
-) -> bool
-    ensures { λ r. ⌜ r ≡ tableOk (isTable (b .span) (take (b .count) (b .segments))) (now (image .entry)) symbols strings (SysV at buckets chains) ⌝ }
-{
-    if buckets == 0 {
-        return false;
-    }
-    let n = buckets as usize;
-    if !crate::table_bytes::table_bytes(b, at, 8 + 4 * n + 4 * (chains as usize)) {
-        return false;
-    }
-    let mut zeros = [0usize; 17];
-    crate::table_bytes::last_zeros(image, b, &mut zeros);
-    let f = crate::table_bytes::fine_of(image, b, symbols, strings);
-    let mut seen = [false; 16384];
-    sysv_walks(
-        image,
-        b,
-        &zeros,
-        f,
-        symbols,
-        strings,
-        at,
-        buckets,
-        chains,
-        &mut seen,
-    )
-}
-
-// The walk of a GNU table from `word`.
-fn gnu_walk(
-    image: &[u8],
-    b: crate::table_bytes::Bounds,
-    zeros: &[usize; 17],
-    f: Fine,
-    symbols: usize,
-    strings: usize,
-    at: usize,
-    buckets: u32,
-    first: u32,
-    blooms: u32,
-    shift: u32,
-    links: usize,
-    seen: &[bool; 16384],
+    t: HashTable,
+    low: usize,
     step: usize,
+    seen: &mut [bool; 16384],
     word: usize,
-) -> Walked
-    requires { ⌜ (first ≤ word) × (word < 2 ^ 32) × (0 < step) × LastZeros (mem (now image)) (b .span) (b .segments) (now zeros)
-        × Marked (now seen) step (λ d. Passes (now image) (Gnu at buckets first blooms shift) (stepOk (isTable (b .span) (take (b .count) (b .segments))) (now image) symbols strings (Gnu at buckets first blooms shift)) (first + d))
-        × TablesFine (isTable (b .span) (take (b .count) (b .segments))) (now image) symbols strings (b .span) (f .fits) (f .ends)
-        × LinksFine (isTable (b .span) (take (b .count) (b .segments))) at (16 + 8 * blooms + 4 * buckets) links ⌝ }
-    ensures { λ r. ⌜ (r .ok ≡ every (stepOk (isTable (b .span) (take (b .count) (b .segments))) (now (image .entry)) symbols strings (Gnu at buckets first blooms shift)) (walk (now (image .entry)) (Gnu at buckets first blooms shift) (fuel (now (image .entry)) (Gnu at buckets first blooms shift)) word))
-        × (r .ok ≡ true → 0 < r .count → Passes (now (image .entry)) (Gnu at buckets first blooms shift) (stepOk (isTable (b .span) (take (b .count) (b .segments))) (now (image .entry)) symbols strings (Gnu at buckets first blooms shift)) word) ⌝ }
+)
+    requires { ⌜ (word < 2 ^ 32) × (0 < step) ⌝ }
+    ensures { λ _. ⌜ MarksMore (now (image .entry)) t low step (now (seen .entry)) (now (seen .exit)) word ⌝ }
 {
-    let chain = 16 + 8 * (blooms as usize) + 4 * (buckets as usize);
-    let low = first as usize;
-    let most = words::bytes::smaller(image.len(), 0x1000_0000);
     let mut s = word;
-    let mut left = most;
+    let mut left = crate::hash_tables::fuel_of(image, t);
     while 0 < left {
-        let d = s - low;
-        if is_marked(seen, step, d) {
-            return Walked {
-                ok: true,
-                count: most - left,
-            };
-        }
-        if !link_quick(b, at, chain + 4 * d, d, links) {
-            return Walked {
-                ok: false,
-                count: 0,
-            };
-        }
-        if !symbol_quick(image, b, zeros, f, symbols, strings, s) {
-            return Walked {
-                ok: false,
-                count: 0,
-            };
-        }
-        let w = words::bytes::u32_off(image, at, chain + 4 * d);
-        if w % 2 == 1 {
-            return Walked {
-                ok: true,
-                count: most - left + 1,
-            };
-        }
-        s += 1;
-        left -= 1;
-    }
-    Walked { ok: true, count: 0 }
-}
-
-// Marks the symbols of the walk from `word`, `n` of them.
-fn gnu_mark(
-    image: &[u8],
-    at: usize,
-    buckets: u32,
-    first: u32,
-    blooms: u32,
-    shift: u32,
-    seen: &mut [bool; 16384],
-    step: usize,
-    word: usize,
-    n: usize,
-)
-    requires { ⌜ (first ≤ word) × (word < 2 ^ 32) × (0 < step) × (n ≤ 2 ^ 32) ⌝ }
-    ensures { λ _. ⌜ GnuMore (now (image .entry)) (Gnu at buckets first blooms shift) first step (now (seen .entry)) (now (seen .exit)) word ⌝ }
-{
-    let chain = 16 + 8 * (blooms as usize) + 4 * (buckets as usize);
-    let low = first as usize;
-    let mut s = word;
-    let mut i = 0;
-    while i < n {
-        let d = s - low;
-        set_mark(seen, step, d);
-        let w = words::bytes::u32_off(image, at, chain + 4 * d);
-        if w % 2 == 1 {
+        if set_mark(seen, low, step, s) {
             return;
         }
-        s += 1;
-        i += 1;
+        let w = crate::hash_tables::chain_word(image, t, s);
+        if crate::hash_tables::is_last(t, w) {
+            return;
+        }
+        s = crate::hash_tables::next_symbol(t, s, w);
+        left -= 1;
     }
 }
 
-// The walk of bucket `i` of a GNU table; its symbols get marks.
-fn gnu_bucket(
-    image: &[u8],
-    b: crate::table_bytes::Bounds,
-    zeros: &[usize; 17],
-    f: Fine,
-    symbols: usize,
-    strings: usize,
-    at: usize,
-    buckets: u32,
-    first: u32,
-    blooms: u32,
-    shift: u32,
-    links: usize,
-    seen: &mut [bool; 16384],
-    step: usize,
-    i: usize,
-) -> bool
-    requires { ⌜ (i < buckets) × (0 < step) × LastZeros (mem (now image)) (b .span) (b .segments) (now zeros)
-        × Marked (now seen) step (λ d. Passes (now image) (Gnu at buckets first blooms shift) (stepOk (isTable (b .span) (take (b .count) (b .segments))) (now image) symbols strings (Gnu at buckets first blooms shift)) (first + d))
-        × TablesFine (isTable (b .span) (take (b .count) (b .segments))) (now image) symbols strings (b .span) (f .fits) (f .ends)
-        × LinksFine (isTable (b .span) (take (b .count) (b .segments))) at (16 + 8 * blooms + 4 * buckets) links ⌝ }
-    ensures { λ r. ⌜ (r ≡ walkOk (isTable (b .span) (take (b .count) (b .segments))) (now (image .entry)) symbols strings (Gnu at buckets first blooms shift) i)
-        × (r ≡ true → Marked (now (seen .exit)) step (λ d. Passes (now (image .entry)) (Gnu at buckets first blooms shift) (stepOk (isTable (b .span) (take (b .count) (b .segments))) (now (image .entry)) symbols strings (Gnu at buckets first blooms shift)) (first + d))) ⌝ }
+// Whether a walk may have as many symbols as it is followed for: not in a System V table.
+fn may_be_cut(t: HashTable) -> bool
+    ensures { λ r. ⌜ ((m : List ℕ) → r ≡ lengthOk t (fuel m t)) ⌝ }
 {
-    let word = words::bytes::u32_off(image, at, 16 + 8 * (blooms as usize) + 4 * i);
-    if word == 0 {
-        return true;
+    match t {
+        HashTable::Without => true,
+        HashTable::SysV { .. } => false,
+        HashTable::Gnu { .. } => true,
     }
-    if word < first {
-        return false;
-    }
+}
+
+// The walk from a bucket's word, other than 0; its symbols get marks.
+fn walk_ok(
+    image: &[u8],
+    b: Bounds,
+    zeros: &[usize; 17],
+    v: View,
+    q: Shortcuts,
+    seen: &mut [bool; 16384],
+    word: u32,
+) -> bool
+    requires { ⌜ (0 < word) × LastZeros (mem (now image)) (b .span) (b .segments) (now zeros) × ShortcutsOk b (now image) v q
+        × Marked (now seen) (q .low) (q .step) (Passes (now image) (v .table) (stepIn b (now image) v)) ⌝ }
+    ensures { λ r. ⌜ (r ≡ wordOk (now (image .entry)) (v .table) (stepIn b (now (image .entry)) v) word)
+        × Marked (now (seen .exit)) (q .low) (q .step) (Passes (now (image .entry)) (v .table) (stepIn b (now (image .entry)) v)) ⌝ }
+{
     let s = word as usize;
-    let w = gnu_walk(
-        image,
-        b,
-        zeros,
-        f,
-        symbols,
-        strings,
-        at,
-        buckets,
-        first,
-        blooms,
-        shift,
-        links,
-        seen,
-        step,
-        s,
-    );
-    if !w.ok {
+    if s < q.low {
         return false;
     }
-    let count = words::bytes::smaller(w.count, 0x1000_0000);
-    if count == 0 {
-        return true;
+    let t = v.table;
+    let w = follow(image, b, zeros, v, q, seen, s);
+    match w {
+        Walked::Ended => {
+            mark_walk(image, t, q.low, q.step, seen, s);
+            true
+        }
+        Walked::Failed => false,
+        Walked::Cut => may_be_cut(t),
     }
-    gnu_mark(
-        image,
-        at,
-        buckets,
-        first,
-        blooms,
-        shift,
-        seen,
-        step,
-        s,
-        count,
-    );
-    true
 }
 
-// The walks of all buckets of a GNU table.
-fn gnu_walks(
+// The walks of all buckets.
+fn walks_ok(
     image: &[u8],
-    b: crate::table_bytes::Bounds,
+    b: Bounds,
     zeros: &[usize; 17],
-    f: Fine,
-    symbols: usize,
-    strings: usize,
-    at: usize,
-    buckets: u32,
-    first: u32,
-    blooms: u32,
-    shift: u32,
-    links: usize,
+    v: View,
+    q: Shortcuts,
     seen: &mut [bool; 16384],
-    step: usize,
 ) -> bool
-    requires { ⌜ (0 < step) × LastZeros (mem (now image)) (b .span) (b .segments) (now zeros)
-        × Marked (now seen) step (λ d. Passes (now image) (Gnu at buckets first blooms shift) (stepOk (isTable (b .span) (take (b .count) (b .segments))) (now image) symbols strings (Gnu at buckets first blooms shift)) (first + d))
-        × TablesFine (isTable (b .span) (take (b .count) (b .segments))) (now image) symbols strings (b .span) (f .fits) (f .ends)
-        × LinksFine (isTable (b .span) (take (b .count) (b .segments))) at (16 + 8 * blooms + 4 * buckets) links ⌝ }
-    ensures { λ r. ⌜ r ≡ below (walkOk (isTable (b .span) (take (b .count) (b .segments))) (now (image .entry)) symbols strings (Gnu at buckets first blooms shift)) buckets ⌝ }
+    requires { ⌜ LastZeros (mem (now image)) (b .span) (b .segments) (now zeros) × ShortcutsOk b (now image) v q
+        × Marked (now seen) (q .low) (q .step) (Passes (now image) (v .table) (stepIn b (now image) v)) ⌝ }
+    ensures { λ r. ⌜ r ≡ below (walkOk (isTable (b .span) (take (b .count) (b .segments))) (now (image .entry)) (v .symbols) (v .strings) (v .table)) (bucketCount (v .table)) ⌝ }
 {
-    let n = buckets as usize;
+    let t = v.table;
+    let n = crate::hash_tables::bucket_count(t) as usize;
     let mut i = 0;
     while i < n {
-        if !gnu_bucket(
-            image,
-            b,
-            zeros,
-            f,
-            symbols,
-            strings,
-            at,
-            buckets,
-            first,
-            blooms,
-            shift,
-            links,
-            seen,
-            step,
-            i,
-        ) {
-            return false;
+        let word = crate::hash_tables::bucket_word(image, t, i);
+        if word == 0 {
+            i += 1;
+        } else {
+            if is_marked(seen, q.low, q.step, word as usize) {
+                i += 1;
+            } else {
+                if !walk_ok(image, b, zeros, v, q, seen, word) {
+                    return false;
+                }
+                i += 1;
+            }
         }
-        i += 1;
     }
     true
 }
@@ -605,99 +327,119 @@ fn step_of(known: bool, high: usize, first: usize, size: usize) -> usize
     size / 393216 + 1
 }
 
-fn gnu_ok(
-    image: &[u8],
-    b: crate::table_bytes::Bounds,
-    symbols: usize,
-    strings: usize,
-    at: usize,
-    buckets: u32,
-    first: u32,
-    blooms: u32,
-    shift: u32,
-) -> bool
-    ensures { λ r. ⌜ r ≡ tableOk (isTable (b .span) (take (b .count) (b .segments))) (now (image .entry)) symbols strings (Gnu at buckets first blooms shift) ⌝ }
-{
-    if buckets == 0 {
-        return false;
-    }
-    if blooms == 0 {
-        return false;
-    }
-    if 31 < shift {
-        return false;
-    }
-    let n = buckets as usize;
-    if !crate::table_bytes::table_bytes(b, at, 16 + 8 * (blooms as usize) + 4 * n) {
-        return false;
-    }
-    let mut zeros = [0usize; 17];
-    crate::table_bytes::last_zeros(image, b, &mut zeros);
-    let t = crate::hash_tables::HashTable::Gnu {
-        at: at,
-        buckets: buckets,
-        first: first,
-        blooms: blooms,
-        shift: shift,
-    };
-    let high = crate::hash_tables::highest_bucket(image, t);
-    let known = symbol_in(image, b, &zeros, symbols, strings, high);
-    let step = step_of(known, high, first as usize, image.len());
-    let f = crate::table_bytes::fine_of(image, b, symbols, strings);
-    let links = crate::table_bytes::links_of(image, b, at, 16 + 8 * (blooms as usize) + 4 * n);
-    let mut seen = [false; 16384];
-    gnu_walks(
-        image,
-        b,
-        &zeros,
-        f,
-        symbols,
-        strings,
-        at,
-        buckets,
-        first,
-        blooms,
-        shift,
-        links,
-        &mut seen,
-        step,
-    )
-}
-
-// Whether the object's hash table is not refused.
-pub fn hash_table_ok(
-    image: &[u8],
-    b: crate::table_bytes::Bounds,
-    v: crate::hash_tables::View,
-) -> bool
-    ensures { λ r. ⌜ r ≡ tableOk (isTable (b .span) (take (b .count) (b .segments))) (now (image .entry)) (v .symbols) (v .strings) (v .table) ⌝ }
+fn shortcuts_of(image: &[u8], b: Bounds, zeros: &[usize; 17], v: View) -> Shortcuts
+    requires { ⌜ LastZeros (mem (now image)) (b .span) (b .segments) (now zeros) ⌝ }
+    ensures { λ r. ⌜ ShortcutsOk b (now (image .entry)) v r ⌝ }
 {
     let symbols = v.symbols;
     let strings = v.strings;
-    let table = v.table;
-    match table {
-        crate::hash_tables::HashTable::Without => true,
-        crate::hash_tables::HashTable::SysV {
+    let t = v.table;
+    let f = crate::table_bytes::fine_of(image, b, symbols, strings);
+    match t {
+        HashTable::Without => Shortcuts {
+            fits: f.fits,
+            ends: f.ends,
+            links: 0,
+            low: 0,
+            step: 1,
+        },
+        HashTable::SysV { chains, .. } => Shortcuts {
+            fits: f.fits,
+            ends: f.ends,
+            links: chains as usize,
+            low: 0,
+            step: 1,
+        },
+        HashTable::Gnu {
+            at,
+            buckets,
+            first,
+            blooms,
+            ..
+        } => {
+            let high = crate::hash_tables::highest_bucket(image, t);
+            let known = symbol_in(image, b, zeros, symbols, strings, high);
+            let low = first as usize;
+            let chain = 16 + 8 * (blooms as usize) + 4 * (buckets as usize);
+            Shortcuts {
+                fits: f.fits,
+                ends: f.ends,
+                links: crate::table_bytes::links_of(image, b, at, chain),
+                low: low,
+                step: step_of(known, high, low, image.len()),
+            }
+        }
+    }
+}
+
+fn numbers_ok(t: HashTable) -> bool
+    ensures { λ r. ⌜ r ≡ numbersOk t ⌝ }
+{
+    match t {
+        HashTable::Without => true,
+        HashTable::SysV { buckets, .. } => buckets != 0,
+        HashTable::Gnu {
+            buckets,
+            blooms,
+            shift,
+            ..
+        } => {
+            if buckets == 0 {
+                return false;
+            }
+            if blooms == 0 {
+                return false;
+            }
+            shift <= 31
+        }
+    }
+}
+
+// Whether header, bloom words, buckets and the System V chain are table bytes.
+fn table_fits(b: Bounds, t: HashTable) -> bool
+    ensures { λ r. ⌜ r ≡ tableBytes (isTable (b .span) (take (b .count) (b .segments))) (startOf t) (tableSize t) ⌝ }
+{
+    match t {
+        HashTable::Without => crate::table_bytes::table_bytes(b, 0, 0),
+        HashTable::SysV {
             at,
             buckets,
             chains,
-        } => sysv_ok(image, b, symbols, strings, at, buckets, chains),
-        crate::hash_tables::HashTable::Gnu {
-            at,
-            buckets,
-            first,
-            blooms,
-            shift,
-        } => gnu_ok(
-            image,
+        } => crate::table_bytes::table_bytes(
             b,
-            symbols,
-            strings,
+            at,
+            8 + 4 * (buckets as usize) + 4 * (chains as usize),
+        ),
+        HashTable::Gnu {
             at,
             buckets,
-            first,
             blooms,
-            shift,
+            ..
+        } => crate::table_bytes::table_bytes(
+            b,
+            at,
+            16 + 8 * (blooms as usize) + 4 * (buckets as usize),
         ),
     }
+}
+
+// Whether the object's hash table is not refused.
+pub fn hash_table_ok(image: &[u8], b: Bounds, v: View) -> bool
+    ensures { λ r. ⌜ r ≡ tableOk (isTable (b .span) (take (b .count) (b .segments))) (now (image .entry)) (v .symbols) (v .strings) (v .table) ⌝ }
+{
+    let t = v.table;
+    if !numbers_ok(t) {
+        return false;
+    }
+    if !table_fits(b, t) {
+        return false;
+    }
+    if crate::hash_tables::bucket_count(t) == 0 {
+        return true;
+    }
+    let mut zeros = [0usize; 17];
+    crate::table_bytes::last_zeros(image, b, &mut zeros);
+    let q = shortcuts_of(image, b, &zeros, v);
+    let mut seen = [false; 16384];
+    walks_ok(image, b, &zeros, v, q, &mut seen)
 }

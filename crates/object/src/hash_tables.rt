@@ -2,9 +2,6 @@
 // image, and bytes past its end read as 0.
 ghost use mathlib.Core.Path.{_≡_};
 ghost use Prim.Native.Nat.{_+_, _*_, _/_, _%_, _^_, _≤_, _<_, max};
-ghost use lib.Dec.{eqb};
-ghost use lib.Bits.{bitOr};
-ghost use Rattle.words.specs.Choice.{both};
 ghost use Rattle.words.specs.Memory.{mem};
 ghost use Rattle.words.specs.Words.{leAt};
 ghost use Rattle.words.specs.Names.{sameBytes};

@@ -1,6 +1,6 @@
 -- `object::hash_tables::highest_bucket` meets its contract. The invariant: `best` is the largest word of the first `i` buckets. Assumes nothing.
 use borrow.Author.Needs.{needs}
-use Prim.Native.Nat.{ℕ, _-_, _^_, _≤_, _<_}
+use Prim.Native.Nat.{_-_, _^_, _≤_, _<_}
 use Rattle.object.proofs.CountLaws.{highest-more, highest-cut}
 use Rattle.object.proofs.hash_tables.bucket_count.Reads as bucket-count-reads
 use Rattle.object.proofs.hash_tables.bucket_word.Reads as bucket-word-reads
@@ -8,7 +8,7 @@ use Rattle.object.proofs.hash_tables.larger.Reads as larger-reads
 use Rattle.object.specs.SymbolCount.{highest}
 use Rattle.words.proofs.bytes.smaller.Reads as smaller-reads
 use denote.Ref.{now}
-use mathlib.Core.Path.{_≡_, refl, sym, ap, _∙_}
+use mathlib.Core.Path.{_≡_, refl, ap, _∙_}
 use native.Mathlib.Omega.{arith}
 use Rattle.object.proofs.hash_tables.highest_bucket.Statement.{statement}
 use Rattle.object.proofs.hash_tables.highest_bucket.Tie as tie
