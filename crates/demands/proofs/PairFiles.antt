@@ -29,7 +29,7 @@ use Rattle.object.specs.Segments.{
   placeSegments,
   placedOf,
 }
-use Rattle.object.specs.Placed.{segmentsOf, objectSpan, objectBytes, placeRefusal, objectImage}
+use Rattle.object.specs.Placed.{segmentsOf, objectSpan, objectBytes, fileRefusal, placeRefusal, objectImage}
 use Rattle.object.specs.DynamicArray.{itemsIn, endIn, lastValue, firstOf, allOf}
 use Rattle.object.specs.DynamicFields.{fieldOf}
 use Rattle.object.specs.TableBytes.{isTable, tableBytes, tableName}
@@ -122,7 +122,7 @@ module _ (host : Bool) (file : List ℕ) (segments : List Segment) (at n span : 
   image-padded = rw long (padded file n span (objectBytes host file) fills same)
 
   places : (room : ℕ) → span ≤ room → placeRefusal host room file ≡ 0
-  unfolding placeRefusal require after
+  unfolding placeRefusal fileRefusal require after
   places room l = rw (c .header, c .segments-ok, long, le-leb span room l)
 
   file-reads : Reads host file span (file ++ replicate n 0) r
