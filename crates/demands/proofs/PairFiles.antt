@@ -54,10 +54,15 @@ use Rattle.object.specs.declared.program_header.Dynamic.the-variants.{At}
 use Rattle.object.specs.declared.hash_tables.HashTable.the-variants.{Without, SysV}
 use Rattle.object.specs.declared.hash_tables.SymbolCount.the-variants.{Unknown, Known}
 use Rattle.object.proofs.RefusalLaws.{after-none}
-use Rattle.binder.proofs.PrepareLaws.{zero-at}
 use Rattle.demands.specs.PairOfSheets.{bytesOf, hostFile, programFile, libraryFile}
 
 -- ---- a file and zeros
+
+zero-at : (n i : ℕ) → mem (replicate n 0) i ≡ 0
+unfolding mem
+zero-at zero i = refl
+zero-at (suc n) zero = refl
+zero-at (suc n) (suc i) = zero-at n i
 
 mem-padded : (xs : List ℕ) (n i : ℕ) → mem (xs ++ replicate n 0) i ≡ mem xs i
 unfolding mem
