@@ -98,15 +98,15 @@ fn bind_set(
     bind_in(bytes, parts, arena, address, policy, report, &table, order)
 }
 
-// The answer; a refusal leaves zeros. No other function wipes after a refusal of `bind`.
+// The answer; a refusal leaves zeros. No other function clears after a refusal of `bind`.
 fn settle(m: Met, arena: &mut [u8], report: &mut [u32]) -> Answer
     ensures { λ r. ⌜ outcome r (now (arena .exit)) (now (report .exit)) ≡ settledOf m (now (arena .entry)) (now (report .entry)) ⌝ }
 {
     let Met::Refused { number, object } = m else {
         return Answer::Bound;
     };
-    sheet::wipe::clear(arena);
-    sheet::wipe::clear_words(report);
+    words::bytes::clear(arena);
+    words::bytes::clear_words(report);
     Answer::Refused {
         number: number,
         object: object,
@@ -124,7 +124,7 @@ pub fn bind(
 ) -> Answer
     ensures { λ r. ⌜ outcome r (now (arena .exit)) (now (report .exit)) ≡ bindOf (now (sheet .entry)) (now (bytes .entry)) (length (now (arena .entry))) address policy (length (now (report .entry))) ⌝ }
 {
-    sheet::wipe::clear_words(report);
+    words::bytes::clear_words(report);
     let parts = sheet::sheet::parts_of(sheet, bytes.len());
     let m = bind_set(bytes, parts, arena, address, policy, report);
     settle(m, arena, report)

@@ -35,7 +35,7 @@ fn reply_of(s: Scoped) -> Reply
 fn refuse(number: u32, object: u32, arena: &mut [u8]) -> Reply
     ensures { λ r. ⌜ replied r (now (arena .exit)) ≡ replied (Refused number object) (replicate (length (now (arena .entry))) 0) ⌝ }
 {
-    sheet::wipe::clear(arena);
+    words::bytes::clear(arena);
     Reply::Refused {
         number: number,
         object: object,

@@ -44,8 +44,8 @@ fn bind_sheet(input: &[u8], count: usize, arena: &mut [u8], report: &mut [u32]) 
 fn refuse(arena: &mut [u8], report: &mut [u32]) -> Answer
     ensures { λ r. ⌜ outcome r (now (arena .exit)) (now (report .exit)) ≡ outcome (Refused 1 0) (replicate (length (now (arena .entry))) 0) (replicate (length (now (report .entry))) 0) ⌝ }
 {
-    sheet::wipe::clear(arena);
-    sheet::wipe::clear_words(report);
+    words::bytes::clear(arena);
+    words::bytes::clear_words(report);
     Answer::Refused {
         number: 1,
         object: 0,

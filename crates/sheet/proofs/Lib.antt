@@ -2,5 +2,4 @@
 pub mod SheetLaws
 pub mod PartLaws
 pub mod SheetCases
-pub mod WipeLaws
 pub mod SheetLonger

@@ -8,8 +8,8 @@ use native.Mathlib.Omega.{arith}
 use native.Mathlib.Decide.{decLt, ℕ-discrete}
 use native.Mathlib.Numerals.{add-one}
 use borrow.Rule.Slice.PartMut.{putMid, post-is}
-use lib.ListN.{length, getD, set, take, drop, length-set, length-take, length-drop, length-append, List·getD-append, List·getD-eq-default}
-use lib.Seq.{getD-set-same, getD-set-other, getD-take, getD-drop, getD-append-add, length-take-le, drop-length, ext-getD, set-out}
+use lib.ListN.{length, getD, set, take, drop, length-set, length-take, length-drop, length-append, replicate, List·getD-append, List·getD-eq-default}
+use lib.Seq.{getD-set-same, getD-set-other, getD-take, getD-drop, getD-append-add, length-take-le, take-all, drop-length, ext-getD, set-out}
 use Rattle.words.specs.Memory.{Mem, mem, tab, from, In, write, patch}
 use Rattle.words.proofs.Memory.{Out, in-or-out, write-in, write-out, write-none, write-cong, write-join, write-from}
 
@@ -347,3 +347,16 @@ take-patch xs n f fits =
         mem-take n (patch xs 0 n f) i h
         ∙ (mem-patch-at xs 0 n f i (omega arith)
         ∙ (write-in (mem xs) 0 n f i (omega arith) ∙ (ap f (omega arith) ∙ sym (mem-tab n f i h))))
+
+-- zeros over all of a slice
+tab-zeros : (n : ℕ) → tab n (λ _. 0) ≡ replicate n 0
+unfolding tab
+tab-zeros zero = refl
+tab-zeros (suc n) = ap (λ (l : List ℕ). 0 ∷ l) (tab-zeros n)
+
+pub patch-zeros : (xs : List ℕ) → patch xs 0 (length xs) (λ _. 0) ≡ replicate (length xs) 0
+patch-zeros xs =
+    let z : ℕ → ℕ = λ _. 0 in
+    sym (take-all (length xs) (patch xs 0 (length xs) z) (omega (arith, length-patch xs 0 (length xs) z)))
+    ∙ take-patch xs (length xs) z (omega arith)
+    ∙ tab-zeros (length xs)

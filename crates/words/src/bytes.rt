@@ -3,7 +3,7 @@
 // places are known to be in the slice.
 ghost use mathlib.Core.Path.{_≡_};
 ghost use Prim.Native.Nat.{_+_, _-_, _*_, _≤_, min};
-ghost use lib.ListN.{length, set};
+ghost use lib.ListN.{length, replicate, set};
 ghost use Rattle.words.specs.Memory.{mem, from, patch};
 ghost use Rattle.words.specs.Words.{leAt, byteOf, sum64};
 
@@ -276,6 +276,25 @@ pub fn zero(s: &mut [u8], at: usize, n: usize)
     }
     let room = smaller(n, s.len() - at);
     zero_part(s, at, room);
+}
+
+// Zeros to all places.
+pub fn clear(s: &mut [u8])
+    ensures { λ _. ⌜ now (s .exit) ≡ replicate (length (now (s .entry))) 0 ⌝ }
+{
+    let n = s.len();
+    zero(s, 0, n);
+}
+
+// Zeros to all words.
+pub fn clear_words(s: &mut [u32])
+    ensures { λ _. ⌜ now (s .exit) ≡ replicate (length (now (s .entry))) 0 ⌝ }
+{
+    let mut i = 0;
+    while i < s.len() {
+        s[i] = 0;
+        i += 1;
+    }
 }
 
 // `n` bytes of `src` from `start` to the places of `dst` from `at`, all of them in the slices, one by one.

@@ -5,8 +5,8 @@ use Rattle.binder.proofs.bind.settle.Statement.{statement}
 use Rattle.binder.proofs.bind.settle.Tie as tie
 use Rattle.binder.proofs.bind.settle.Reads as reads
 use Rattle.binder.proofs.bind.settle.Lts as lts
-use Rattle.sheet.proofs.wipe.clear.Reads as clear-reads
-use Rattle.sheet.proofs.wipe.clear_words.Reads as clear-words-reads
+use Rattle.words.proofs.bytes.clear.Reads as clear-reads
+use Rattle.words.proofs.bytes.clear_words.Reads as clear-words-reads
 
 enum-known-m : tie.Need-enum-known-m
 enum-known-m c = search needs

@@ -1,4 +1,4 @@
--- `sheet::wipe::clear_words` meets its contract. The invariant: zeros before `i`, the old words from there on. Assumes nothing.
+-- `words::bytes::clear_words` meets its contract. The invariant: zeros before `i`, the old words from there on. Assumes nothing.
 use Prim.Native.Nat.{_-_, _≤_}
 use mathlib.Core.List.{_++_, append-nil}
 use mathlib.Core.Path.{_≡_, _∙_}
@@ -7,8 +7,8 @@ use borrow.Author.Needs.{needs}
 use borrow.Author.Fill.{fill-none, fill-more}
 use lib.ListN.{length, drop, replicate, length-set, drop-of-length-le}
 use denote.Ref.{now}
-use Rattle.sheet.proofs.wipe.clear_words.Statement.{statement}
-use Rattle.sheet.proofs.wipe.clear_words.Tie as tie
+use Rattle.words.proofs.bytes.clear_words.Statement.{statement}
+use Rattle.words.proofs.bytes.clear_words.Tie as tie
 
 abbrev Inv-loop : tie.InvT-loop
 Inv-loop s₀ i₀ s i =
@@ -25,14 +25,14 @@ loop-holds c =
 loop-again : tie.Need-loop-again Inv-loop μ-loop
 loop-again c =
     let l = c .before .loop in
-    (omega arith, simp length-set (l .inv .1), rw (l .inv .2) (fill-more (l .i) 0 (now (c .before .before .args .report)) (omega arith)))
+    (omega arith, simp length-set (l .inv .1), rw (l .inv .2) (fill-more (l .i) 0 (now (c .before .before .args .s)) (omega arith)))
 
 returns : tie.Need-returns Inv-loop μ-loop
 returns c =
     let a = c .before .before .args in
     let l = c .before .loop in
-    let e : l .i ≡ length (now (a .report)) = omega arith in
-    l .inv .2 ∙ rw (drop-of-length-le (now (a .report)) {i = l .i} (omega arith), append-nil, e)
+    let e : l .i ≡ length (now (a .s)) = omega arith in
+    l .inv .2 ∙ rw (drop-of-length-le (now (a .s)) {i = l .i} (omega arith), append-nil, e)
 
 pub clear-words-spec : {M : Type 1} → statement M
 clear-words-spec =
