@@ -24,7 +24,7 @@ use Rattle.object.specs.HashCheck.{symbolOk}
 use Rattle.object.specs.Record.{Record, indexOk, isTableOf, checkedSymbol, nameOf}
 use Rattle.object.specs.declared.symbol.Symbol.{Symbol}
 use Rattle.object.specs.declared.relocate.Rela.{Rela}
-use Rattle.object.specs.RelocationTypes.{Field, Row, noSearch, inScope, ignored, passedOver, turnedAway, copies, writes}
+use Rattle.object.specs.RelocationTypes.{Calculation, Row, noSearch, inScope, ignored, passedOver, turnedAway, copies, writes}
 use Rattle.object.specs.declared.entry_symbol.CheckedSymbol.{CheckedSymbol}
 use Rattle.object.specs.declared.entry_symbol.CheckedSymbol.the-variants.{Refused, Checked}
 use Rattle.object.specs.declared.hash_tables.Definition.{Definition}
@@ -33,7 +33,7 @@ use Rattle.binder.specs.Verdict.{Verdict, passed, verdict, writtenRefusa
 use Rattle.binder.specs.Report.{reportWord, unresolved, undefinedBy, isPassed}
 use Rattle.scope.specs.Steps.Seats.{seatAt}
 use Rattle.binder.specs.Steps.ScopeModel.{scopedOf}
-use Rattle.binder.specs.Steps.Relocating.{Left, left, wrote, Noted, noted, withArena, withReport, refusedBy, imageIn, reportSum, noteOf, markUndefined, unresolvedOf, fieldBytes, fixedOf, writeFound, copyFits, copyBytes, copyOf, turnOf, soughtFor, soughtForCopy, keeps, answeredOf, symbolicOf, copyingOf, runAction, keepsWeak}
+use Rattle.binder.specs.Steps.Relocating.{Left, left, wrote, Noted, noted, withArena, withReport, refusedBy, imageIn, reportSum, noteOf, markUndefined, unresolvedOf, writtenBytes, fixedOf, writeFound, copyFits, copyBytes, copyOf, turnOf, soughtFor, soughtForCopy, keeps, answeredOf, symbolicOf, copyingOf, runAction, keepsWeak}
 use Rattle.scope.specs.declared.seats.Seat.{Seat}
 use Rattle.binder.specs.declared.turn.Turn.{Turn}
 use Rattle.scope.specs.declared.scope.Scoped.{Scoped}
@@ -219,19 +219,19 @@ module _ (address size : ℕ) (table : List ℕ) (h pr : File) (fs : List File) 
               marked-going (ws ++ (reportWord 6 i ∷ [])) u n k (noteOf (reportSum 6 i) p report)
               (word-going ws u n p report (d .going) 6 i (omega arith))
 
-      -- ---- a field without a search
+      -- ---- a write without a search
 
       fixed-ran :
-          (e : Rela) (f : Field) (b : Bool) → inWritable (r .segments) (e .place) (f .width) ≡ b
+          (e : Rela) (f : Calculation) (b : Bool) → inWritable (r .segments) (e .place) (f .width) ≡ b
           → Ran size n (verdict (require b 17 0) k)
-          (Doing (ws ++ []) (earlier u 0) (write m ((obj S k) .offset + e .place) (f .width) (fieldBytes t e f 0)))
+          (Doing (ws ++ []) (earlier u 0) (write m ((obj S k) .offset + e .place) (f .width) (writtenBytes t e f 0)))
           (withReport report
-          (pick b (wrote p (patch a (t .offset + e .place) (f .width) (fieldBytes t e f 0))) (wrote (refusedBy t 17 p) a)))
+          (pick b (wrote p (patch a (t .offset + e .place) (f .width) (writtenBytes t e f 0))) (wrote (refusedBy t 17 p) a)))
       unfolding require
       fixed-ran e f true w =
-          let x = wrote-to (e .place) (f .width) (fieldBytes t e f 0) w in
-          plain (verdict 0 k) (write m ((obj S k) .offset + e .place) (f .width) (fieldBytes t e f 0))
-          (patch a (t .offset + e .place) (f .width) (fieldBytes t e f 0)) (verdict-none 0 k refl) (x .0) (x .1)
+          let x = wrote-to (e .place) (f .width) (writtenBytes t e f 0) w in
+          plain (verdict 0 k) (write m ((obj S k) .offset + e .place) (f .width) (writtenBytes t e f 0))
+          (patch a (t .offset + e .place) (f .width) (writtenBytes t e f 0)) (verdict-none 0 k refl) (x .0) (x .1)
       fixed-ran e f false w = stopped 17 _ (λ e. omega arith)
 
       -- ---- the entry's symbol
@@ -267,7 +267,7 @@ module _ (address size : ℕ) (table : List ℕ) (h pr : File) (fs : List File) 
           ap (nameOf (imageIn a t) r) e
           ∙ (name-is (imageIn a t) r index ∙ (readings address size table h pr fs L a steady k hi) .names index ok)
 
-      -- ---- a field with a search
+      -- ---- a write with a search
 
       module _ (i : ℕ) (l : i < 2 ^ 28) (e : Rela) where
         abbrev y : Symbol
@@ -295,32 +295,32 @@ module _ (address size : ℕ) (table : List ℕ) (h pr : File) (fs : List File) 
               refl,
             )
 
-        module _ (f : Field) where
+        module _ (f : Calculation) where
           -- what such an entry leaves
           abbrev Written6 : Answer → Left → Type 0
-          Written6 x st = Ran size n (verdict 0 k) (After x (write m ((obj S k) .offset + e .place) (f .width) (fieldBytes t e f (addressOr0 x)))) st
+          Written6 x st = Ran size n (verdict 0 k) (After x (write m ((obj S k) .offset + e .place) (f .width) (writtenBytes t e f (addressOr0 x)))) st
 
           -- found nowhere: a weak symbol's absence is kept
           nowhere-ran :
               absent ≡ resolve S k name → inWritable (r .segments) (e .place) (f .width) ≡ true → (b : Bool) → eqb (bindingOf y) 2 ≡ b
               → Written6 absent
-              (withArena (patch a (t .offset + e .place) (f .width) (fieldBytes t e f 0)) (keepsWeak (e .symbol + 1) y (unresolvedOf y k i p report)))
+              (withArena (patch a (t .offset + e .place) (f .width) (writtenBytes t e f 0)) (keepsWeak (e .symbol + 1) y (unresolvedOf y k i p report)))
           unfolding addressOr0
           nowhere-ran eq w true b =
-              let z = wrote-to (e .place) (f .width) (fieldBytes t e f 0) w in
+              let z = wrote-to (e .place) (f .width) (writtenBytes t e f 0) w in
               subst
-              (λ (q : Noted). Written6 absent (withArena (patch a (t .offset + e .place) (f .width) (fieldBytes t e f 0)) q))
+              (λ (q : Noted). Written6 absent (withArena (patch a (t .offset + e .place) (f .width) (writtenBytes t e f 0)) q))
               (sym (weak-keeps (e .symbol + 1) y k i p report b))
               (rw b
-              (with-answer (verdict 0 k) (e .symbol + 1) 0 (write m ((obj S k) .offset + e .place) (f .width) (fieldBytes t e f 0)) (patch a (t .offset + e .place) (f .width) (fieldBytes t e f 0))
+              (with-answer (verdict 0 k) (e .symbol + 1) 0 (write m ((obj S k) .offset + e .place) (f .width) (writtenBytes t e f 0)) (patch a (t .offset + e .place) (f .width) (writtenBytes t e f 0))
               (verdict-none 0 k refl) (weak-kept eq b) (z .0) (z .1)))
           nowhere-ran eq w false b =
-              let z = wrote-to (e .place) (f .width) (fieldBytes t e f 0) w in
+              let z = wrote-to (e .place) (f .width) (writtenBytes t e f 0) w in
               subst
-              (λ (q : Noted). Written6 absent (withArena (patch a (t .offset + e .place) (f .width) (fieldBytes t e f 0)) q))
+              (λ (q : Noted). Written6 absent (withArena (patch a (t .offset + e .place) (f .width) (writtenBytes t e f 0)) q))
               (sym (strong-keeps (e .symbol + 1) y (unresolvedOf y k i p report) b))
               (with-words (verdict 0 k) (ws ++ pick (not (eqb (bindingOf y) 2)) (reportWord 6 i ∷ []) []) (earlier u (pick (not (eqb (bindingOf y) 2)) k 0))
-              (write m ((obj S k) .offset + e .place) (f .width) (fieldBytes t e f 0)) (patch a (t .offset + e .place) (f .width) (fieldBytes t e f 0)) (unresolvedOf y k i p report)
+              (write m ((obj S k) .offset + e .place) (f .width) (writtenBytes t e f 0)) (patch a (t .offset + e .place) (f .width) (writtenBytes t e f 0)) (unresolvedOf y k i p report)
               (verdict-none 0 k refl) (unresolved-going i l y) (unresolved-kept y k i p report) (z .0) (z .1))
 
           found-ran : (s : Scoped) → scopedOf s ≡ resolve S k name → inWritable (r .segments) (e .place) (f .width) ≡ true → Written6 (resolve S k name) (writeFound t e f i y s p a report)
@@ -328,48 +328,48 @@ module _ (address size : ℕ) (table : List ℕ) (h pr : File) (fs : List File) 
           found-ran Absent eq w =
               subst (λ (x : Answer). Written6 x (writeFound t e f i y Absent p a report)) eq (nowhere-ran eq w (eqb (bindingOf y) 2) refl)
           found-ran (Found d s v) eq w =
-              let z = wrote-to (e .place) (f .width) (fieldBytes t e f v) w in
+              let z = wrote-to (e .place) (f .width) (writtenBytes t e f v) w in
               subst
               (λ (x : Answer). Written6 x (writeFound t e f i y (Found d s v) p a report))
               eq
-              (with-answer (verdict 0 k) (e .symbol + 1) v (write m ((obj S k) .offset + e .place) (f .width) (fieldBytes t e f v)) (patch a (t .offset + e .place) (f .width) (fieldBytes t e f v))
+              (with-answer (verdict 0 k) (e .symbol + 1) v (write m ((obj S k) .offset + e .place) (f .width) (writtenBytes t e f v)) (patch a (t .offset + e .place) (f .width) (writtenBytes t e f v))
               (verdict-none 0 k refl) (kept-now d (symOf s) v eq) (z .0) (z .1))
 
           kept-ran :
               p .last ≡ e .symbol + 1 → inWritable (r .segments) (e .place) (f .width) ≡ true
-              → Written6 (resolve S k name) (left p (patch a (t .offset + e .place) (f .width) (fieldBytes t e f (p .address))) report)
+              → Written6 (resolve S k name) (left p (patch a (t .offset + e .place) (f .width) (writtenBytes t e f (p .address))) report)
           unfolding addressOr0
           kept-ran same w =
-              let z = wrote-to (e .place) (f .width) (fieldBytes t e f (p .address)) w in
+              let z = wrote-to (e .place) (f .width) (writtenBytes t e f (p .address)) w in
               ⊎-elim
               (λ x.
               subst
-              (λ (x : Answer). Written6 x (left p (patch a (t .offset + e .place) (f .width) (fieldBytes t e f (p .address))) report))
+              (λ (x : Answer). Written6 x (left p (patch a (t .offset + e .place) (f .width) (writtenBytes t e f (p .address))) report))
               (sym (x .2))
-              (plain (verdict 0 k) (write m ((obj S k) .offset + e .place) (f .width) (fieldBytes t e f (p .address))) (patch a (t .offset + e .place) (f .width) (fieldBytes t e f (p .address)))
+              (plain (verdict 0 k) (write m ((obj S k) .offset + e .place) (f .width) (writtenBytes t e f (p .address))) (patch a (t .offset + e .place) (f .width) (writtenBytes t e f (p .address)))
               (verdict-none 0 k refl) (z .0) (z .1)))
               (λ x.
               subst
-              (λ (x : Answer). Written6 x (left p (patch a (t .offset + e .place) (f .width) (fieldBytes t e f (p .address))) report))
+              (λ (x : Answer). Written6 x (left p (patch a (t .offset + e .place) (f .width) (writtenBytes t e f (p .address))) report))
               (sym (x .0))
               (rw (x .1)
-              (plain (verdict 0 k) (write m ((obj S k) .offset + e .place) (f .width) (fieldBytes t e f 0)) (patch a (t .offset + e .place) (f .width) (fieldBytes t e f (p .address)))
-              (verdict-none 0 k refl) (z .0) (z .1 ∙ ap (λ (v : ℕ). write m ((obj S k) .offset + e .place) (f .width) (fieldBytes t e f v)) (x .2)))))
+              (plain (verdict 0 k) (write m ((obj S k) .offset + e .place) (f .width) (writtenBytes t e f 0)) (patch a (t .offset + e .place) (f .width) (writtenBytes t e f (p .address)))
+              (verdict-none 0 k refl) (z .0) (z .1 ∙ ap (λ (v : ℕ). write m ((obj S k) .offset + e .place) (f .width) (writtenBytes t e f v)) (x .2)))))
               (d .kept (e .symbol) same)
 
           answered-ran :
               (s : Scoped) → scopedOf s ≡ resolve S k name → inWritable (r .segments) (e .place) (f .width) ≡ true → (b : Bool) → eqb (p .last) (e .symbol + 1) ≡ b
               → Written6 (resolve S k name)
-              (pick b (left p (patch a (t .offset + e .place) (f .width) (fieldBytes t e f (p .address))) report) (writeFound t e f i y s p a report))
+              (pick b (left p (patch a (t .offset + e .place) (f .width) (writtenBytes t e f (p .address))) report) (writeFound t e f i y s p a report))
           answered-ran s eq w true same = kept-ran (eqb-true (p .last) (e .symbol + 1) same) w
           answered-ran s eq w false same = found-ran s eq w
 
           symbolic-by :
               (s : Scoped) → scopedOf s ≡ resolve S k name → (b : Bool) → inWritable (r .segments) (e .place) (f .width) ≡ b
               → Ran size n (verdict (require b 17 0) k)
-              (After (resolve S k name) (write m ((obj S k) .offset + e .place) (f .width) (fieldBytes t e f (addressOr0 (resolve S k name)))))
+              (After (resolve S k name) (write m ((obj S k) .offset + e .place) (f .width) (writtenBytes t e f (addressOr0 (resolve S k name)))))
               (pick b
-              (pick (eqb (p .last) (e .symbol + 1)) (left p (patch a (t .offset + e .place) (f .width) (fieldBytes t e f (p .address))) report) (writeFound t e f i y s p a report))
+              (pick (eqb (p .last) (e .symbol + 1)) (left p (patch a (t .offset + e .place) (f .width) (writtenBytes t e f (p .address))) report) (writeFound t e f i y s p a report))
               (left (refusedBy t 17 p) a report))
           unfolding require
           symbolic-by s eq true w = answered-ran s eq w (eqb (p .last) (e .symbol + 1)) refl
@@ -377,12 +377,12 @@ module _ (address size : ℕ) (table : List ℕ) (h pr : File) (fs : List File) 
 
           symbolic-ran :
               Ran size n (verdict (symbolThen (checkedSymbol image r (e .symbol)) (λ y. writtenRefusal r (e .place) (f .width))) k)
-              (After (resolve S k name) (write m ((obj S k) .offset + e .place) (f .width) (fieldBytes t e f (addressOr0 (resolve S k name)))))
+              (After (resolve S k name) (write m ((obj S k) .offset + e .place) (f .width) (writtenBytes t e f (addressOr0 (resolve S k name)))))
               (symbolicOf address table (count S) t r e f i (checkedSymbol (imageIn a t) r (e .symbol)) p a report)
           unfolding symbolicOf answeredOf
           symbolic-ran =
               symbol-step (e .symbol) (λ y. writtenRefusal r (e .place) (f .width))
-              (After (resolve S k name) (write m ((obj S k) .offset + e .place) (f .width) (fieldBytes t e f (addressOr0 (resolve S k name)))))
+              (After (resolve S k name) (write m ((obj S k) .offset + e .place) (f .width) (writtenBytes t e f (addressOr0 (resolve S k name)))))
               (λ c. symbolicOf address table (count S) t r e f i c p a report) (λ z. refl)
               (λ ok same.
               symbolic-by (soughtFor address table (count S) t a (nameOf (imageIn a t) r y))

@@ -18,7 +18,7 @@ use Rattle.object.proofs.FineLaws.{fine-same}
 use Rattle.object.specs.declared.symbol.Symbol.{Symbol}
 use Rattle.object.specs.declared.hash_tables.Definition.{Definition}
 use Rattle.object.specs.declared.relocate.Rela.{Rela}
-use Rattle.object.specs.RelocationTypes.{Field, Row, noSearch, inScope, ignored, passedOver, turnedAway, copies, writes}
+use Rattle.object.specs.RelocationTypes.{Calculation, Row, noSearch, inScope, ignored, passedOver, turnedAway, copies, writes}
 use Rattle.object.specs.declared.entry_symbol.CheckedSymbol.{CheckedSymbol}
 use Rattle.object.specs.declared.entry_symbol.CheckedSymbol.the-variants.{Refused, Checked}
 use Rattle.scope.specs.Steps.Seats.{seatAt}
@@ -28,7 +28,7 @@ use Rattle.scope.specs.declared.scope.Scoped.the-variants.{Absent, Found}
 use Rattle.binder.specs.declared.report.Progress.{Progress}
 use Rattle.binder.specs.declared.turn.Turn.{Turn}
 use Rattle.binder.specs.declared.relocate.Symbols.{Symbols}
-use Rattle.binder.specs.Steps.Relocating.{Left, left, wrote, Noted, noted, withArena, withReport, refusedBy, imageIn, reportSum, noteOf, unresolvedOf, keepsWeak, fieldBytes, fixedOf, writeFound, copyFits, copyBytes, copyOf, soughtFor, soughtForCopy, answeredOf, symbolicOf, copyingOf, runAction}
+use Rattle.binder.specs.Steps.Relocating.{Left, left, wrote, Noted, noted, withArena, withReport, refusedBy, imageIn, reportSum, noteOf, unresolvedOf, keepsWeak, writtenBytes, fixedOf, writeFound, copyFits, copyBytes, copyOf, soughtFor, soughtForCopy, answeredOf, symbolicOf, copyingOf, runAction}
 use Rattle.binder.specs.Steps.RunSteps.{TablesKept, SymbolsOf}
 use Rattle.binder.proofs.SteadyLaws.{table-out}
 
@@ -89,22 +89,22 @@ module _ (t : Turn) (r : Record) where
     noted-keeps b (noted p report) k = k
 
   module _ (address : ℕ) (table : List ℕ) (count : ℕ) (i : ℕ) (e : Rela) (p : Progress) (a report : List ℕ) where
-    module _ (f : Field) where
+    module _ (f : Calculation) where
       fixed-keeps : Keeps a (withReport report (fixedOf t (r .segments) e f p a))
       unfolding fixedOf
       fixed-keeps = go (inWritable (r .segments) (e .place) (f .width)) refl
         where
           go : (b : Bool) → inWritable (r .segments) (e .place) (f .width) ≡ b
-              → Keeps a (withReport report (pick b (wrote p (patch a (t .offset + e .place) (f .width) (fieldBytes t e f 0))) (wrote (refusedBy t 17 p) a)))
-          go true w = kept-write a (e .place) (f .width) (fieldBytes t e f 0) w
+              → Keeps a (withReport report (pick b (wrote p (patch a (t .offset + e .place) (f .width) (writtenBytes t e f 0))) (wrote (refusedBy t 17 p) a)))
+          go true w = kept-write a (e .place) (f .width) (writtenBytes t e f 0) w
           go false w = kept-none a
 
       found-keeps : (y : Symbol) (s : Scoped) → inWritable (r .segments) (e .place) (f .width) ≡ true → Keeps a (writeFound t e f i y s p a report)
       unfolding writeFound
       found-keeps y Absent w =
-          noted-keeps a (patch a (t .offset + e .place) (f .width) (fieldBytes t e f 0))
-          (keepsWeak (e .symbol + 1) y (unresolvedOf y (t .number) i p report)) (kept-write a (e .place) (f .width) (fieldBytes t e f 0) w)
-      found-keeps y (Found k d x) w = kept-write a (e .place) (f .width) (fieldBytes t e f x) w
+          noted-keeps a (patch a (t .offset + e .place) (f .width) (writtenBytes t e f 0))
+          (keepsWeak (e .symbol + 1) y (unresolvedOf y (t .number) i p report)) (kept-write a (e .place) (f .width) (writtenBytes t e f 0) w)
+      found-keeps y (Found k d x) w = kept-write a (e .place) (f .width) (writtenBytes t e f x) w
 
       symbolic-keeps : (c : CheckedSymbol) → Keeps a (symbolicOf address table count t r e f i c p a report)
       unfolding symbolicOf answeredOf
@@ -114,10 +114,10 @@ module _ (t : Turn) (r : Record) where
           go : (b : Bool) → inWritable (r .segments) (e .place) (f .width) ≡ b → (c : Bool)
               → Keeps a
               (pick b
-              (pick c (left p (patch a (t .offset + e .place) (f .width) (fieldBytes t e f (p .address))) report)
+              (pick c (left p (patch a (t .offset + e .place) (f .width) (writtenBytes t e f (p .address))) report)
               (writeFound t e f i y (soughtFor address table count t a (nameOf (imageIn a t) r y)) p a report))
               (left (refusedBy t 17 p) a report))
-          go true w true = kept-write a (e .place) (f .width) (fieldBytes t e f (p .address)) w
+          go true w true = kept-write a (e .place) (f .width) (writtenBytes t e f (p .address)) w
           go true w false = found-keeps y (soughtFor address table count t a (nameOf (imageIn a t) r y)) w
           go false w c = kept-none a
 

@@ -30,3 +30,4 @@ pub mod RelativeLaws
 pub mod SymbolicLaws
 pub mod BitLaws
 pub mod BindIs
+pub mod LoadsSame

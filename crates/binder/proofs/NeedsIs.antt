@@ -27,7 +27,8 @@ use Rattle.object.specs.Loaded.{objectRefusal}
 use Rattle.object.proofs.RefusalLaws.{required, after-zero}
 use Rattle.sheet.specs.Sheet.{Input, noInput}
 use Rattle.binder.specs.Instance.{File, fileImage, fileRecord, objectAt}
-use Rattle.binder.specs.Verdict.{passed, verdict, loadVerdict, noFile}
+use Rattle.binder.specs.Verdict.{passed, verdict, noFile}
+use Rattle.binder.specs.Steps.Prepared.{loadFrom}
 use Rattle.binder.specs.Bind.{filesOf, namesOf}
 use Rattle.binder.specs.SetOrder as sets
 use Rattle.binder.specs.SetOrder.{setOrder}
@@ -50,8 +51,8 @@ abbrev ReadFrom : File → Type 0
 ReadFrom f = readRefusal (f .host) (fileImage f) (segmentsOf (f .host) (f .bytes)) (dynamicOf (f .bytes)) ≡ 0
 
 read-passed :
-    (size : ℕ) (files : List File) (n off k : ℕ) → loadVerdict size n off files ≡ passed → k < length files → ReadFrom (getD files k noFile)
-unfolding loadVerdict loading.objectRefusal
+    (size : ℕ) (files : List File) (n off k : ℕ) → loadFrom size n off files ≡ passed → k < length files → ReadFrom (getD files k noFile)
+unfolding loadFrom loading.objectRefusal
 read-passed size [] n off k v h = absurd (omega arith)
 read-passed size (f ∷ fs) n off zero v h =
     let a = first-passed (verdict (objectRefusal (f .host) (size - off) (f .bytes)) n) _ v in
@@ -87,7 +88,7 @@ numbers-are os f image strings d ei es ed read =
 -- ---- a loaded set
 
 module _
-    (size : ℕ) (table arena : List ℕ) (os : List Input) (loads : loadVerdict size 0 0 (filesOf os) ≡ passed)
+    (size : ℕ) (table arena : List ℕ) (os : List Input) (loads : loadFrom size 0 0 (filesOf os) ≡ passed)
     (views : (k : ℕ) → 2 ≤ k → k < length os → seatAt table k .view ≡ viewOf (fileRecord (getD (filesOf os) k noFile)))
     (images : (k : ℕ) → 2 ≤ k → k < length os → imageAt arena (seatAt table k) ≡ fileImage (getD (filesOf os) k noFile))
   where

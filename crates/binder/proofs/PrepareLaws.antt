@@ -33,16 +33,17 @@ use Rattle.sheet.specs.Steps.Parts.{inputsIn, Tabled}
 use Rattle.sheet.specs.declared.sheet.Parts.{Parts}
 use Rattle.sheet.proofs.PartLaws.{handed-in, two-parts}
 use Rattle.binder.specs.Instance.{File, fileRecord}
-use Rattle.binder.specs.Verdict.{passed, refused, first, verdict, loadVerdict, noFile}
+use Rattle.binder.specs.Verdict.{passed, refused, first, verdict, noFile}
 use Rattle.binder.specs.Bind.{filesOf, unless, prepareVerdict}
 use Rattle.scope.specs.Steps.Seats.{seatAt, Filtered}
-use Rattle.binder.specs.Steps.Prepared.{metBy, seatOf, placeFiles, Seated, SeatedAt, LoadedAt, LoadedFiles, setVerdict, Prepared}
+use Rattle.binder.specs.Steps.Prepared.{loadFrom, metBy, seatOf, placeFiles, Seated, SeatedAt, LoadedAt, LoadedFiles, setVerdict, Prepared}
 use Rattle.scope.specs.declared.seats.Seat.{Seat}
 use Rattle.binder.specs.declared.prepare.Met.{Met}
 use Rattle.binder.specs.declared.prepare.Met.the-variants.{Passed, Refused}
 use Rattle.binder.specs.declared.prepare.Loaded.{Loaded}
 use Rattle.binder.specs.declared.prepare.Loaded as loads
 use Rattle.binder.proofs.OutcomeLaws.{refused-not, first-passed, unless-passed}
+use Rattle.binder.proofs.LoadsSame.{loads-same}
 
 -- ---- one object
 
@@ -158,7 +159,7 @@ pub record Loading (os : List Input) (a₀ a table : List ℕ) (off k : ℕ) : T
   pub same : length a ≡ length a₀
   pub offset : off ≤ length a
   pub number : k ≤ length os
-  pub met : loadVerdict (length a₀) 0 0 (filesOf os) ≡ loadVerdict (length a₀) k off (drop k (filesOf os))
+  pub met : loadFrom (length a₀) 0 0 (filesOf os) ≡ loadFrom (length a₀) k off (drop k (filesOf os))
   pub placed : placeFiles (filesOf os) 0 (λ _. 0) ≡ placeFiles (drop k (filesOf os)) off (below off (mem a))
   pub seated :
       (t : List ℕ) → ((j : ℕ) → j < k → seatAt t j ≡ seatAt table j) → Seated t k off (drop k (filesOf os)) → Seated t 0 0 (filesOf os)
@@ -192,7 +193,7 @@ module _ (os : List Input) (a₀ a table : List ℕ) (off k : ℕ) (h : Loading 
 
     module _ (a′ : List ℕ) (p : Loaded) (r : LoadedAt (eqb k 0) (getD os k noInput .file) off a a′ p) where
       pub load-fail : (n : ℕ) → p ≡ loads.the-variants.Refused n → (t : List ℕ) → LoadedFiles (filesOf os) a₀ a′ t (Refused n k)
-      unfolding loadVerdict verdict
+      unfolding loadFrom verdict
       load-fail n e t =
           let g : (n ≡ objectRefusal (eqb k 0) (length a - off) (getD os k noInput .file)) × (n ≡ 0 → ⊥) =
           subst (λ (x : Loaded). LoadedAt (eqb k 0) (getD os k noInput .file) off a a′ x) e r in
@@ -214,7 +215,7 @@ module _ (os : List Input) (a₀ a table : List ℕ) (off k : ℕ) (h : Loading 
           (s : Seat) → p ≡ loads.the-variants.At s → length a′ ≡ length a → (t : List ℕ) → seatAt t k ≡ s
           → ((j : ℕ) → (j ≡ k → ⊥) → seatAt t j ≡ seatAt table j) → (Filtered table k → Filtered t (k + 1))
           → Loading os a₀ a′ t (off + s .span) (k + 1)
-      unfolding loadVerdict verdict placeFiles Seated
+      unfolding loadFrom verdict placeFiles Seated
       load-turn s e len t here others filters =
           let g = seated s e in
           let span : s .span ≡ objectSpan (eqb k 0) (getD os k noInput .file) = ap (λ (x : Seat). x .span) (g .seat) in
@@ -237,7 +238,7 @@ module _ (os : List Input) (a₀ a table : List ℕ) (off k : ℕ) (h : Loading 
           }
 
   pub load-finish : k ≡ length os → (a′ : List ℕ) → a′ ≡ patch a off (length a - off) (λ _. 0) → LoadedFiles (filesOf os) a₀ a′ table Passed
-  unfolding loadVerdict placeFiles Seated
+  unfolding loadFrom placeFiles Seated
   load-finish e a′ zeros =
       let n : drop k (filesOf os) ≡ [] = rw (e, ← files-length os) (drop-length (filesOf os)) in
       record {
@@ -291,7 +292,7 @@ module _ (os : List Input) (address : ℕ) (arena : List ℕ) where
 pub record Ready (os : List Input) (size address : ℕ) : Type 0 where
   pub verdict-is : setVerdict os size address ≡ passed
   pub two : 2 ≤ length os
-  pub loads : loadVerdict size 0 0 (filesOf os) ≡ passed
+  pub loads : loadFrom size 0 0 (filesOf os) ≡ passed
   pub end : address + size ≤ 2 ^ 63
   pub small : size ≤ 2 ^ 28
 
@@ -300,7 +301,7 @@ unfolding setVerdict sheets.arenaOk
 ready os size address e =
     let a = first-passed (unless (leb 2 (length os)) 1 0) _ e in
     let b = first-passed (unless (arenaOk size address) 2 0) _ (a .1) in
-    let c = first-passed (unless (eqb (twinOf os) 0) 3 (twinOf os)) (loadVerdict size 0 0 (filesOf os)) (b .1) in
+    let c = first-passed (unless (eqb (twinOf os) 0) 3 (twinOf os)) (loadFrom size 0 0 (filesOf os)) (b .1) in
     let p = both-true (eqb (address % 4096) 0) _ (unless-passed (arenaOk size address) 2 0 (b .0)) in
     let q = both-true (leb size (2 ^ 28)) _ (p .1) in
     record {
@@ -346,4 +347,4 @@ module _ (sheet bytes : List ℕ) (size address : ℕ) (p : Parts) (t : Tabled s
         ap length (handed-in t ok bytes),
         ap length (t .same bytes),
       ) in
-      rw (ok, le-leb 2 (length (setOf sheet bytes)) two)
+      rw (ok, le-leb 2 (length (setOf sheet bytes)) two, loads-same address size (filesOf (setOf sheet bytes)))

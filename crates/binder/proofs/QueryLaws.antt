@@ -19,9 +19,9 @@ use Rattle.object.specs.Record.{viewOf}
 use Rattle.object.specs.Loaded.{objectRefusal}
 use Rattle.object.specs.HashTable.{answerIn}
 use Rattle.binder.specs.Instance.{File, fileImage, fileRecord, definitionFound, objectAt}
-use Rattle.binder.specs.Verdict.{passed, verdict, loadVerdict, noFile}
+use Rattle.binder.specs.Verdict.{passed, verdict, noFile}
 use Rattle.scope.specs.Steps.Seats.{seatAt}
-use Rattle.binder.specs.Steps.Prepared.{seatOf, placeFiles, Seated}
+use Rattle.binder.specs.Steps.Prepared.{loadFrom, seatOf, placeFiles, Seated}
 use Rattle.scope.specs.Steps.ScopeCode as searches
 use Rattle.scope.specs.Steps.ScopeCode.{imageAt}
 use Rattle.binder.specs.Steps.ScopeModel.{SeatOf, SeatedFor}
@@ -73,10 +73,10 @@ same n off m arena fits bytes =
 
 module _ (address size : ℕ) (table : List ℕ) where
   sits :
-      (files : List File) (n off j : ℕ) (d : Obj) (m : Mem) → off ≤ size → loadVerdict size n off files ≡ passed → Seated table n off files
+      (files : List File) (n off j : ℕ) (d : Obj) (m : Mem) → off ≤ size → loadFrom size n off files ≡ passed → Seated table n off files
       → j < length files
       → Sits address size table (placeFiles files off m) (n + j) (getD files j noFile) (getD (layout (objectAt address) files off) j d)
-  unfolding loadVerdict layouts.layout objectAt Seated placeFiles
+  unfolding loadFrom layouts.layout objectAt Seated placeFiles
   sits [] n off j d m l v s h = absurd (omega arith)
   sits (f ∷ fs) n off zero d m l v s h =
       let a = first-passed (verdict (objectRefusal (f .host) (size - off) (f .bytes)) n) _ v in
@@ -106,7 +106,7 @@ module _ (address size : ℕ) (table : List ℕ) where
 
   -- object `k` of a loaded set
   pub sits-at :
-      (h p : File) (fs : List File) (m : Mem) → loadVerdict size 0 0 (h ∷ (p ∷ fs)) ≡ passed → Seated table 0 0 (h ∷ (p ∷ fs))
+      (h p : File) (fs : List File) (m : Mem) → loadFrom size 0 0 (h ∷ (p ∷ fs)) ≡ passed → Seated table 0 0 (h ∷ (p ∷ fs))
       → (k : ℕ) → k < count (objsOf (objectAt address) h p fs)
       → Sits address size table (placeFiles (h ∷ (p ∷ fs)) 0 m) k (getD (h ∷ (p ∷ fs)) k noFile) (obj (objsOf (objectAt address) h p fs) k)
   unfolding layouts.objsOf layouts.layout objectAt
@@ -148,7 +148,7 @@ module _ (address size : ℕ) (table : List ℕ) where
   -- every object of a loaded set has its seat, and is asked there
   pub seated-for :
       (h p : File) (fs : List File) (arena : List ℕ) (m : Mem) → length arena ≡ size → address + size < 2 ^ 64
-      → loadVerdict size 0 0 (h ∷ (p ∷ fs)) ≡ passed → Seated table 0 0 (h ∷ (p ∷ fs)) → mem arena ≡ placeFiles (h ∷ (p ∷ fs)) 0 m
+      → loadFrom size 0 0 (h ∷ (p ∷ fs)) ≡ passed → Seated table 0 0 (h ∷ (p ∷ fs)) → mem arena ≡ placeFiles (h ∷ (p ∷ fs)) 0 m
       → SeatedFor address arena table (objsOf (objectAt address) h p fs)
   seated-for h p fs arena m len small v s e k l =
       let f : File = getD (h ∷ (p ∷ fs)) k noFile in

@@ -12,7 +12,7 @@ use lib.Seq.{drop-cons, getD-take}
 use Rattle.words.specs.Memory.{patch}
 use Rattle.object.specs.Steps.LoadTable.{SegmentsIn, segmentsIn}
 use Rattle.object.specs.ProgramHeader.{loadsOf, dynamicOf}
-use Rattle.object.specs.RelocationTypes.{Field, Row, rowOf}
+use Rattle.object.specs.RelocationTypes.{Calculation, Row, rowOf}
 use Rattle.object.specs.Entries.{relaAt}
 use Rattle.object.specs.TableBytes.{inWritable}
 use Rattle.object.specs.Record.{Record, ReadBy, heldBy, checkedSymbol, nameOf}
@@ -28,14 +28,14 @@ use Rattle.sheet.specs.Sheet.{Input, noInput}
 use Rattle.binder.specs.declared.report.Progress.{Progress}
 use Rattle.scope.specs.declared.scope.Scoped.{Scoped}
 use Rattle.binder.specs.declared.turn.Turn.{Turn}
-use Rattle.binder.specs.Steps.Relocating.{Left, left, noted, summed, unlessRefused, refusedBy, imageIn, turnOf, againRefusal, againRecord, symbolRefusal, soughtFor, soughtForCopy, keeps, fieldBytes, writeFound, copyOf, answeredOf, symbolicOf, copyingOf, runAction, runTable, far, cutTo32, reportSum, noteOf, addRelrs, runTables, runObject, runAt, runOrder}
+use Rattle.binder.specs.Steps.Relocating.{Left, left, noted, summed, unlessRefused, refusedBy, imageIn, turnOf, againRefusal, againRecord, symbolRefusal, soughtFor, soughtForCopy, keeps, writtenBytes, writeFound, copyOf, answeredOf, symbolicOf, copyingOf, runAction, runTable, far, cutTo32, reportSum, noteOf, addRelrs, runTables, runObject, runAt, runOrder}
 
 -- ---- the entries of a symbol
 
 module _ (address : ℕ) (table : List ℕ) (count : ℕ) (t : Turn) (r : Record) (e : Rela) (i : ℕ) (p : Progress) (a report : List ℕ) {x : CheckedSymbol}
     (hx : x ≡ checkedSymbol (imageIn a t) r (e .symbol)) where
   module _ {n z : ℕ} {q : Progress} (hn : x ≡ Refused n) (hz : z ≡ symbolRefusal x) (hq : q ≡ refusedBy t z p) where
-    pub symbolic-refused : (f : Field) → left q a report ≡ symbolicOf address table count t r e f i (checkedSymbol (imageIn a t) r (e .symbol)) p a report
+    pub symbolic-refused : (f : Calculation) → left q a report ≡ symbolicOf address table count t r e f i (checkedSymbol (imageIn a t) r (e .symbol)) p a report
     unfolding symbolicOf
     symbolic-refused f = rw (hq, hz, ← hx, hn)
 
@@ -45,16 +45,16 @@ module _ (address : ℕ) (table : List ℕ) (count : ℕ) (t : Turn) (r : Record
 
   module _ {y : Symbol} {segments : List Segment} (hy : x ≡ Checked y) (hs : segments ≡ r .segments) where
     -- the word is not inside a writable segment
-    pub symbolic-outside : (f : Field) {q : Progress} {b : Bool} → b ≡ inWritable segments (e .place) (f .width) → b ≡ false → q ≡ refusedBy t 17 p → left q a report ≡ symbolicOf address table count t r e f i (checkedSymbol (imageIn a t) r (e .symbol)) p a report
+    pub symbolic-outside : (f : Calculation) {q : Progress} {b : Bool} → b ≡ inWritable segments (e .place) (f .width) → b ≡ false → q ≡ refusedBy t 17 p → left q a report ≡ symbolicOf address table count t r e f i (checkedSymbol (imageIn a t) r (e .symbol)) p a report
     unfolding symbolicOf
     symbolic-outside f hb so hq = rw (hq, ← hx, hy, ← hs, ← hb, so)
 
     -- it is: the kept answer is the symbol's, or it is not
-    pub symbolic-kept : (f : Field) {b : Bool} {out : Left} → b ≡ inWritable segments (e .place) (f .width) → b ≡ true → p .last ≡ e .symbol + 1 → out ≡ left p (patch a (t .offset + e .place) (f .width) (fieldBytes t e f (p .address))) report → out ≡ symbolicOf address table count t r e f i (checkedSymbol (imageIn a t) r (e .symbol)) p a report
+    pub symbolic-kept : (f : Calculation) {b : Bool} {out : Left} → b ≡ inWritable segments (e .place) (f .width) → b ≡ true → p .last ≡ e .symbol + 1 → out ≡ left p (patch a (t .offset + e .place) (f .width) (writtenBytes t e f (p .address))) report → out ≡ symbolicOf address table count t r e f i (checkedSymbol (imageIn a t) r (e .symbol)) p a report
     unfolding symbolicOf answeredOf
     symbolic-kept f hb so same run = rw (← hx, hy, ← hs, ← hb, so, eq-eqb _ _ same) run
 
-    pub symbolic-inside : (f : Field) {b : Bool} {s : Scoped} {out : Left} → b ≡ inWritable segments (e .place) (f .width) → b ≡ true → (p .last ≡ e .symbol + 1 → ⊥) → s ≡ soughtFor address table count t a (nameOf (imageIn a t) r y) → out ≡ writeFound t e f i y s p a report → out ≡ symbolicOf address table count t r e f i (checkedSymbol (imageIn a t) r (e .symbol)) p a report
+    pub symbolic-inside : (f : Calculation) {b : Bool} {s : Scoped} {out : Left} → b ≡ inWritable segments (e .place) (f .width) → b ≡ true → (p .last ≡ e .symbol + 1 → ⊥) → s ≡ soughtFor address table count t a (nameOf (imageIn a t) r y) → out ≡ writeFound t e f i y s p a report → out ≡ symbolicOf address table count t r e f i (checkedSymbol (imageIn a t) r (e .symbol)) p a report
     unfolding symbolicOf answeredOf
     symbolic-inside f hb so other hf run = rw (← hx, hy, ← hs, ← hb, so, ne-eqb _ _ other, ← hf) run
 

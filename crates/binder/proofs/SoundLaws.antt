@@ -24,7 +24,8 @@ use Rattle.object.specs.Loaded as loading
 use Rattle.object.proofs.RefusalLaws.{after-zero}
 use Rattle.object.proofs.LoadedLaws.{place-fits}
 use Rattle.binder.specs.Instance.{File, fileImage, fileRecord, placesOf, namedWords, relasOf, entryOf, objectAt}
-use Rattle.binder.specs.Verdict.{passed, verdict, noFile, loadVerdict, wordsVerdict, entriesVerdict, objectVerdict, orderVerdict}
+use Rattle.binder.specs.Verdict.{passed, verdict, noFile, wordsVerdict, entriesVerdict, objectVerdict, orderVerdict}
+use Rattle.binder.specs.Steps.Prepared.{loadFrom}
 use Rattle.binder.proofs.OutcomeLaws.{first-passed, verdict-passed}
 use Rattle.binder.proofs.InsideLaws.{writable-inside, words-inside, entries-inside}
 
@@ -43,9 +44,9 @@ record Stands (address size : ℕ) (f : File) (o : Obj) : Type 0 where
 
 module _ (address size : ℕ) where
   stands :
-      (files : List File) (n off k : ℕ) (d : Obj) → off ≤ size → loadVerdict size n off files ≡ passed → k < length files
+      (files : List File) (n off k : ℕ) (d : Obj) → off ≤ size → loadFrom size n off files ≡ passed → k < length files
       → Stands address size (getD files k noFile) (getD (layout (objectAt address) files off) k d)
-  unfolding loadVerdict layouts.layout objectAt
+  unfolding loadFrom layouts.layout objectAt
   stands [] n off k d l v h = absurd (omega arith)
   stands (f ∷ fs) n off zero d l v h =
       let a = first-passed (verdict (objectRefusal (f .host) (size - off) (f .bytes)) n) _ v in
@@ -66,7 +67,7 @@ module _ (address size : ℕ) where
   count-is h p fs = omega (arith, layout-length fs (layouts.nextFree (objectAt address) p (layouts.nextFree (objectAt address) h 0)))
 
   object-is :
-      (h p : File) (fs : List File) → loadVerdict size 0 0 (h ∷ (p ∷ fs)) ≡ passed → (k : ℕ) → k < count (objsOf (objectAt address) h p fs)
+      (h p : File) (fs : List File) → loadFrom size 0 0 (h ∷ (p ∷ fs)) ≡ passed → (k : ℕ) → k < count (objsOf (objectAt address) h p fs)
       → Stands address size (getD (h ∷ (p ∷ fs)) k noFile) (obj (objsOf (objectAt address) h p fs) k)
   unfolding layouts.objsOf layouts.layout
   object-is h p fs v k l =
@@ -74,7 +75,7 @@ module _ (address size : ℕ) where
 
   -- the objects fit the arena
   pub set-fits :
-      (h p : File) (fs : List File) → loadVerdict size 0 0 (h ∷ (p ∷ fs)) ≡ passed → Fits (objsOf (objectAt address) h p fs) size
+      (h p : File) (fs : List File) → loadFrom size 0 0 (h ∷ (p ∷ fs)) ≡ passed → Fits (objsOf (objectAt address) h p fs) size
   unfolding objectAt
   set-fits h p fs v k l =
       let s = object-is h p fs v k l in
@@ -122,7 +123,7 @@ from-pick false xs m = m
 
 -- ---- the set
 
-module _ (address size : ℕ) (h p : File) (fs : List File) (v : loadVerdict size 0 0 (h ∷ (p ∷ fs)) ≡ passed) (order : List ℕ)
+module _ (address size : ℕ) (h p : File) (fs : List File) (v : loadFrom size 0 0 (h ∷ (p ∷ fs)) ≡ passed) (order : List ℕ)
     (once : OnceEach (count (objsOf (objectAt address) h p fs)) order)
     (w : orderVerdict (objsOf (objectAt address) h p fs) (h ∷ (p ∷ fs)) order ≡ passed) where
   abbrev set : Objs

@@ -14,9 +14,9 @@ use Rattle.object.specs.Invariant.{SameReadings}
 use Rattle.object.specs.Placed.{objectSpan}
 use Rattle.object.specs.declared.hash_tables.Definition.{Definition}
 use Rattle.binder.specs.Instance.{File, fileImage, fileRecord, symOf, objectAt}
-use Rattle.binder.specs.Verdict.{passed, loadVerdict, noFile, copyOk}
+use Rattle.binder.specs.Verdict.{passed, noFile, copyOk}
 use Rattle.scope.specs.Steps.Seats.{seatAt}
-use Rattle.binder.specs.Steps.Prepared.{seatOf, placeFiles, Seated}
+use Rattle.binder.specs.Steps.Prepared.{loadFrom, seatOf, placeFiles, Seated}
 use Rattle.scope.specs.Steps.ScopeCode.{imageAt}
 use Rattle.binder.specs.Steps.ScopeModel.{scopedOf}
 use Rattle.binder.specs.Steps.Relocating.{turnOf, imageIn, soughtFor, soughtForCopy, againRefusal, againRecord, copyFits}
@@ -34,7 +34,7 @@ module _ (address size : ℕ) (table : List ℕ) (h p : File) (fs : List File) w
   -- refusals 2 and 4 to 12 were passed, and the table has the seats
   pub record LoadedSet : Type 0 where
     pub others : (k : ℕ) → 1 ≤ k → k < count set → fileAt k .host ≡ false
-    pub loads : loadVerdict size 0 0 files ≡ passed
+    pub loads : loadFrom size 0 0 files ≡ passed
     pub seats : Seated table 0 0 files
     pub end : address + size ≤ 2 ^ 63
     pub small : size ≤ 2 ^ 28

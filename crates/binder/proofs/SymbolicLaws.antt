@@ -14,7 +14,7 @@ use Rattle.words.specs.Names.{nameAt}
 use Rattle.object.specs.RelocationTypes.{rowOf}
 use Rattle.object.specs.Entries as entries
 use Rattle.object.specs.Entries.{relaAt}
-use Rattle.object.specs.Steps.Actions.{symbolicField, rowBy}
+use Rattle.object.specs.Steps.Actions.{symbolicWord, rowBy}
 use Rattle.object.specs.Symbol as symbols
 use Rattle.object.specs.Symbol.{symbolAt}
 use Rattle.object.specs.Record.{Record, checkedSymbol}
@@ -103,14 +103,14 @@ module _
         q = keeps (s .last) (s .address) p
 
         -- the search found it
-        sought : (x : Scoped) → At found ≡ addressIn x → left (keeps (e .symbol + 1) found p) b report ≡ writeFound t e symbolicField i y-here x q a report
+        sought : (x : Scoped) → At found ≡ addressIn x → left (keeps (e .symbol + 1) found p) b report ≡ writeFound t e symbolicWord i y-here x q a report
         unfolding writeFound
         sought Absent h = at-nowhere found h
         sought (Found o d v) h = rw (written, place-here, at-same found v h)
 
         answered : (c : Bool) → eqb (s .last) (e .symbol + 1) ≡ c → (x : Scoped) → At found ≡ pick c (At (s .address)) (addressIn x)
             → left (keeps (e .symbol + 1) found p) b report
-            ≡ pick c (left q (patch a (t .offset + e .place) 8 (byteOf (s .address))) report) (writeFound t e symbolicField i y-here x q a report)
+            ≡ pick c (left q (patch a (t .offset + e .place) 8 (byteOf (s .address))) report) (writeFound t e symbolicWord i y-here x q a report)
         answered true h x g = rw (written, place-here, at-same found (s .address) g, eqb-true (s .last) (e .symbol + 1) h)
         answered false h x g = sought x g
 

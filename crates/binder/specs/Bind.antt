@@ -52,7 +52,7 @@ prepareVerdict sheet bytes size address =
     first (unless (sheetOk sheet (length bytes)) 1 0)
     (first (unless (arenaOk size address) 2 0)
     (first (unless (eqb (twinOf (setOf sheet bytes)) 0) 3 (twinOf (setOf sheet bytes)))
-    (loadVerdict size 0 0 (filesOf (setOf sheet bytes)))))
+    (loadVerdict (objectsOf address (filesOf (setOf sheet bytes))) size 0 (filesOf (setOf sheet bytes)))))
 
 -- 19: "Strict policy and an undefined entry"
 abbrev pub allows : Policy → ℕ → Bool

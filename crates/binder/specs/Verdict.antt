@@ -15,7 +15,6 @@ use Rattle.object.specs.Symbol.{bindingOf}
 use Rattle.object.specs.RelocationTypes.{Row, noSearch, inScope, ignored, passedOver, turnedAway, copies, writes, rowOf}
 use Rattle.object.specs.Entries.{Word, place, nowhere}
 use Rattle.object.specs.Record.{Record, checkedSymbol, nameOf}
-use Rattle.object.specs.Placed.{objectSpan}
 use Rattle.object.specs.Loaded.{objectRefusal}
 use Rattle.object.specs.declared.symbol.Symbol.{Symbol}
 use Rattle.object.specs.declared.relocate.Rela.{Rela}
@@ -39,11 +38,11 @@ verdict n k = pick (eqb n 0) passed (refused n k)
 
 -- ---- 4 to 12: "object by object"
 
--- the files from object `k` on, the first at the offset `off` of an arena of `size` bytes
-unfoldable pub loadVerdict : ℕ → ℕ → ℕ → List File → Verdict
-loadVerdict size k off [] = passed
-loadVerdict size k off (f ∷ fs) =
-    first (verdict (objectRefusal (f .host) (size - off) (f .bytes)) k) (loadVerdict size (k + 1) (off + objectSpan (f .host) (f .bytes)) fs)
+-- the files from object `k` on, each at its object's offset in an arena of `size` bytes
+unfoldable pub loadVerdict : Objs → ℕ → ℕ → List File → Verdict
+loadVerdict S size k [] = passed
+loadVerdict S size k (f ∷ fs) =
+    first (verdict (objectRefusal (f .host) (size - (obj S k) .offset) (f .bytes)) k) (loadVerdict S size (k + 1) fs)
 
 -- ---- 14 to 18: "entry by entry in binding order"
 

@@ -8,7 +8,7 @@ ghost use Rattle.words.specs.Choice.{pick};
 ghost use Rattle.words.specs.Names.{nameAt};
 ghost use Rattle.object.specs.RelocationTypes.{rowOf};
 ghost use Rattle.object.specs.Entries.{relaAt};
-ghost use Rattle.object.specs.Steps.Actions.{relativeField, symbolicField, rowBy};
+ghost use Rattle.object.specs.Steps.Actions.{relativeWord, symbolicWord, rowBy};
 ghost use Rattle.object.specs.declared.relocate.Action.the-variants as actions;
 ghost use Rattle.object.specs.Record.{heldBy, checkedSymbol};
 ghost use Rattle.object.specs.Steps.WritableRange.{WritableRange};
@@ -34,7 +34,7 @@ use sheet::sheet::Parts;
 
 // Relative: base + addend.
 fn relative(arena: &mut [u8], p: Progress, t: Turn, b: Bounds, e: Rela) -> Progress
-    ensures { λ r. ⌜ wrote r (now (arena .exit)) ≡ fixedOf t (take (b .count) (b .segments)) e relativeField p (now (arena .entry)) ⌝ }
+    ensures { λ r. ⌜ wrote r (now (arena .exit)) ≡ fixedOf t (take (b .count) (b .segments)) e relativeWord p (now (arena .entry)) ⌝ }
 {
     if !object::table_bytes::in_writable(b, e.place, 8) {
         return crate::report::refused(p, t, 17);
@@ -102,7 +102,7 @@ fn write_found(
     y: Symbol,
     s: Scoped,
 ) -> Progress
-    ensures { λ r. ⌜ left r (now (arena .exit)) (now (report .exit)) ≡ writeFound t e symbolicField i y s p (now (arena .entry)) (now (report .entry)) ⌝ }
+    ensures { λ r. ⌜ left r (now (arena .exit)) (now (report .exit)) ≡ writeFound t e symbolicWord i y s p (now (arena .entry)) (now (report .entry)) ⌝ }
 {
     let Scoped::Found {
         object: _,
@@ -141,7 +141,7 @@ fn symbolic(
     e: Rela,
 ) -> Progress
     requires { ⌜ Filtered (now table) count ⌝ }
-    ensures { λ r. ⌜ left r (now (arena .exit)) (now (report .exit)) ≡ symbolicOf address (now (table .entry)) count t (heldBy o) e symbolicField i (checkedSymbol (imageIn (now (arena .entry)) t) (heldBy o) (e .symbol)) p (now (arena .entry)) (now (report .entry)) ⌝ }
+    ensures { λ r. ⌜ left r (now (arena .exit)) (now (report .exit)) ≡ symbolicOf address (now (table .entry)) count t (heldBy o) e symbolicWord i (checkedSymbol (imageIn (now (arena .entry)) t) (heldBy o) (e .symbol)) p (now (arena .entry)) (now (report .entry)) ⌝ }
 {
     let c = symbol_of(arena, t, o, e.symbol);
     let CheckedSymbol::Checked(y) = c else {

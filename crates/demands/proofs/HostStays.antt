@@ -22,9 +22,9 @@ use Rattle.binder.specs.declared.Policy.{Policy}
 use Rattle.binder.specs.declared.Reply as replies
 use Rattle.binder.specs.declared.Reply.{Reply}
 use Rattle.binder.specs.Instance.{File, objectAt}
-use Rattle.binder.specs.Verdict.{Verdict, passed, refused, loadVerdict, orderVerdict}
+use Rattle.binder.specs.Verdict.{Verdict, passed, refused, orderVerdict}
 use Rattle.binder.specs.SetOrder.{setOrder}
-use Rattle.binder.specs.Steps.Prepared.{placeFiles}
+use Rattle.binder.specs.Steps.Prepared.{loadFrom, placeFiles}
 use Rattle.binder.specs.Bind.{filesOf, namesOf, objectsOf, prepareVerdict, replied, repliedOf, queryOf}
 use Rattle.binder.proofs.FileLaws.{hostFile, fileOf, files-are}
 use Rattle.binder.proofs.OutcomeLaws.{objectsIn, orderIn, bound-passed, first-passed}
@@ -78,11 +78,11 @@ first-bytes file size m l same =
     many : length (take (length file) (tab size m)) ≡ length file
     many = simp (length-take, length-tab) (omega arith)
 
-module _ (address size : ℕ) (h p : Input) (ls : List Input) (v : loadVerdict size 0 0 (filesOf (h ∷ (p ∷ ls))) ≡ passed) where
+module _ (address size : ℕ) (h p : Input) (ls : List Input) (v : loadFrom size 0 0 (filesOf (h ∷ (p ∷ ls))) ≡ passed) where
   abbrev fs : List File
   fs = map fileOf ls
 
-  loads : loadVerdict size 0 0 (hostFile h ∷ (fileOf p ∷ fs)) ≡ passed
+  loads : loadFrom size 0 0 (hostFile h ∷ (fileOf p ∷ fs)) ≡ passed
   loads = rw (files-are h p ls) at v
 
   fits : length (h .file) ≤ size
@@ -107,7 +107,7 @@ module _ (address size : ℕ) (h p : Input) (ls : List Input) (v : loadVerdict s
 
 -- ---- of a set
 
-module _ (address size : ℕ) (os : List Input) (s : Shape os) (v : loadVerdict size 0 0 (filesOf os) ≡ passed) where
+module _ (address size : ℕ) (os : List Input) (s : Shape os) (v : loadFrom size 0 0 (filesOf os) ≡ passed) where
   -- an arena whose first bytes are the host's
   host-in : (m : Mem) → ((i : ℕ) → i < length (s .host .file) → m i ≡ mem (s .host .file) i) → HostIn os (tab size m)
   host-in m same =

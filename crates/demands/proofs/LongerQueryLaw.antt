@@ -24,6 +24,7 @@ use Rattle.binder.specs.Verdict.{Verdict, passed, refused, first}
 use Rattle.binder.specs.Bind.{filesOf, objectsOf, unless, prepareVerdict, replied, replyOf, repliedOf, queryOf}
 use Rattle.demands.proofs.PassedSet.{prepared}
 use Rattle.demands.specs.LongerSet.{PassesLoading, BoundBy, setObjects, LongerQuery}
+use Rattle.binder.proofs.LoadsSame.{loads-same}
 use Rattle.binder.proofs.OutcomeLaws.{first-passed, unless-passed, bound-passed}
 use Rattle.binder.proofs.FileLaws.{hostFile, fileOf, files-are, files-longer}
 use Rattle.binder.proofs.SoundLaws.{count-is}
@@ -69,7 +70,7 @@ loaded :
 unfolding prepareVerdict unless
 loaded sheet bytes size address policy words arena report e =
     let p = bound-passed sheet bytes size address policy words arena report e in
-    rw (p .sheet-ok, p .arena-ok, p .no-twin) (p .loads)
+    rw (p .sheet-ok, p .arena-ok, p .no-twin) (loads-same address size (filesOf (setOf sheet bytes)) ∙ p .loads)
 
 -- what a set that is not refused replies
 pub asked :

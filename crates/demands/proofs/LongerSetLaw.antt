@@ -10,7 +10,8 @@ use Rattle.model.specs.Longer.{OnlyProgramCopies, Kept}
 use Rattle.model.proofs.Files.{longer-files}
 use Rattle.sheet.specs.Sheet.{Input, setOf}
 use Rattle.binder.specs.Instance.{File, objectAt}
-use Rattle.binder.specs.Verdict.{passed, loadVerdict, orderVerdict}
+use Rattle.binder.specs.Verdict.{passed, orderVerdict}
+use Rattle.binder.specs.Steps.Prepared.{loadFrom}
 use Rattle.binder.specs.SetOrder.{setOrder}
 use Rattle.binder.specs.Bind.{filesOf, namesOf, objectsOf}
 use Rattle.demands.specs.LongerSet.{LongerSet}
@@ -22,7 +23,7 @@ use Rattle.binder.proofs.OrderIs.{names-length, order-is}
 
 -- the two stages that a set passed, of its files and its libraries' names
 abbrev Loads : ℕ → List File → Type 0
-Loads size files = loadVerdict size 0 0 files ≡ passed
+Loads size files = loadFrom size 0 0 files ≡ passed
 
 abbrev Relocates : ℕ → List File → List (List ℕ) → Type 0
 Relocates address files names = orderVerdict (objectsOf address files) files (setOrder files names) ≡ passed

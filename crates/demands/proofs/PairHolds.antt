@@ -37,7 +37,8 @@ use Rattle.sheet.specs.Sheet as sheets
 use Rattle.binder.specs.declared.Policy.the-variants.{Lenient}
 use Rattle.binder.specs.declared.Answer.the-variants.{Bound}
 use Rattle.binder.specs.Instance.{File, definitionFound, placesOf, namedWords, relasOf, entryBy, objectAt}
-use Rattle.binder.specs.Verdict.{passed, verdict, loadVerdict, refusalBy, wordsVerdict, entriesVerdict, objectVerdict, orderVerdict}
+use Rattle.binder.specs.Verdict.{passed, verdict, refusalBy, wordsVerdict, entriesVerdict, objectVerdict, orderVerdict}
+use Rattle.binder.specs.Steps.Prepared.{loadFrom}
 use Rattle.binder.specs.Report.{reportWord, isAbsent, undefinedBy, entryReport, objectWords, orderWords}
 use Rattle.binder.specs.SetOrder.{neededObjects, setOrder}
 use Rattle.binder.specs.Bind.{filesOf, namesOf, objectsOf, unless, prepareVerdict, relocateVerdict, outcome, outcomeOf, bindIn, bindOf, queryOf, replied, replyOf}
@@ -58,6 +59,7 @@ use Rattle.demands.proofs.PairFiles.{
   a-reads,
   b-reads,
 }
+use Rattle.binder.proofs.LoadsSame.{loads-same}
 
 -- ---- the sets
 
@@ -155,22 +157,22 @@ T-is = rw (host-is, program-is, a-is, b-is)
 
 load-next :
     (size k off span : ℕ) (host : Bool) (bs image : List ℕ) (r : Record) (fs : List File) → Reads host bs span image r → span ≤ size - off
-    → loadVerdict size (k + 1) (off + span) fs ≡ passed
-    → loadVerdict size k off (file host bs ∷ fs) ≡ passed
-unfolding loadVerdict verdict
+    → loadFrom size (k + 1) (off + span) fs ≡ passed
+    → loadFrom size k off (file host bs ∷ fs) ≡ passed
+unfolding loadFrom verdict
 load-next size k off span host bs image r fs reads fits rest = rw (reads .loads (size - off) fits, reads .span-is) rest
 
-load-end : (size k off : ℕ) → loadVerdict size k off [] ≡ passed
-unfolding loadVerdict
+load-end : (size k off : ℕ) → loadFrom size k off [] ≡ passed
+unfolding loadFrom
 load-end size k off = refl
 
-S-loads : loadVerdict 0x4000 0 0 files ≡ passed
+S-loads : loadFrom 0x4000 0 0 files ≡ passed
 S-loads =
     load-next 0x4000 0 0 0x1000 true hostFile hostImage hostRecord _ host-reads (omega arith)
     (load-next 0x4000 1 0x1000 0x2000 false programFile programImage programRecord _ program-reads (omega arith)
     (load-next 0x4000 2 0x3000 0x1000 false (libraryFile 97) (libraryImage 97) libraryRecord _ a-reads (omega arith) (load-end 0x4000 3 0x4000)))
 
-T-loads : loadVerdict 0x5000 0 0 longerFiles ≡ passed
+T-loads : loadFrom 0x5000 0 0 longerFiles ≡ passed
 T-loads =
     load-next 0x5000 0 0 0x1000 true hostFile hostImage hostRecord _ host-reads (omega arith)
     (load-next 0x5000 1 0x1000 0x2000 false programFile programImage programRecord _ program-reads (omega arith)
@@ -179,11 +181,11 @@ T-loads =
 
 S-prepared : prepareVerdict sheet bytes 0x4000 0x10000000 ≡ passed
 unfolding prepareVerdict unless arenaOk twinFrom some filesOf
-S-prepared = rw (sheet-ok, set-is) S-loads
+S-prepared = rw (sheet-ok, set-is) (loads-same 0x10000000 0x4000 files ∙ S-loads)
 
 T-prepared : prepareVerdict longerSheet longerBytes 0x5000 0x10000000 ≡ passed
 unfolding prepareVerdict unless arenaOk twinFrom some filesOf sameBytes
-T-prepared = rw (longer-ok, longer-is) T-loads
+T-prepared = rw (longer-ok, longer-is) (loads-same 0x10000000 0x5000 longerFiles ∙ T-loads)
 
 -- ---- the order: no library needs another
 

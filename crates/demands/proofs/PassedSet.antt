@@ -1,5 +1,5 @@
 -- A set that meets none of refusals 1 to 12: its sheet, its counts, and the objects of its order. Assumes nothing.
-use mathlib.Core.Path.{_≡_, ap, _∙_}
+use mathlib.Core.Path.{_≡_, sym, ap, _∙_}
 use mathlib.Core.Bool.{true}
 use mathlib.Core.Logic.{⊎-elim}
 use mathlib.Core.List.{List}
@@ -13,8 +13,10 @@ use Rattle.sheet.specs.Sheet.{Input, sheetOk, setOf, arenaOk, twinOf}
 use Rattle.sheet.proofs.SheetLonger.{sheet-shape}
 use Rattle.binder.specs.Instance.{File}
 use Rattle.binder.specs.Verdict.{passed, noFile, loadVerdict}
+use Rattle.binder.specs.Steps.Prepared.{loadFrom}
 use Rattle.binder.specs.SetOrder.{neededObjects, setOrder}
-use Rattle.binder.specs.Bind.{filesOf, namesOf, unless, prepareVerdict}
+use Rattle.binder.specs.Bind.{filesOf, namesOf, objectsOf, unless, prepareVerdict}
+use Rattle.binder.proofs.LoadsSame.{loads-same}
 use Rattle.binder.proofs.OutcomeLaws.{first-passed, unless-passed}
 use Rattle.binder.proofs.OrderIs.{names-length}
 
@@ -24,15 +26,15 @@ module _ (sheet bytes : List ℕ) where
 
   pub record Loads (size : ℕ) : Type 0 where
     pub sheet-ok : sheetOk sheet (length bytes) ≡ true
-    pub loads : loadVerdict size 0 0 (filesOf os) ≡ passed
+    pub loads : loadFrom size 0 0 (filesOf os) ≡ passed
 
   pub prepared : (size address : ℕ) → prepareVerdict sheet bytes size address ≡ passed → Loads size
   unfolding prepareVerdict
   prepared size address v =
       let a = first-passed (unless (sheetOk sheet (length bytes)) 1 0) _ v in
       let b = first-passed (unless (arenaOk size address) 2 0) _ (a .1) in
-      let c = first-passed (unless (eqb (twinOf os) 0) 3 (twinOf os)) (loadVerdict size 0 0 (filesOf os)) (b .1) in
-      record { sheet-ok = unless-passed (sheetOk sheet (length bytes)) 1 0 (a .0); loads = c .1 }
+      let c = first-passed (unless (eqb (twinOf os) 0) 3 (twinOf os)) (loadVerdict (objectsOf address (filesOf os)) size 0 (filesOf os)) (b .1) in
+      record { sheet-ok = unless-passed (sheetOk sheet (length bytes)) 1 0 (a .0); loads = sym (loads-same address size (filesOf os)) ∙ c .1 }
 
   -- its libraries have a name each, and are at most 62
   pub record Counts : Type 0 where

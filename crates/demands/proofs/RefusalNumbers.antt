@@ -11,14 +11,14 @@ use lib.ListN.{length, getD, take, drop, length-drop}
 use Rattle.words.specs.Choice.{pick}
 use Rattle.words.specs.Choice as choice
 use Rattle.model.specs.Order.{has}
-use Rattle.model.specs.Objects.{Objs}
+use Rattle.model.specs.Objects.{Objs, obj}
 use Rattle.model.specs.Scope.{resolveCopy}
 use Rattle.model.specs.Symbols.{Answer, absent, answer}
 use Rattle.model.proofs.OrderLaws.{decide, clash, has-head, has-cons}
 use Rattle.object.specs.Refusal.{require, after}
 use Rattle.object.specs.Header.{headerRefusal}
 use Rattle.object.specs.ProgramHeader.{dynamicOf}
-use Rattle.object.specs.Placed.{segmentsOf, objectImage, objectSpan, fileRefusal, placeRefusal}
+use Rattle.object.specs.Placed.{segmentsOf, objectImage, fileRefusal, placeRefusal}
 use Rattle.object.specs.Record.{Record, sizesRefusal, fieldsRefusal, readRefusal, checkedSymbol, indexOk, isTableOf, nameOf}
 use Rattle.object.specs.Symbol.{symbolAt}
 use Rattle.object.specs.HashCheck.{symbolOk}
@@ -209,15 +209,16 @@ module _ (P : ℕ → ℕ → Type 0) where
 
   -- 4 to 12, of the objects from `k` on
   pub load-meets :
-      (size k off : ℕ) (files : List File) → ((n j : ℕ) → 4 ≤ n → n ≤ 12 → j < k + length files → P n j)
-      → Meets P (loadVerdict size k off files)
+      (S : Objs) (size k : ℕ) (files : List File) → ((n j : ℕ) → 4 ≤ n → n ≤ 12 → j < k + length files → P n j)
+      → Meets P (loadVerdict S size k files)
   unfolding loadVerdict
-  load-meets size k off [] h = tt
-  load-meets size k off (f ∷ fs) h =
-      first-meets (verdict (objectRefusal (f .host) (size - off) (f .bytes)) k) _
-      (verdict-meets 4 12 (objectRefusal (f .host) (size - off) (f .bytes)) k (object-range (f .host) (size - off) (f .bytes))
+  load-meets S size k [] h = tt
+  load-meets S size k (f ∷ fs) h =
+      let room : ℕ = size - (obj S k) .offset in
+      first-meets (verdict (objectRefusal (f .host) room (f .bytes)) k) _
+      (verdict-meets 4 12 (objectRefusal (f .host) room (f .bytes)) k (object-range (f .host) room (f .bytes))
       (λ l g. h _ k l g (omega arith)))
-      (load-meets size (k + 1) (off + objectSpan (f .host) (f .bytes)) fs (λ n j l g b. h n j l g (omega arith)))
+      (load-meets S size (k + 1) fs (λ n j l g b. h n j l g (omega arith)))
 
   -- 14 to 18, of object `k`
   module _ (S : Objs) (k : ℕ) (h : (n : ℕ) → 14 ≤ n → n ≤ 18 → P n k) where

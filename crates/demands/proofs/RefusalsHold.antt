@@ -109,7 +109,7 @@ module _ (sheet bytes : List ℕ) (size address : ℕ) where
         of-object (length os) 3 (twinOf os) (λ e. omega arith) (λ e. omega arith) (λ e. omega arith) (λ e. omega arith) (t .1) (λ _. t .0)
             (λ l h. absurd (omega arith)),
       )))
-      (load-meets (Right N (length os)) size 0 0 (filesOf os)
+      (load-meets (Right N (length os)) (objectsIn address os) size 0 (filesOf os)
       (λ n j l h b. (
         ok n (omega arith) (omega arith),
         of-object (length os) n j (λ e. omega arith) (λ e. omega arith) (λ e. omega arith) (λ e. omega arith)

@@ -9,12 +9,11 @@ use lib.Dec.{eqb, leb, ltb}
 use lib.ListN.{length, getD}
 use Rattle.words.specs.Choice.{pick}
 use Rattle.model.specs.Symbols as symbols
-use Rattle.model.specs.Objects.{Objs}
+use Rattle.model.specs.Objects.{Objs, obj}
 use Rattle.model.specs.Scope.{resolve}
 use Rattle.object.specs.Entries.{Word}
 use Rattle.object.specs.Record.{Record}
 use Rattle.object.specs.Loaded.{objectRefusal}
-use Rattle.object.specs.Placed.{objectSpan}
 use Rattle.object.specs.declared.relocate.Rela.{Rela}
 use Rattle.sheet.specs.Sheet.{sheetOk, arenaOk, setOf, twinOf}
 use Rattle.binder.specs.declared.Policy.{Policy}
@@ -53,12 +52,12 @@ of-test : (t : Bool) (n k : ℕ) → 0 < n → Numbered (unless t n k)
 unfolding binding.unless
 of-test t n k h = picked t n k (λ _. h)
 
-of-load : (size k off : ℕ) (fs : List File) → Numbered (loadVerdict size k off fs)
+of-load : (S : Objs) (size k : ℕ) (fs : List File) → Numbered (loadVerdict S size k fs)
 unfolding verdicts.loadVerdict
-of-load size k off [] = passing
-of-load size k off (f ∷ fs) =
-    either-one (verdict (objectRefusal (f .host) (size - off) (f .bytes)) k) (loadVerdict size (k + 1) (off + objectSpan (f .host) (f .bytes)) fs)
-    (of-number (objectRefusal (f .host) (size - off) (f .bytes)) k) (of-load size (k + 1) (off + objectSpan (f .host) (f .bytes)) fs)
+of-load S size k [] = passing
+of-load S size k (f ∷ fs) =
+    let n : ℕ = objectRefusal (f .host) (size - (obj S k) .offset) (f .bytes) in
+    either-one (verdict n k) (loadVerdict S size (k + 1) fs) (of-number n k) (of-load S size (k + 1) fs)
 
 of-words : (k : ℕ) (r : Record) (ws : List Word) → Numbered (wordsVerdict k r ws)
 unfolding verdicts.wordsVerdict
@@ -98,10 +97,11 @@ of-prepare sheet bytes size address =
     let one = sheetOk sheet (length bytes) in
     let two = arenaOk size address in
     let twin = twinOf (setOf sheet bytes) in
-    let loaded = loadVerdict size 0 0 (filesOf (setOf sheet bytes)) in
+    let files : List File = filesOf (setOf sheet bytes) in
+    let loaded = loadVerdict (objectsOf address files) size 0 files in
     either-one (unless one 1 0) (first (unless two 2 0) (first (unless (eqb twin 0) 3 twin) loaded)) (of-test one 1 0 (omega arith))
     (either-one (unless two 2 0) (first (unless (eqb twin 0) 3 twin) loaded) (of-test two 2 0 (omega arith))
-    (either-one (unless (eqb twin 0) 3 twin) loaded (of-test (eqb twin 0) 3 twin (omega arith)) (of-load size 0 0 (filesOf (setOf sheet bytes)))))
+    (either-one (unless (eqb twin 0) 3 twin) loaded (of-test (eqb twin 0) 3 twin (omega arith)) (of-load (objectsOf address files) size 0 files)))
 
 -- ---- the answers
 

@@ -11,9 +11,9 @@ pub data Search : Type 0 where
   noSearch : Search
   inScope : Search
 
--- a written field: its width in bytes, and the number whose lowest bytes are written, of the symbol's address S, which is 0 where none was
+-- what is written: a width in bytes, and the number whose lowest bytes are written, of the symbol's address S, which is 0 where none was
 -- found or searched, the addend A, the object's base B and the place's address P
-pub record Field : Type 0 where
+pub record Calculation : Type 0 where
   pub width : ℕ
   pub value : (S A B P : ℕ) → ℕ
 
@@ -23,10 +23,10 @@ pub data Row : Type 0 where
   passedOver : Row
   turnedAway : Row
   copies : Row
-  writes : (search : Search) (field : Field) → Row
+  writes : (search : Search) (calculation : Calculation) → Row
 
--- psABI: word64, a field of 8 bytes
-abbrev pub word64 : ((S A B P : ℕ) → ℕ) → Field
+-- psABI: word64, 8 bytes
+abbrev pub word64 : ((S A B P : ℕ) → ℕ) → Calculation
 word64 value = record { width = 8; value = value }
 
 -- R_X86_64_NONE 0, COPY 5, GLOB_DAT 6, JUMP_SLOT 7, RELATIVE 8, IRELATIVE 37

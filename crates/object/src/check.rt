@@ -1,5 +1,5 @@
 // Refusal 12 of a hash table: whether all that a lookup can read of it is table bytes. No name is read, and a walk ends at a symbol that an
-// earlier walk passed: it is marked. In a System V table the symbols below 16,384 have a mark each; in a GNU table each symbol, or each
+// earlier walk passed: it is marked. In a System V table the symbols below 131,072 have a mark each; in a GNU table each symbol, or each
 // `step`th of more (`step_of`).
 ghost use mathlib.Core.Path.{_≡_};
 ghost use mathlib.Core.Bool.{true};
@@ -130,49 +130,65 @@ fn passes(image: &[u8], b: Bounds, zeros: &[usize; 17], v: View, s: usize) -> bo
     symbol_in(image, b, zeros, v.symbols, v.strings, s)
 }
 
-// The number of the mark of symbol `s`; 16,384 or more where it has none.
+// The number of the mark of symbol `s`; 131,072 or more where it has none.
 fn mark_of(low: usize, step: usize, s: usize) -> usize
     requires { ⌜ 0 < step ⌝ }
-    ensures { λ r. ⌜ (r < 16384 → s ≡ low + r * step) ⌝ }
+    ensures { λ r. ⌜ (r < 131072 → s ≡ low + r * step) ⌝ }
 {
     if s < low {
-        return 16384;
+        return 131072;
     }
     let d = s - low;
     if step == 1 {
         return d;
     }
     if d % step != 0 {
-        return 16384;
+        return 131072;
     }
     d / step
 }
 
+// Bit `k` of a word.
+fn bit(k: u32) -> u64
+    requires { ⌜ k < 64 ⌝ }
+    ensures { λ r. ⌜ r ≡ 2 ^ k ⌝ }
+{
+    1 << k
+}
+
 // Whether symbol `s` is marked.
-fn is_marked(seen: &[bool; 16384], low: usize, step: usize, s: usize) -> bool
+fn is_marked(seen: &[u64; 2048], low: usize, step: usize, s: usize) -> bool
     requires { ⌜ 0 < step ⌝ }
     ensures { λ r. ⌜ (r ≡ true → MarkAt (now (seen .entry)) low step s) ⌝ }
 {
     let j = mark_of(low, step, s);
-    if 16384 <= j {
+    if 131072 <= j {
         return false;
     }
-    seen[j]
+    let k = j / 64;
+    let w = seen[k];
+    if (w >> ((j % 64) as u32)) % 2 != 1 {
+        return false;
+    }
+    true
 }
 
 // Marks symbol `s`, if it has a mark; whether it was marked.
-fn set_mark(seen: &mut [bool; 16384], low: usize, step: usize, s: usize) -> bool
+fn set_mark(seen: &mut [u64; 2048], low: usize, step: usize, s: usize) -> bool
     requires { ⌜ 0 < step ⌝ }
     ensures { λ _. ⌜ NewMark (now (seen .entry)) (now (seen .exit)) low step s ⌝ }
 {
     let j = mark_of(low, step, s);
-    if 16384 <= j {
+    if 131072 <= j {
         return false;
     }
-    if seen[j] {
+    let k = j / 64;
+    let w = seen[k];
+    let i = (j % 64) as u32;
+    if (w >> i) % 2 == 1 {
         return true;
     }
-    seen[j] = true;
+    seen[k] = w | bit(i);
     false
 }
 
@@ -183,7 +199,7 @@ fn follow(
     zeros: &[usize; 17],
     v: View,
     q: Shortcuts,
-    seen: &[bool; 16384],
+    seen: &[u64; 2048],
     word: usize,
 ) -> Walked
     requires { ⌜ (word < 2 ^ 32) × LastZeros (mem (now image)) (b .span) (b .segments) (now zeros) × ShortcutsOk b (now image) v q
@@ -219,7 +235,7 @@ fn mark_walk(
     t: HashTable,
     low: usize,
     step: usize,
-    seen: &mut [bool; 16384],
+    seen: &mut [u64; 2048],
     word: usize,
 )
     requires { ⌜ (word < 2 ^ 32) × (0 < step) ⌝ }
@@ -258,7 +274,7 @@ fn walk_ok(
     zeros: &[usize; 17],
     v: View,
     q: Shortcuts,
-    seen: &mut [bool; 16384],
+    seen: &mut [u64; 2048],
     word: u32,
 ) -> bool
     requires { ⌜ (0 < word) × LastZeros (mem (now image)) (b .span) (b .segments) (now zeros) × ShortcutsOk b (now image) v q
@@ -289,7 +305,7 @@ fn walks_ok(
     zeros: &[usize; 17],
     v: View,
     q: Shortcuts,
-    seen: &mut [bool; 16384],
+    seen: &mut [u64; 2048],
 ) -> bool
     requires { ⌜ LastZeros (mem (now image)) (b .span) (b .segments) (now zeros) × ShortcutsOk b (now image) v q
         × Marked (now seen) (q .low) (q .step) (Passes (now image) (v .table) (stepIn b (now image) v)) ⌝ }
@@ -322,9 +338,9 @@ fn step_of(known: bool, high: usize, first: usize, size: usize) -> usize
     ensures { λ r. ⌜ 0 < r ⌝ }
 {
     if known {
-        return words::bytes::monus(high, first) / 16384 + 1;
+        return words::bytes::monus(high, first) / 131072 + 1;
     }
-    size / 393216 + 1
+    size / 3145728 + 1
 }
 
 fn shortcuts_of(image: &[u8], b: Bounds, zeros: &[usize; 17], v: View) -> Shortcuts
@@ -440,6 +456,6 @@ pub fn hash_table_ok(image: &[u8], b: Bounds, v: View) -> bool
     let mut zeros = [0usize; 17];
     crate::table_bytes::last_zeros(image, b, &mut zeros);
     let q = shortcuts_of(image, b, &zeros, v);
-    let mut seen = [false; 16384];
+    let mut seen = [0u64; 2048];
     walks_ok(image, b, &zeros, v, q, &mut seen)
 }

@@ -12,7 +12,7 @@ use Rattle.object.specs.Record.{viewOf}
 use Rattle.object.specs.Loaded.{objectRefusal}
 use Rattle.sheet.specs.Sheet.{Input, arenaOk, twinOf}
 use Rattle.binder.specs.Instance.{File, fileRecord}
-use Rattle.binder.specs.Verdict.{Verdict, passed, refused, first, loadVerdict}
+use Rattle.binder.specs.Verdict.{Verdict, passed, refused, first, verdict}
 use Rattle.binder.specs.Bind.{filesOf, unless}
 use Rattle.scope.specs.Steps.Seats.{seatAt, Filtered}
 use Rattle.scope.specs.declared.seats.Seat.{Seat}
@@ -25,6 +25,12 @@ use Rattle.binder.specs.declared.prepare.Loaded as loads
 abbrev pub metBy : Met → Verdict
 metBy Passed = passed
 metBy (Refused n k) = refused n k
+
+-- 4 to 12 of the files from object `k` on, the first at the offset `off` of an arena of `size` bytes
+unfoldable pub loadFrom : ℕ → ℕ → ℕ → List File → Verdict
+loadFrom size k off [] = passed
+loadFrom size k off (f ∷ fs) =
+    first (verdict (objectRefusal (f .host) (size - off) (f .bytes)) k) (loadFrom size (k + 1) (off + objectSpan (f .host) (f .bytes)) fs)
 
 -- the seat of a file at an offset
 abbrev pub seatOf : File → ℕ → Seat
@@ -55,7 +61,7 @@ LoadedAt host file off before after (loads.the-variants.At s) = SeatedAt host fi
 
 -- what loading a list of files leaves: their bytes, and zeros elsewhere, whatever the arena held before
 pub record LoadedFiles (files : List File) (before after seats : List ℕ) (r : Met) : Type 0 where
-  pub met : metBy r ≡ loadVerdict (length before) 0 0 files
+  pub met : metBy r ≡ loadFrom (length before) 0 0 files
   pub arena : r ≡ Passed → mem after ≡ placeFiles files 0 (λ _. 0)
   pub table : r ≡ Passed → Seated seats 0 0 files
   pub filtered : r ≡ Passed → Filtered seats (length files)
@@ -66,7 +72,7 @@ setVerdict os size address =
     first (unless (leb 2 (length os)) 1 0)
     (first (unless (arenaOk size address) 2 0)
     (first (unless (eqb (twinOf os) 0) 3 (twinOf os))
-    (loadVerdict size 0 0 (filesOf os))))
+    (loadFrom size 0 0 (filesOf os))))
 
 -- what preparing them leaves
 pub record Prepared (os : List Input) (address : ℕ) (before after seats : List ℕ) (r : Met) : Type 0 where

@@ -14,7 +14,7 @@ use Rattle.words.specs.Hash.{gnuHash, elfHash}
 use Rattle.object.specs.TableBytes.{inWritable}
 use Rattle.object.specs.Symbol.{bindingOf}
 use Rattle.object.specs.ProgramHeader.{loadsOf, dynamicOf}
-use Rattle.object.specs.RelocationTypes.{Field, Row, noSearch, inScope, ignored, passedOver, turnedAway, copies, writes, rowOf}
+use Rattle.object.specs.RelocationTypes.{Calculation, Row, noSearch, inScope, ignored, passedOver, turnedAway, copies, writes, rowOf}
 use Rattle.object.specs.Entries.{relaAt, relrAt, relrOf}
 use Rattle.object.specs.Record.{Record, checkedSymbol, nameOf, readRefusal, recordAt}
 use Rattle.object.specs.declared.program_header.Segment.{Segment}
@@ -196,14 +196,14 @@ addRelrs t r (suc n) i location a =
 
 -- ---- RELA and PLT
 
--- the bytes of an entry's field, where its symbol has the address S
-abbrev pub fieldBytes : Turn → Rela → Field → ℕ → ℕ → ℕ
-fieldBytes t e f S = byteOf (f .value S (e .addend) (t .base) (t .base + e .place))
+-- the bytes that an entry writes, where its symbol has the address S
+abbrev pub writtenBytes : Turn → Rela → Calculation → ℕ → ℕ → ℕ
+writtenBytes t e f S = byteOf (f .value S (e .addend) (t .base) (t .base + e .place))
 
--- a field without a search
-unfoldable pub fixedOf : Turn → List Segment → Rela → Field → Progress → List ℕ → Wrote
+-- a write without a search
+unfoldable pub fixedOf : Turn → List Segment → Rela → Calculation → Progress → List ℕ → Wrote
 fixedOf t segments e f p a =
-    pick (inWritable segments (e .place) (f .width)) (wrote p (patch a (t .offset + e .place) (f .width) (fieldBytes t e f 0)))
+    pick (inWritable segments (e .place) (f .width)) (wrote p (patch a (t .offset + e .place) (f .width) (writtenBytes t e f 0)))
     (wrote (refusedBy t 17 p) a)
 
 -- 14 or 15; 0 is none
@@ -215,12 +215,12 @@ symbolRefusal (Checked y) = 0
 abbrev pub keepsWeak : ℕ → Symbol → Noted → Noted
 keepsWeak last y (noted p report) = noted (pick (eqb (bindingOf y) 2) (keeps last 0 p) p) report
 
--- a field with a search: by the address that was found, which is kept, or by 0, and a report word
-unfoldable pub writeFound : Turn → Rela → Field → ℕ → Symbol → Scoped → Progress → List ℕ → List ℕ → Left
+-- a write with a search: by the address that was found, which is kept, or by 0, and a report word
+unfoldable pub writeFound : Turn → Rela → Calculation → ℕ → Symbol → Scoped → Progress → List ℕ → List ℕ → Left
 writeFound t e f i y Absent p a report =
-    withArena (patch a (t .offset + e .place) (f .width) (fieldBytes t e f 0)) (keepsWeak (e .symbol + 1) y (unresolvedOf y (t .number) i p report))
+    withArena (patch a (t .offset + e .place) (f .width) (writtenBytes t e f 0)) (keepsWeak (e .symbol + 1) y (unresolvedOf y (t .number) i p report))
 writeFound t e f i y (Found k d x) p a report =
-    left (keeps (e .symbol + 1) x p) (patch a (t .offset + e .place) (f .width) (fieldBytes t e f x)) report
+    left (keeps (e .symbol + 1) x p) (patch a (t .offset + e .place) (f .width) (writtenBytes t e f x)) report
 
 -- the `n` bytes of the definition `d`, in the object at the seat `s`, may be copied to the place `to` of the object whose turn it is: the
 -- tests of refusal 18, and both ranges end inside an arena of `size` bytes
@@ -276,12 +276,12 @@ module _ (address : ℕ) (table : List ℕ) (count : ℕ) where
   soughtForCopy a name = resolveCopySeats address a table count name (gnuHash name) (elfHash name)
 
   -- the kept answer, where it is the symbol's, or a search
-  unfoldable pub answeredOf : Turn → Record → Rela → Field → ℕ → Symbol → Progress → List ℕ → List ℕ → Left
+  unfoldable pub answeredOf : Turn → Record → Rela → Calculation → ℕ → Symbol → Progress → List ℕ → List ℕ → Left
   answeredOf t r e f i y p a report =
-      pick (eqb (p .last) (e .symbol + 1)) (left p (patch a (t .offset + e .place) (f .width) (fieldBytes t e f (p .address))) report)
+      pick (eqb (p .last) (e .symbol + 1)) (left p (patch a (t .offset + e .place) (f .width) (writtenBytes t e f (p .address))) report)
       (writeFound t e f i y (soughtFor t a (nameOf (imageIn a t) r y)) p a report)
 
-  unfoldable pub symbolicOf : Turn → Record → Rela → Field → ℕ → CheckedSymbol → Progress → List ℕ → List ℕ → Left
+  unfoldable pub symbolicOf : Turn → Record → Rela → Calculation → ℕ → CheckedSymbol → Progress → List ℕ → List ℕ → Left
   symbolicOf t r e f i (Refused n) p a report = left (refusedBy t n p) a report
   symbolicOf t r e f i (Checked y) p a report =
       pick (inWritable (r .segments) (e .place) (f .width)) (answeredOf t r e f i y p a report) (left (refusedBy t 17 p) a report)

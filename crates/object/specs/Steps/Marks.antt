@@ -3,7 +3,7 @@ use mathlib.Core.Bool.{Bool, true, false}
 use mathlib.Core.List.{List}
 use mathlib.Core.Logic.{_⊎_}
 use mathlib.Core.Path.{_≡_}
-use Prim.Native.Nat.{ℕ, _+_, _-_, _*_, _≤_, _<_}
+use Prim.Native.Nat.{ℕ, _+_, _-_, _*_, _/_, _%_, _^_, _≤_, _<_}
 use lib.ListN.{length, take, getD}
 use Rattle.words.specs.Choice.{both, every}
 use Rattle.object.specs.declared.hash_tables.HashTable.{HashTable}
@@ -20,17 +20,21 @@ use Rattle.object.specs.Steps.FineRange.{TablesFine}
 
 -- ---- marks: mark `j` is that of symbol `low + j * step`
 
+-- whether mark `j` is set: a bit of a word
+abbrev pub markBit : List ℕ → ℕ → ℕ
+markBit seen j = getD seen (j / 64) 0 / 2 ^ (j % 64) % 2
+
 -- symbol `s` has a mark, and it is set
-abbrev pub MarkAt : List Bool → ℕ → ℕ → ℕ → Type 0
-MarkAt seen low step s = (j : ℕ) × ((getD seen j false ≡ true) × (s ≡ low + j * step))
+abbrev pub MarkAt : List ℕ → ℕ → ℕ → ℕ → Type 0
+MarkAt seen low step s = (j : ℕ) × ((markBit seen j ≡ 1) × (s ≡ low + j * step))
 
 -- a mark that is set was set before, or is that of `s`
-abbrev pub NewMark : List Bool → List Bool → ℕ → ℕ → ℕ → Type 0
-NewMark old new low step s = (j : ℕ) → getD new j false ≡ true → (getD old j false ≡ true) ⊎ (s ≡ low + j * step)
+abbrev pub NewMark : List ℕ → List ℕ → ℕ → ℕ → ℕ → Type 0
+NewMark old new low step s = (j : ℕ) → markBit new j ≡ 1 → (markBit old j ≡ 1) ⊎ (s ≡ low + j * step)
 
 -- the symbols whose marks are set have the property
-abbrev pub Marked : List Bool → ℕ → ℕ → (ℕ → Type 0) → Type 0
-Marked seen low step P = (j : ℕ) → getD seen j false ≡ true → P (low + j * step)
+abbrev pub Marked : List ℕ → ℕ → ℕ → (ℕ → Type 0) → Type 0
+Marked seen low step P = (j : ℕ) → markBit seen j ≡ 1 → P (low + j * step)
 
 -- ---- the walk from a symbol
 
@@ -45,7 +49,7 @@ WalkedTo m t p s Failed = every p (walk m t (fuel m t) s) ≡ false
 WalkedTo m t p s Cut = (every p (walk m t (fuel m t) s) ≡ true) × (length (walk m t (fuel m t) s) ≡ fuel m t)
 
 -- the marks after the walk from `word` was marked: if it passes, and the walks from the marked symbols passed, so do they now
-abbrev pub MarksMore : List ℕ → HashTable → ℕ → ℕ → List Bool → List Bool → ℕ → Type 0
+abbrev pub MarksMore : List ℕ → HashTable → ℕ → ℕ → List ℕ → List ℕ → ℕ → Type 0
 MarksMore m t low step old new word =
     (p : ℕ → Bool) → Passes m t p word → Marked old low step (Passes m t p) → Marked new low step (Passes m t p)
 

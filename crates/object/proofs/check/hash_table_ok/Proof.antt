@@ -1,5 +1,5 @@
 -- `object::check::hash_table_ok` meets its contract. Assumes nothing.
-use Rattle.object.proofs.MarkLaws.{never, unmarked}
+use Rattle.object.proofs.MarkLaws.{unmarked}
 use Rattle.object.proofs.check.numbers_ok.Reads as numbers-ok-reads
 use Rattle.object.proofs.check.shortcuts_of.Reads as shortcuts-of-reads
 use Rattle.object.proofs.check.table_fits.Reads as table-fits-reads
@@ -31,7 +31,7 @@ returns-3 c =
 
 walks-ok-requires : tie.Need-walks-ok-requires
 walks-ok-requires c κs =
-    (c .before .before .before .before .last-zeros .ensures, c .before .before .shortcuts-of .ensures, λ j g. never (sym (unmarked 16384 j) ∙ g))
+    (c .before .before .before .before .last-zeros .ensures, c .before .before .shortcuts-of .ensures, λ j g. absurd (unmarked 2048 j g))
 
 returns-4 : tie.Need-returns-4
 unfolding tableOk
