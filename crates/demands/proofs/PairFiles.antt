@@ -54,7 +54,7 @@ use Rattle.object.specs.declared.program_header.Dynamic.the-variants.{At}
 use Rattle.object.specs.declared.hash_tables.HashTable.the-variants.{Without, SysV}
 use Rattle.object.specs.declared.hash_tables.SymbolCount.the-variants.{Unknown, Known}
 use Rattle.object.proofs.RefusalLaws.{after-none}
-use Rattle.demands.specs.PairOfSheets.{handedBytes, hostFile, programFile, libraryFile}
+use Rattle.demands.specs.PairOfSheets.{wordBytes, hostFile, programFile, libraryFile}
 
 -- ---- a file and zeros
 
@@ -223,7 +223,7 @@ record AllComputed : Type 0 where
   of-b : LibraryComputed 98
 
 computed : AllComputed
-unfolding handedBytes every some below tab mem byteOf leAt untilZero require after headerRefusal loadsIn segmentAt dynamicIn segmentsOk holdsHeaders
+unfolding wordBytes every some below tab mem byteOf leAt untilZero require after headerRefusal loadsIn segmentAt dynamicIn segmentsOk holdsHeaders
     segmentOk pagesApart allApart segmentsOf itemsIn endIn lastValue firstOf allOf fieldOf isTable tableBytes tableName walk walkFrom numbersOk
     bucketOk lengthOk chainOk symbolOk walkOk tableOk tableIn tableCount countOf recordIn recordAt sizesRefusal fieldsRefusal needsOk relocationsOk tablesOk
     readRefusal
@@ -238,7 +238,7 @@ computed =
 -- ---- the host
 
 host-length : length hostFile ≡ 0x1000
-unfolding handedBytes tab
+unfolding wordBytes tab
 host-length = refl
 
 pub host-reads : Reads true hostFile 0x1000 hostImage hostRecord
@@ -249,7 +249,7 @@ host-reads =
 -- ---- the program
 
 program-length : length programFile ≡ 440
-unfolding handedBytes tab
+unfolding wordBytes tab
 program-length = refl
 
 program-bytes : (i : ℕ) → objectBytes false programFile i ≡ mem programFile i
@@ -271,7 +271,7 @@ program-reads =
 -- ---- the libraries
 
 library-length : (c : ℕ) → length (libraryFile c) ≡ 320
-unfolding handedBytes tab
+unfolding wordBytes tab
 library-length c = refl
 
 library-reads-by : (c : ℕ) → LibraryComputed c → Reads false (libraryFile c) 0x1000 (libraryImage c) libraryRecord
