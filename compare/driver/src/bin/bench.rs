@@ -158,6 +158,7 @@ fn measure(set: &Set, rust: &mut Rust, seconds: f64) {
             if !alone {
                 figures.add("rust relocate", time(2));
                 figures.add("rust load and relocate", time(0) + time(2));
+                make_ready(set, room);
                 let mut fresh = Pages::new(set.arena);
                 figures.add("port bind, fresh arena", nanoseconds(|| assert_eq!(bind(set, fresh.bytes(), &mut report), Ok(()))));
             }
@@ -172,6 +173,7 @@ fn measure(set: &Set, rust: &mut Rust, seconds: f64) {
             make_ready(set, room);
             figures.add("memcpy", nanoseconds(|| black_box(&mut room[..length]).copy_from_slice(black_box(&set.bytes))));
             if placing {
+                make_ready(set, room);
                 let mut fresh = Pages::new(length);
                 let fresh = fresh.bytes();
                 figures.add("memcpy, fresh arena", nanoseconds(|| black_box(&mut *fresh).copy_from_slice(black_box(&set.bytes))));
