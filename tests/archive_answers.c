@@ -1,7 +1,7 @@
 /* Reads sets in the frames of compare/sets.py from standard input. For each it binds, then asks the questions that stand in the label
    behind `|`, each as REQUESTER:NAME with the name in hexadecimal, and prints one line: for each call the answer, and hashes of what it
-   wrote. Arena and report are filled with other bytes before each call, and the memory right behind each slice cannot be touched.
-   tests/compare_archives.py runs it. */
+   wrote. Arena and report are filled with other bytes before each call, or with the byte that is its argument, and the memory right behind
+   each slice cannot be touched. tests/compare_archives.py and tests/dirty_arenas.py run it. */
 #define _GNU_SOURCE
 #include <inttypes.h>
 #include <stdio.h>
@@ -43,8 +43,9 @@ static void take(void *to, size_t len)
         exit(4);
 }
 
-int main(void)
+int main(int argc, char **argv)
 {
+    int fill = argc > 1 ? atoi(argv[1]) : -1;
     static char label[1 << 16];
     uint8_t *bytes_end = end_of_room(), *arena_end = end_of_room(), *report_end = end_of_room(), *sheet_end = end_of_room();
     static char buffer[1 << 20];
@@ -67,8 +68,8 @@ int main(void)
         take(sheet, 4 * words);
         take(bytes, bytes_len);
         alarm(SECONDS);
-        memset(arena, 0xa5 + set, arena_len);
-        memset(report, 0x5a + set, 4 * report_len);
+        memset(arena, fill < 0 ? (int)(0xa5 + set) : fill, arena_len);
+        memset(report, fill < 0 ? (int)(0x5a + set) : fill, 4 * report_len);
         uint64_t answer = lugwormpin_bind(sheet, words, bytes, bytes_len, arena, arena_len, place[0], four[1], report, report_len);
         printf("%" PRIx64 " %" PRIx64 " %" PRIx64, answer, hash(arena, arena_len), hash(report, 4 * report_len));
         char *at = strchr(label, '|');
@@ -80,7 +81,7 @@ int main(void)
             at++;
             for (unsigned byte; *at != 0 && *at != ' ' && sscanf(at, "%2x", &byte) == 1; at += 2)
                 name[name_len++] = byte;
-            memset(arena, 0x3c + set, arena_len);
+            memset(arena, fill < 0 ? (int)(0x3c + set) : fill, arena_len);
             memset(reply, 0xff, sizeof reply);
             answer = lugwormpin_query(sheet, words, bytes, bytes_len, arena, arena_len, place[0], requester, name, name_len, reply, 5);
             printf(" %" PRIx64 " %" PRIx64 " %" PRIx64, answer, hash(arena, arena_len), hash(reply, sizeof reply));

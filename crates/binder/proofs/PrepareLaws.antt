@@ -1,20 +1,22 @@
 -- Loading the objects of a set, one after another: the turn of the loop and its ends; preparing a set. Assumes nothing.
 use mathlib.Core.Path.{_≡_, refl, sym, ap, _∙_, subst, fun-ext}
 use mathlib.Core.Bool.{Bool, true, false}
+use mathlib.Core.Logic.{_⊎_, inl, inr}
 use mathlib.Core.List.{List, [], _∷_, map}
 use Prim.Native.Nat.{ℕ, zero, suc, _+_, _-_, _*_, _%_, _^_, _≤_, _<_}
 use native.Mathlib.Omega.{arith}
 use native.Mathlib.Numerals.{add-one}
 use native.Mathlib.Nat.{add-zero}
-use borrow.Author.Tests.{eq-eqb, ne-eqb, le-leb, lt-leb, leb-true}
+use borrow.Author.Tests.{eq-eqb, ne-eqb, le-leb, lt-leb, leb-true, lt-ltb, le-ltb}
 use borrow.Rule.Slice.PartMut.{putMid}
-use lib.Dec.{eqb, leb}
-use lib.ListN.{length, getD, take, drop, replicate, length-take, length-drop, length-map, List·getD-map}
+use lib.Dec.{eqb, leb, ltb}
+use lib.ListN.{length, getD, take, drop, length-take, length-drop, length-map, List·getD-map}
 use lib.Seq.{drop-cons, drop-length}
-use Rattle.words.specs.Memory as memory
-use Rattle.words.specs.Memory.{Mem, mem, write, patch}
+use Rattle.words.specs.Choice.{pick}
+use Rattle.words.specs.Memory.{Mem, In, mem, write, patch}
+use Rattle.words.proofs.Memory.{Out, in-or-out, write-in, write-out}
 use Rattle.words.proofs.Choice.{both-true}
-use Rattle.words.proofs.Slices.{put-tail, mem-patch, length-tab}
+use Rattle.words.proofs.Slices.{put-tail, mem-past, mem-patch, length-tab}
 use Rattle.object.specs.declared.dynamic_fields.Read.{Read}
 use Rattle.object.specs.declared.hash_tables.View.{View}
 use Rattle.object.specs.declared.program_header.Dynamic.{Dynamic}
@@ -110,6 +112,47 @@ module _
             let w : v ≡ viewOf (objectRecord host file) = e ∙ ap viewOf q in
             rw (s, w)
 
+-- ---- the memory below an offset, and zeros from there on
+
+unfoldable pub below : ℕ → Mem → Mem
+below off m i = pick (ltb i off) (m i) 0
+
+below-in : (off : ℕ) (m : Mem) (i : ℕ) → i < off → below off m i ≡ m i
+unfolding below
+below-in off m i h = rw (lt-ltb i off h)
+
+below-past : (off : ℕ) (m : Mem) (i : ℕ) → off ≤ i → below off m i ≡ 0
+unfolding below
+below-past off m i h = rw (le-ltb i off h)
+
+below-none : (m : Mem) → (λ _. 0) ≡ below 0 m
+below-none m = fun-ext (λ i. sym (below-past 0 m i (omega arith)))
+
+-- a write at the offset
+below-more : (m : Mem) (off n : ℕ) (f : ℕ → ℕ) → write (below off m) off n f ≡ below (off + n) (write m off n f)
+below-more m off n f = fun-ext (λ i. go i (in-or-out off n i))
+  where
+    go : (i : ℕ) → In off n i ⊎ Out off n i → write (below off m) off n f i ≡ below (off + n) (write m off n f) i
+    go i (inl w) =
+        write-in (below off m) off n f i w
+        ∙ sym (below-in (off + n) (write m off n f) i (w .1) ∙ write-in m off n f i w)
+    go i (inr (inl l)) =
+        write-out (below off m) off n f i (inl l) ∙ below-in off m i l
+        ∙ sym (below-in (off + n) (write m off n f) i (omega arith) ∙ write-out m off n f i (inl l))
+    go i (inr (inr l)) =
+        write-out (below off m) off n f i (inr l) ∙ below-past off m i (omega arith) ∙ sym (below-past (off + n) (write m off n f) i l)
+
+-- zeros written from the offset to the end
+below-end : (a : List ℕ) (off : ℕ) → off ≤ length a → mem (patch a off (length a - off) (λ _. 0)) ≡ below off (mem a)
+below-end a off h =
+    mem-patch a off (length a - off) (λ _. 0) (omega arith) ∙ fun-ext (λ i. go i (in-or-out off (length a - off) i))
+  where
+    go : (i : ℕ) → In off (length a - off) i ⊎ Out off (length a - off) i → write (mem a) off (length a - off) (λ _. 0) i ≡ below off (mem a) i
+    go i (inl w) = write-in (mem a) off (length a - off) (λ _. 0) i w ∙ sym (below-past off (mem a) i (w .0))
+    go i (inr (inl l)) = write-out (mem a) off (length a - off) (λ _. 0) i (inl l) ∙ sym (below-in off (mem a) i l)
+    go i (inr (inr l)) =
+        write-out (mem a) off (length a - off) (λ _. 0) i (inr l) ∙ mem-past a i (omega arith) ∙ sym (below-past off (mem a) i (omega arith))
+
 -- ---- the loop: what is left to load gives, after what was loaded, the whole
 
 pub record Loading (os : List Input) (a₀ a table : List ℕ) (off k : ℕ) : Type 0 where
@@ -117,14 +160,22 @@ pub record Loading (os : List Input) (a₀ a table : List ℕ) (off k : ℕ) : T
   pub offset : off ≤ length a
   pub number : k ≤ length os
   pub met : loadFrom (length a₀) 0 0 (filesOf os) ≡ loadFrom (length a₀) k off (drop k (filesOf os))
-  pub placed : placeFiles (filesOf os) 0 (mem a₀) ≡ placeFiles (drop k (filesOf os)) off (mem a)
+  pub placed : placeFiles (filesOf os) 0 (λ _. 0) ≡ placeFiles (drop k (filesOf os)) off (below off (mem a))
   pub seated :
       (t : List ℕ) → ((j : ℕ) → j < k → seatAt t j ≡ seatAt table j) → Seated t k off (drop k (filesOf os)) → Seated t 0 0 (filesOf os)
   pub filtered : Filtered table k
 
 pub load-begin : (os : List Input) (a table : List ℕ) → Loading os a a table 0 0
 load-begin os a table =
-    record { same = refl; offset = omega arith; number = omega arith; met = refl; placed = refl; seated = λ t h s. s; filtered = λ k l. absurd (omega arith) }
+    record {
+      same = refl;
+      offset = omega arith;
+      number = omega arith;
+      met = refl;
+      placed = ap (placeFiles (filesOf os) 0) (below-none (mem a));
+      seated = λ t h s. s;
+      filtered = λ k l. absurd (omega arith);
+    }
 
 module _ (os : List Input) (a₀ a table : List ℕ) (off k : ℕ) (h : Loading os a₀ a table off k) where
   module _ (l : k < length os) where
@@ -169,36 +220,35 @@ module _ (os : List Input) (a₀ a table : List ℕ) (off k : ℕ) (h : Loading 
           let g = seated s e in
           let span : s .span ≡ objectSpan (eqb k 0) (getD os k noInput .file) = ap (λ (x : Seat). x .span) (g .seat) in
           let rest : drop (k + 1) (filesOf os) ≡ drop (suc k) (filesOf os) = ap (λ (n : ℕ). drop n (filesOf os)) (add-one k) in
+          let n : ℕ = objectSpan (eqb k 0) (getD os k noInput .file) in
+          let f : Mem = objectBytes (eqb k 0) (getD os k noInput .file) in
+          let step : placeFiles (drop k (filesOf os)) off (below off (mem a))
+          ≡ placeFiles (drop (suc k) (filesOf os)) (off + n) (below (off + n) (write (mem a) off n f)) =
+          rw left (ap (placeFiles (drop (suc k) (filesOf os)) (off + n)) (below-more (mem a) off n f)) in
           record {
             same = len ∙ h .same;
             offset = omega (arith, g .fits);
             number = omega arith;
             met = h .met ∙ rw (left, ← h .same, g .refusal, ← span, add-one k);
-            placed = h .placed ∙ rw (left, g .arena, span, add-one k);
+            placed = h .placed ∙ (step ∙ rw (g .arena, span, add-one k));
             seated = λ u same q.
                 h .seated u (λ j i. same j (omega arith) ∙ others j (λ e. omega arith))
                 (rw left (same k (omega arith) ∙ (here ∙ g .seat), rw (rest, span) at q));
             filtered = filters (h .filtered);
           }
 
-  pub load-finish : k ≡ length os → LoadedFiles (filesOf os) a₀ a table Passed
+  pub load-finish : k ≡ length os → (a′ : List ℕ) → a′ ≡ patch a off (length a - off) (λ _. 0) → LoadedFiles (filesOf os) a₀ a′ table Passed
   unfolding loadFrom placeFiles Seated
-  load-finish e =
+  load-finish e a′ zeros =
       let n : drop k (filesOf os) ≡ [] = rw (e, ← files-length os) (drop-length (filesOf os)) in
       record {
         met = sym (h .met ∙ rw n);
-        arena = λ z. sym (h .placed ∙ rw n);
+        arena = λ z. ap mem zeros ∙ (below-end a off (h .offset) ∙ sym (h .placed ∙ rw n));
         table = λ z. h .seated table (λ j g. refl) (rw n tt);
         filtered = λ z j l. h .filtered j (omega (arith, files-length os));
       }
 
 -- ---- preparing: refusals 1 to 3, then loading
-
-pub zero-at : (n i : ℕ) → mem (replicate n 0) i ≡ 0
-unfolding memory.mem
-zero-at zero i = refl
-zero-at (suc n) zero = refl
-zero-at (suc n) (suc i) = zero-at n i
 
 module _ (os : List Input) (address : ℕ) (arena : List ℕ) where
   -- a refusal before anything is loaded
@@ -227,13 +277,13 @@ module _ (os : List Input) (address : ℕ) (arena : List ℕ) where
       prepare-three t e ne = refuses 3 t (rw (le-leb 2 (length os) two, ok, ← e, ne-eqb t 0 ne))
 
       pub prepare-loads :
-          twinOf os ≡ 0 → arena ≡ replicate (length arena) 0 → (arena′ table : List ℕ) (r : Met) → LoadedFiles (filesOf os) arena arena′ table r
+          twinOf os ≡ 0 → (arena′ table : List ℕ) (r : Met) → LoadedFiles (filesOf os) arena arena′ table r
           → Prepared os address arena arena′ table r
       unfolding setVerdict unless
-      prepare-loads none zeros arena′ table r h =
+      prepare-loads none arena′ table r h =
           record {
             met = h .met ∙ rw (le-leb 2 (length os) two, ok, eq-eqb (twinOf os) 0 none);
-            arena = λ z. h .arena z ∙ ap (placeFiles (filesOf os) 0) (ap mem zeros ∙ fun-ext (zero-at (length arena)));
+            arena = h .arena;
             table = h .table;
             filtered = λ z k l. h .filtered z k (omega (arith, files-length os));
           }

@@ -30,7 +30,7 @@ use Rattle.object.specs.Record.{Record, isTableOf, needsOk, relocationsOk, tabl
 use Rattle.object.specs.Record as records
 use Rattle.object.specs.DynamicArray.{endsInside}
 use Rattle.object.specs.DynamicFields.{fieldsOf, neededOffsets}
-use Rattle.object.specs.Placed.{segmentsOf, objectSpan, placeRefusal}
+use Rattle.object.specs.Placed.{segmentsOf, objectSpan, fileRefusal, placeRefusal}
 use Rattle.object.specs.Placed as placing
 use Rattle.object.specs.Loaded.{objectRefusal}
 use Rattle.object.specs.Loaded as loading
@@ -118,10 +118,11 @@ module _ (f : File) (room : ℕ) (e : objectRefusal (f .host) room (f .bytes) �
   -- of a file that is not the host's
   module _ (z : f .host ≡ false) where
     load-few : leb (length (loadsOf (f .bytes))) 16 ≡ true
-    unfolding loading.objectRefusal placing.placeRefusal segments.segmentsOk
+    unfolding loading.objectRefusal placing.placeRefusal placing.fileRefusal segments.segmentsOk
     load-few =
         let a = after-zero (placeRefusal (f .host) room (f .bytes)) _ e in
-        let b = after-zero (headerRefusal (f .bytes)) _ (a .0) in
+        let d = after-zero (fileRefusal (f .host) (f .bytes)) _ (a .0) in
+        let b = after-zero (headerRefusal (f .bytes)) _ (d .0) in
         let c = required (pick (f .host) (eqb (length (f .bytes) % pageSize) 0) (segmentsOk (f .bytes) (loadsOf (f .bytes)))) 6 _ (b .1) in
         both-true (leb (length (loadsOf (f .bytes))) 16) _ (rw z at (c .0)) .0
 

@@ -86,7 +86,7 @@ fn bind_set(
     policy: Policy,
     report: &mut [u32],
 ) -> Met
-    requires { ⌜ (parts .count ≤ 64) × (length (inputsIn (now bytes) parts) ≡ parts .count) × (now arena ≡ replicate (length (now arena)) 0) × (now report ≡ replicate (length (now report)) 0) ⌝ }
+    requires { ⌜ (parts .count ≤ 64) × (length (inputsIn (now bytes) parts) ≡ parts .count) × (now report ≡ replicate (length (now report)) 0) ⌝ }
     ensures { λ r. ⌜ BoundSet (inputsIn (now (bytes .entry)) parts) (length (now (arena .entry))) address policy (length (now (report .entry))) (now (arena .exit)) (now (report .exit)) r ⌝ }
 {
     let mut table = [0u64; 1024];
@@ -124,7 +124,6 @@ pub fn bind(
 ) -> Answer
     ensures { λ r. ⌜ outcome r (now (arena .exit)) (now (report .exit)) ≡ bindOf (now (sheet .entry)) (now (bytes .entry)) (length (now (arena .entry))) address policy (length (now (report .entry))) ⌝ }
 {
-    words::bytes::clear(arena);
     words::bytes::clear_words(report);
     let parts = sheet::sheet::parts_of(sheet, bytes.len());
     let m = bind_set(bytes, parts, arena, address, policy, report);

@@ -1,7 +1,7 @@
 // What every call does first: refusals 1 to 3 of a set, then its objects into the arena, refusals 4 to 12, object by object.
 ghost use mathlib.Core.Path.{_≡_};
 ghost use Prim.Native.Nat.{_≤_};
-ghost use lib.ListN.{length, replicate};
+ghost use lib.ListN.{length};
 ghost use Rattle.sheet.specs.Steps.Parts.{inputsIn};
 ghost use Rattle.binder.specs.Bind.{filesOf};
 ghost use Rattle.binder.specs.Steps.Prepared.{LoadedAt, LoadedFiles, Prepared};
@@ -40,7 +40,7 @@ fn load_at(arena: &mut [u8], off: usize, file: &[u8], host: bool) -> Loaded
     Loaded::At(seat)
 }
 
-// Loads the objects that the table of parts names, one after another, and fills the table of seats.
+// Loads the objects that the table of parts names, one after another, writes zeros behind the last, and fills the table of seats.
 fn load_all(bytes: &[u8], parts: Parts, arena: &mut [u8], table: &mut [u64]) -> Met
     requires { ⌜ (parts .count ≤ 64) × (length (inputsIn (now bytes) parts) ≡ parts .count) × (1024 ≤ length (now table)) ⌝ }
     ensures { λ r. ⌜ LoadedFiles (filesOf (inputsIn (now (bytes .entry)) parts)) (now (arena .entry)) (now (arena .exit)) (now (table .exit)) r ⌝ }
@@ -65,11 +65,12 @@ fn load_all(bytes: &[u8], parts: Parts, arena: &mut [u8], table: &mut [u64]) -> 
             }
         }
     }
+    words::bytes::zero(arena, off, arena.len() - off);
     Met::Passed
 }
 
-// Refusals 1 to 12 of the objects that the table of parts names; what passes is loaded, and its seats are in the table. A refused sheet's
-// table of parts names no object.
+// Refusals 1 to 12 of the objects that the table of parts names; what passes is loaded, whatever the arena holds before, and its seats are
+// in the table. A refused sheet's table of parts names no object.
 pub(crate) fn prepare(
     bytes: &[u8],
     parts: Parts,
@@ -77,7 +78,7 @@ pub(crate) fn prepare(
     address: u64,
     table: &mut [u64],
 ) -> Met
-    requires { ⌜ (parts .count ≤ 64) × (length (inputsIn (now bytes) parts) ≡ parts .count) × (1024 ≤ length (now table)) × (now arena ≡ replicate (length (now arena)) 0) ⌝ }
+    requires { ⌜ (parts .count ≤ 64) × (length (inputsIn (now bytes) parts) ≡ parts .count) × (1024 ≤ length (now table)) ⌝ }
     ensures { λ r. ⌜ Prepared (inputsIn (now (bytes .entry)) parts) address (now (arena .entry)) (now (arena .exit)) (now (table .exit)) r ⌝ }
 {
     if parts.count < 2 {

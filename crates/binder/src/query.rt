@@ -51,7 +51,7 @@ fn ask_set(
     requester: usize,
     name: &[u8],
 ) -> Reply
-    requires { ⌜ (parts .count ≤ 64) × (length (inputsIn (now bytes) parts) ≡ parts .count) × (now arena ≡ replicate (length (now arena)) 0) ⌝ }
+    requires { ⌜ (parts .count ≤ 64) × (length (inputsIn (now bytes) parts) ≡ parts .count) ⌝ }
     ensures { λ r. ⌜ replied r (now (arena .exit)) ≡ askOf (inputsIn (now (bytes .entry)) parts) (length (now (arena .entry))) address requester (now (name .entry)) ⌝ }
 {
     let count = parts.count;
@@ -79,7 +79,6 @@ pub fn query(
 ) -> Reply
     ensures { λ r. ⌜ replied r (now (arena .exit)) ≡ queryOf (now (sheet .entry)) (now (bytes .entry)) (length (now (arena .entry))) address requester (now (name .entry)) ⌝ }
 {
-    words::bytes::clear(arena);
     let parts = sheet::sheet::parts_of(sheet, bytes.len());
     ask_set(bytes, parts, arena, address, requester as usize, name)
 }

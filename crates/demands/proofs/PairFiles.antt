@@ -29,7 +29,7 @@ use Rattle.object.specs.Segments.{
   placeSegments,
   placedOf,
 }
-use Rattle.object.specs.Placed.{segmentsOf, objectSpan, objectBytes, placeRefusal, objectImage}
+use Rattle.object.specs.Placed.{segmentsOf, objectSpan, objectBytes, fileRefusal, placeRefusal, objectImage}
 use Rattle.object.specs.DynamicArray.{itemsIn, endIn, lastValue, firstOf, allOf}
 use Rattle.object.specs.DynamicFields.{fieldOf}
 use Rattle.object.specs.TableBytes.{isTable, tableBytes, tableName}
@@ -54,10 +54,15 @@ use Rattle.object.specs.declared.program_header.Dynamic.the-variants.{At}
 use Rattle.object.specs.declared.hash_tables.HashTable.the-variants.{Without, SysV}
 use Rattle.object.specs.declared.hash_tables.SymbolCount.the-variants.{Unknown, Known}
 use Rattle.object.proofs.RefusalLaws.{after-none}
-use Rattle.binder.proofs.PrepareLaws.{zero-at}
-use Rattle.demands.specs.PairOfSheets.{bytesOf, hostFile, programFile, libraryFile}
+use Rattle.demands.specs.PairOfSheets.{wordBytes, hostFile, programFile, libraryFile}
 
 -- ---- a file and zeros
+
+zero-at : (n i : ℕ) → mem (replicate n 0) i ≡ 0
+unfolding mem
+zero-at zero i = refl
+zero-at (suc n) zero = refl
+zero-at (suc n) (suc i) = zero-at n i
 
 mem-padded : (xs : List ℕ) (n i : ℕ) → mem (xs ++ replicate n 0) i ≡ mem xs i
 unfolding mem
@@ -122,7 +127,7 @@ module _ (host : Bool) (file : List ℕ) (segments : List Segment) (at n span : 
   image-padded = rw long (padded file n span (objectBytes host file) fills same)
 
   places : (room : ℕ) → span ≤ room → placeRefusal host room file ≡ 0
-  unfolding placeRefusal require after
+  unfolding placeRefusal fileRefusal require after
   places room l = rw (c .header, c .segments-ok, long, le-leb span room l)
 
   file-reads : Reads host file span (file ++ replicate n 0) r
@@ -218,7 +223,7 @@ record AllComputed : Type 0 where
   of-b : LibraryComputed 98
 
 computed : AllComputed
-unfolding bytesOf every some below tab mem byteOf leAt untilZero require after headerRefusal loadsIn segmentAt dynamicIn segmentsOk holdsHeaders
+unfolding wordBytes every some below tab mem byteOf leAt untilZero require after headerRefusal loadsIn segmentAt dynamicIn segmentsOk holdsHeaders
     segmentOk pagesApart allApart segmentsOf itemsIn endIn lastValue firstOf allOf fieldOf isTable tableBytes tableName walk walkFrom numbersOk
     bucketOk lengthOk chainOk symbolOk walkOk tableOk tableIn tableCount countOf recordIn recordAt sizesRefusal fieldsRefusal needsOk relocationsOk tablesOk
     readRefusal
@@ -233,7 +238,7 @@ computed =
 -- ---- the host
 
 host-length : length hostFile ≡ 0x1000
-unfolding bytesOf tab
+unfolding wordBytes tab
 host-length = refl
 
 pub host-reads : Reads true hostFile 0x1000 hostImage hostRecord
@@ -244,7 +249,7 @@ host-reads =
 -- ---- the program
 
 program-length : length programFile ≡ 440
-unfolding bytesOf tab
+unfolding wordBytes tab
 program-length = refl
 
 program-bytes : (i : ℕ) → objectBytes false programFile i ≡ mem programFile i
@@ -266,7 +271,7 @@ program-reads =
 -- ---- the libraries
 
 library-length : (c : ℕ) → length (libraryFile c) ≡ 320
-unfolding bytesOf tab
+unfolding wordBytes tab
 library-length c = refl
 
 library-reads-by : (c : ℕ) → LibraryComputed c → Reads false (libraryFile c) 0x1000 (libraryImage c) libraryRecord

@@ -43,7 +43,7 @@ use Rattle.binder.specs.Report.{reportWord, isAbsent, undefinedBy, entryReport,
 use Rattle.binder.specs.SetOrder.{neededObjects, setOrder}
 use Rattle.binder.specs.Bind.{filesOf, namesOf, objectsOf, unless, prepareVerdict, relocateVerdict, outcome, outcomeOf, bindIn, bindOf, queryOf, replied, replyOf}
 use Rattle.demands.specs.LongerSet.{BoundBy, setObjects}
-use Rattle.demands.specs.PairOfSheets.{bytesOf, hostFile, programFile, libraryFile, sheet, bytes, longerSheet, longerBytes, PairOfSheets}
+use Rattle.demands.specs.PairOfSheets.{wordBytes, hostFile, programFile, libraryFile, sheet, bytes, longerSheet, longerBytes, PairOfSheets}
 use Rattle.demands.proofs.LongerQueryLaw.{asked}
 use Rattle.demands.proofs.LongerSetLaw.{longer-set}
 use Rattle.demands.proofs.PairFiles.{
@@ -73,19 +73,19 @@ abbrev longerInputs : List Input
 longerInputs = input hostFile [] ∷ (input programFile [] ∷ (input (libraryFile 97) (108 ∷ []) ∷ (input (libraryFile 98) (109 ∷ []) ∷ [])))
 
 set-is : setOf sheet bytes ≡ inputs
-unfolding bytesOf tab cut sheets.inputsOf libsOf
+unfolding wordBytes tab cut sheets.inputsOf libsOf
 set-is = refl
 
 longer-is : setOf longerSheet longerBytes ≡ longerInputs
-unfolding bytesOf tab cut sheets.inputsOf libsOf
+unfolding wordBytes tab cut sheets.inputsOf libsOf
 longer-is = refl
 
 sheet-ok : sheetOk sheet (length bytes) ≡ true
-unfolding bytesOf tab sheetOk libWords pairOk total
+unfolding wordBytes tab sheetOk libWords pairOk total
 sheet-ok = refl
 
 longer-ok : sheetOk longerSheet (length longerBytes) ≡ true
-unfolding bytesOf tab sheetOk libWords pairOk total
+unfolding wordBytes tab sheetOk libWords pairOk total
 longer-ok = refl
 
 -- ---- the objects
@@ -122,7 +122,7 @@ unfolding objectAt
 host-is = rw (host-reads .image-is, host-reads .record-is, host-reads .span-is)
 
 program-is : objectAt 0x10000000 (file false programFile) 0x1000 ≡ programObj
-unfolding objectAt bytesOf tab mem byteOf leAt untilZero placesOf namedWords relrWords relrsFrom relasOf relasFrom relaAt entryBy rowOf
+unfolding objectAt wordBytes tab mem byteOf leAt untilZero placesOf namedWords relrWords relrsFrom relasOf relasFrom relaAt entryBy rowOf
 program-is = rw (program-reads .image-is, program-reads .record-is, program-reads .span-is)
 
 a-is : objectAt 0x10000000 (file false (libraryFile 97)) 0x3000 ≡ libraryObj 97 0x3000
@@ -208,7 +208,7 @@ T-order = order-two _ (rw (a-reads .record-is)) (rw (b-reads .record-is))
 -- ---- refusals 14 to 18: none reads another object
 
 program-verdict : (A : Objs) → objectVerdict A 1 (file false programFile) ≡ passed
-unfolding objectVerdict wordsVerdict entriesVerdict verdict refusalBy bytesOf every some tab mem byteOf leAt untilZero namedWords relrWords relrsFrom
+unfolding objectVerdict wordsVerdict entriesVerdict verdict refusalBy wordBytes every some tab mem byteOf leAt untilZero namedWords relrWords relrsFrom
     relasOf relasFrom relaAt rowOf checkedSymbol indexOk symbolOk isTable tableBytes tableName inWritable require below
 program-verdict A = rw (program-reads .image-is, program-reads .record-is)
 
@@ -236,7 +236,7 @@ record Lookups : Type 0 where
   b-in-T : resolve T 1 (98 ∷ []) ≡ answer 3 found 0x10004018
 
 look : Lookups
-unfolding resolve scan scopeAnswer protectedOf symbols.address bytesOf tab mem byteOf leAt untilZero sameBytes hashBy elfHash gnuHash walk walkFrom
+unfolding resolve scan scopeAnswer protectedOf symbols.address wordBytes tab mem byteOf leAt untilZero sameBytes hashBy elfHash gnuHash walk walkFrom
     mayHold isHit firstIn findBy definition hashes.exportedAt symbolFrom isExported
 look = record { a-in-S = refl; a-in-T = refl; b-in-S = refl; b-in-T = refl }
 
@@ -245,7 +245,7 @@ look = record { a-in-S = refl; a-in-T = refl; b-in-S = refl; b-in-T = refl }
 program-words :
     (A : Objs) (t : Bool) → isAbsent (resolve A 1 (97 ∷ [])) ≡ false → isAbsent (resolve A 1 (98 ∷ [])) ≡ t
     → objectWords A 1 (file false programFile) ≡ 0x50000001 ∷ pick t (0x60000001 ∷ []) []
-unfolding objectWords entryReport undefinedBy bytesOf tab mem byteOf leAt untilZero relasOf relasFrom relaAt rowOf symbolFrom
+unfolding objectWords entryReport undefinedBy wordBytes tab mem byteOf leAt untilZero relasOf relasFrom relaAt rowOf symbolFrom
 program-words A true a b = rw (program-reads .image-is, program-reads .record-is, a, b)
 program-words A false a b = rw (program-reads .image-is, program-reads .record-is, a, b)
 

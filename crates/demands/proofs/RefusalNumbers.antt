@@ -18,7 +18,7 @@ use Rattle.model.proofs.OrderLaws.{decide, clash, has-head, has-cons}
 use Rattle.object.specs.Refusal.{require, after}
 use Rattle.object.specs.Header.{headerRefusal}
 use Rattle.object.specs.ProgramHeader.{dynamicOf}
-use Rattle.object.specs.Placed.{segmentsOf, objectImage, placeRefusal}
+use Rattle.object.specs.Placed.{segmentsOf, objectImage, fileRefusal, placeRefusal}
 use Rattle.object.specs.Record.{Record, sizesRefusal, fieldsRefusal, readRefusal, checkedSymbol, indexOk, isTableOf, nameOf}
 use Rattle.object.specs.Symbol.{symbolAt}
 use Rattle.object.specs.HashCheck.{symbolOk}
@@ -93,11 +93,15 @@ header-range file =
     (required-range 4 12 _ 6 _ (omega arith) (omega arith) (last-range 4 12 _ 6 (omega arith) (omega arith)))))))))
 
 -- 7 and 8
+file-range : (host : Bool) (file : List ℕ) → Range 4 12 (fileRefusal host file)
+unfolding fileRefusal
+file-range host file =
+    after-range 4 12 (headerRefusal file) _ (header-range file) (last-range 4 12 _ 7 (omega arith) (omega arith))
+
 place-range : (host : Bool) (room : ℕ) (file : List ℕ) → Range 4 12 (placeRefusal host room file)
 unfolding placeRefusal
 place-range host room file =
-    after-range 4 12 (headerRefusal file) _ (header-range file)
-    (required-range 4 12 _ 7 _ (omega arith) (omega arith) (last-range 4 12 _ 8 (omega arith) (omega arith)))
+    after-range 4 12 (fileRefusal host file) _ (file-range host file) (last-range 4 12 _ 8 (omega arith) (omega arith))
 
 -- 9 to 12
 fields-range : (ended : Bool) (f : Fields) → Range 4 12 (fieldsRefusal ended f)

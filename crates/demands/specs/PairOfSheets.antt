@@ -17,9 +17,9 @@ use Rattle.demands.specs.LongerSet.{setObjects, BoundBy}
 -- ---- words
 
 -- each word as eight bytes
-unfoldable pub bytesOf : List ℕ → List ℕ
-bytesOf [] = []
-bytesOf (w ∷ ws) = tab 8 (byteOf w) ++ bytesOf ws
+unfoldable pub wordBytes : List ℕ → List ℕ
+wordBytes [] = []
+wordBytes (w ∷ ws) = tab 8 (byteOf w) ++ wordBytes ws
 
 -- a word of two 32-bit fields
 abbrev pub pair : ℕ → ℕ → ℕ
@@ -49,7 +49,7 @@ entry place index ws = place ∷ pair 6 index ∷ 0 ∷ ws
 -- the host: no names and no tables
 abbrev pub hostFile : List ℕ
 hostFile =
-    bytesOf (elfHeader 1 (dynamic 0x78
+    wordBytes (elfHeader 1 (dynamic 0x78
     -- strings and symbols at 0
     (5 ∷ 0 ∷ 6 ∷ 0 ∷ 0 ∷ 0 ∷ [])))
     ++ replicate (0x1000 - 168) 0
@@ -57,7 +57,7 @@ hostFile =
 -- the program: two words at 0x1000, that take the addresses of a and of b
 abbrev pub programFile : List ℕ
 programFile =
-    bytesOf (elfHeader 3 (load 4 0 440 440 (load 6 0x1000 0 16 (dynamic 0xE8
+    wordBytes (elfHeader 3 (load 4 0 440 440 (load 6 0x1000 0 16 (dynamic 0xE8
     -- strings, symbols, RELA and its size
     (5 ∷ 0x180 ∷ 6 ∷ 0x138 ∷ 7 ∷ 0x188 ∷ 8 ∷ 48 ∷ 0 ∷ 0
     -- at 0x138: symbol 0, a, b
@@ -70,7 +70,7 @@ programFile =
 -- a library that defines the name of that one byte, at 0x18
 abbrev pub libraryFile : ℕ → List ℕ
 libraryFile c =
-    bytesOf (elfHeader 2 (load 4 0 320 320 (dynamic 0xB0
+    wordBytes (elfHeader 2 (load 4 0 320 320 (dynamic 0xB0
     -- strings, symbols, DT_HASH
     (5 ∷ 0x120 ∷ 6 ∷ 0xF0 ∷ 4 ∷ 0x128 ∷ 0 ∷ 0
     -- at 0xF0: symbol 0, the name's

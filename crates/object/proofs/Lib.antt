@@ -3,6 +3,9 @@ pub mod ListTests
 pub mod RefusalLaws
 pub mod LoadLaws
 pub mod SegmentLaws
+pub mod OrderedSegments
+pub mod RunLaws
+pub mod ObjectRuns
 pub mod PlaceLaws
 pub mod FieldLaws
 pub mod ReadLaws

@@ -1,21 +1,17 @@
 -- Placing and then reading: the image that is read is the file's, wherever it was placed. Assumes nothing.
-use mathlib.Core.Path.{_≡_, refl, sym, ap, _∙_}
+use mathlib.Core.Path.{_≡_, sym, ap, _∙_}
 use mathlib.Core.Bool.{Bool}
 use mathlib.Core.List.{List}
-use Prim.Native.Nat.{ℕ, zero, suc, _%_, _≤_}
+use Prim.Native.Nat.{ℕ, _≤_}
 use native.Mathlib.Omega.{arith}
 use borrow.Author.Tests.{leb-true}
-use lib.Dec.{eqb, leb}
+use lib.Dec.{leb}
 use lib.ListN.{length, take}
-use Rattle.words.specs.Choice.{pick}
 use Rattle.words.specs.Memory.{patch}
-use Rattle.words.specs.Page.{pageSize}
 use Rattle.words.proofs.Slices.{take-patch, length-patch}
-use Rattle.object.specs.Header.{headerRefusal}
-use Rattle.object.specs.ProgramHeader.{loadsOf, dynamicOf}
+use Rattle.object.specs.ProgramHeader.{dynamicOf}
 use Rattle.object.specs.Steps.LoadTable.{segmentsIn}
-use Rattle.object.specs.Segments.{segmentsOk}
-use Rattle.object.specs.Placed.{segmentsOf, objectSpan, objectBytes, objectImage, placeRefusal, PlacedBy}
+use Rattle.object.specs.Placed.{segmentsOf, objectSpan, objectBytes, objectImage, fileRefusal, placeRefusal, PlacedBy}
 use Rattle.object.specs.Record.{heldBy, noRecord, readRefusal, ReadBy}
 use Rattle.object.specs.Loaded.{objectRecord, objectRefusal, LoadedBy}
 use Rattle.object.specs.declared.program_header.Dynamic.{Dynamic}
@@ -29,9 +25,8 @@ module _ (host : Bool) (file : List ℕ) where
   pub place-fits : (room : ℕ) → placeRefusal host room file ≡ 0 → objectSpan host file ≤ room
   unfolding placeRefusal
   place-fits room e =
-      let a = after-zero (headerRefusal file) _ e in
-      let b = required (pick host (eqb (length file % pageSize) 0) (segmentsOk file (loadsOf file))) 6 _ (a .1) in
-      let c = required (leb (objectSpan host file) room) 7 _ (b .1) in
+      let a = after-zero (fileRefusal host file) _ e in
+      let c = required (leb (objectSpan host file) room) 7 _ (a .1) in
       leb-true (objectSpan host file) room (c .0)
 
   -- the image read after placing is the file's own

@@ -1,8 +1,8 @@
 -- Refusals 7 and 8, and what placing leaves. Assumes nothing.
-use mathlib.Core.Path.{_≡_, refl, sym, ap, _∙_}
+use mathlib.Core.Path.{_≡_, sym, ap, _∙_}
 use mathlib.Core.Bool.{Bool, true, false}
-use mathlib.Core.List.{List}
-use Prim.Native.Nat.{ℕ, zero, suc, _%_, _≤_, _<_}
+use mathlib.Core.List.{List, []}
+use Prim.Native.Nat.{ℕ, _-_, _%_, _≤_, _<_}
 use native.Mathlib.Omega.{arith}
 use borrow.Author.Tests.{eq-eqb, ne-eqb, le-leb, lt-leb, leb-true}
 use lib.Dec.{eqb, leb}
@@ -14,11 +14,15 @@ use Rattle.words.proofs.Choice.{both-true}
 use Rattle.words.proofs.Slices.{patch-same}
 use Rattle.object.specs.Refusal.{require, after}
 use Rattle.object.specs.Header.{headerRefusal, tableEnd}
-use Rattle.object.proofs.RefusalLaws.{after-met}
+use Rattle.object.proofs.RefusalLaws.{after-met, after-twice}
+use Rattle.object.proofs.RunLaws.{written, write-between}
+use Rattle.object.proofs.ObjectRuns.{fine, passed-seven, tiled-object, runs-say}
 use Rattle.object.specs.ProgramHeader.{loadsOf}
 use Rattle.object.specs.Steps.LoadTable.{segmentsIn, SegmentsIn}
-use Rattle.object.specs.Segments.{holdsHeaders, segmentOk, allApart, segmentsOk, spanOf, placeSegments, placedOf}
-use Rattle.object.specs.Placed.{segmentsOf, objectSpan, objectBytes, placeRefusal, placedPart, PlacedBy}
+use Rattle.object.specs.Segments.{holdsHeaders, segmentOk, allApart, segmentsOk, spanOf}
+use Rattle.object.specs.Placed.{segmentsOf, objectSpan, objectBytes, fileRefusal, placeRefusal, placedPart, CheckedBy, PlacedBy}
+use Rattle.object.specs.Runs.{fileFrom, byAddress, runsFrom, runsOf, saidBy}
+use Rattle.object.specs.Steps.WriteRuns.{writeRuns}
 use Rattle.object.specs.declared.program_header.Segment.{Segment}
 use Rattle.object.specs.declared.program_header.Loads.{Loads}
 use Rattle.object.specs.declared.object_data.Placed.{Placed}
@@ -71,26 +75,69 @@ module _ (file : List ℕ) (ss : List Segment) (l : Loads) (loaded : SegmentsIn 
 
 -- ---- refusals 4 to 8
 
-module _ (host : Bool) (file : List ℕ) (room : ℕ) where
+module _ (host : Bool) (file : List ℕ) where
   abbrev pub Passes : Bool → Type 0
   Passes t = pick host (eqb (length file % pageSize) 0) (segmentsOk file (loadsOf file)) ≡ t
 
-  pub refusal-header : (headerRefusal file ≡ 0 → ⊥) → placeRefusal host room file ≡ headerRefusal file
-  unfolding placeRefusal
+  pub refusal-header : (headerRefusal file ≡ 0 → ⊥) → fileRefusal host file ≡ headerRefusal file
+  unfolding fileRefusal
   refusal-header ne = after-met (headerRefusal file) _ ne
 
   module _ (z : headerRefusal file ≡ 0) where
-    pub refusal-seven : Passes false → placeRefusal host room file ≡ 7
-    unfolding placeRefusal after require
+    pub refusal-seven : Passes false → fileRefusal host file ≡ 7
+    unfolding fileRefusal after require
     refusal-seven e = rw (z, e)
 
-    pub refusal-eight : Passes true → room < objectSpan host file → placeRefusal host room file ≡ 8
-    unfolding placeRefusal after require
-    refusal-eight e h = rw (z, e, lt-leb (objectSpan host file) room h)
+    pub refusal-none : Passes true → fileRefusal host file ≡ 0
+    unfolding fileRefusal after require
+    refusal-none e = rw (z, e)
 
-    pub refusal-none : Passes true → objectSpan host file ≤ room → placeRefusal host room file ≡ 0
-    unfolding placeRefusal after require
-    refusal-none e h = rw (z, e, le-leb (objectSpan host file) room h)
+  module _ (room : ℕ) where
+    pub place-file : (fileRefusal host file ≡ 0 → ⊥) → placeRefusal host room file ≡ fileRefusal host file
+    unfolding placeRefusal
+    place-file ne = after-met (fileRefusal host file) _ ne
+
+    module _ (z : fileRefusal host file ≡ 0) where
+      pub place-eight : room < objectSpan host file → placeRefusal host room file ≡ 8
+      unfolding placeRefusal after require
+      place-eight h = rw (z, lt-leb (objectSpan host file) room h)
+
+      pub place-none : objectSpan host file ≤ room → placeRefusal host room file ≡ 0
+      unfolding placeRefusal after require
+      place-none h = rw (z, le-leb (objectSpan host file) room h)
+
+    -- 4 to 8 as one chain
+    pub place-chain : placeRefusal host room file
+        ≡ after (headerRefusal file)
+        (require (pick host (eqb (length file % pageSize) 0) (segmentsOk file (loadsOf file))) 7
+        (require (leb (objectSpan host file) room) 8 0))
+    unfolding placeRefusal fileRefusal
+    place-chain =
+        after-twice (headerRefusal file) (pick host (eqb (length file % pageSize) 0) (segmentsOk file (loadsOf file)))
+        (require (leb (objectSpan host file) room) 8 0)
+
+-- ---- the answers of the header checks and of placing
+
+pub checked-no :
+    (host : Bool) (file : List ℕ) (r : Placed) (n : ℕ) → (n ≡ 0 → ⊥) → fileRefusal host file ≡ n → r .refusal ≡ n → r .span ≡ 0
+    → r .loads .count ≡ 0
+    → CheckedBy host file r
+checked-no host file r n ne p e s z =
+    record {
+      refusal = e ∙ sym p;
+      span = λ h. absurd (ne (sym e ∙ h));
+      segments = λ h. absurd (ne (sym e ∙ h));
+      few = omega arith;
+      none = λ h. (s, ap (λ (k : ℕ). take k (r .loads .list)) z);
+    }
+
+pub checked-yes :
+    (host : Bool) (file : List ℕ) (r : Placed) → fileRefusal host file ≡ 0 → r .refusal ≡ 0 → r .span ≡ objectSpan host file
+    → segmentsIn (r .loads) ≡ segmentsOf host file
+    → r .loads .count ≤ 16
+    → CheckedBy host file r
+checked-yes host file r p e s l f =
+    record { refusal = e ∙ sym p; span = λ h. s; segments = λ h. l; few = f; none = λ h. absurd (h e) }
 
 -- ---- what placing leaves
 
@@ -100,91 +147,99 @@ module _ (host : Bool) (file entry : List ℕ) where
   unfolding placedPart
   part-placed z = rw (eq-eqb _ _ z)
 
-  pub part-kept : (placeRefusal host (length entry) file ≡ 0 → ⊥) → placedPart host file entry ≡ entry
+  part-kept : (placeRefusal host (length entry) file ≡ 0 → ⊥) → placedPart host file entry ≡ entry
   unfolding placedPart
   part-kept ne = rw (ne-eqb _ _ ne)
 
-pub refused-by :
-    (host : Bool) (file part : List ℕ) (r : Placed) (n : ℕ) → (n ≡ 0 → ⊥) → placeRefusal host (length part) file ≡ n → r .refusal ≡ n
-    → r .span ≡ 0
-    → r .loads .count ≡ 0
-    → PlacedBy host file part part r
-refused-by host file part r n ne p e s z =
-    record {
-      refusal = e ∙ sym p;
-      part = sym (part-kept host file part (λ h. ne (sym p ∙ h)));
-      span = λ h. absurd (ne (sym e ∙ h));
-      segments = λ h. absurd (ne (sym e ∙ h));
-      few = omega arith;
-      none = λ h. (s, ap (λ (k : ℕ). take k (r .loads .list)) z);
-    }
+  -- what writing the runs leaves
+  runs-placed : fileRefusal host file ≡ 0
+      → writeRuns file (runsOf host file) entry ≡ patch entry 0 (objectSpan host file) (objectBytes host file)
+  runs-placed z =
+      let e : objectSpan host file - 0 ≡ objectSpan host file = omega arith in
+      written file 0 (runsOf host file) (objectSpan host file) entry (tiled-object host file z)
+      ∙ (ap (λ (k : ℕ). patch entry 0 k (from 0 (saidBy file (runsOf host file)))) e
+      ∙ patch-same entry 0 (objectSpan host file) (from 0 (saidBy file (runsOf host file))) (objectBytes host file)
+      (λ k h. ap (saidBy file (runsOf host file)) (omega arith) ∙ runs-say host file z k h))
 
-pub placed-by :
-    (host : Bool) (file entry exit : List ℕ) (r : Placed) → placeRefusal host (length entry) file ≡ 0 → r .refusal ≡ 0
-    → exit ≡ patch entry 0 (objectSpan host file) (objectBytes host file)
-    → r .span ≡ objectSpan host file
-    → segmentsIn (r .loads) ≡ segmentsOf host file
-    → r .loads .count ≤ 16
-    → PlacedBy host file entry exit r
-placed-by host file entry exit r p e x s l f =
-    record {
-      refusal = e ∙ sym p;
-      part = x ∙ sym (part-placed host file entry p);
-      span = λ h. s;
-      segments = λ h. l;
-      few = f;
-      none = λ h. absurd (h e);
-    }
+  module _ (r : Placed) (c : CheckedBy host file r) where
+    pub placed-refused : (r .refusal ≡ 0 → ⊥) → PlacedBy host file entry entry r
+    placed-refused ne =
+        let p : placeRefusal host (length entry) file ≡ fileRefusal host file = place-file host file (length entry) (λ z. ne (c .refusal ∙ z)) in
+        record {
+          refusal = c .refusal ∙ sym p;
+          part = sym (part-kept (λ h. ne (c .refusal ∙ (sym p ∙ h))));
+          span = c .span;
+          segments = c .segments;
+          few = c .few;
+          none = c .none;
+        }
+
+    module _ (z : r .refusal ≡ 0) where
+      pub placed-eight :
+          (q : Placed) → length entry < r .span → q .refusal ≡ 8 → q .span ≡ 0 → q .loads .count ≡ 0 → PlacedBy host file entry entry q
+      placed-eight q h e s k =
+          let p : placeRefusal host (length entry) file ≡ 8 = place-eight host file (length entry) (sym (c .refusal) ∙ z) (omega (arith, c .span z)) in
+          record {
+            refusal = e ∙ sym p;
+            part = sym (part-kept (λ (g : placeRefusal host (length entry) file ≡ 0). omega (arith, p, g)));
+            span = λ g. absurd (omega (arith, e, g));
+            segments = λ g. absurd (omega (arith, e, g));
+            few = omega (arith, k);
+            none = λ g. (s, ap (λ (n : ℕ). take n (q .loads .list)) k);
+          }
+
+      pub placed-runs : {exit : List ℕ} → r .span ≤ length entry → exit ≡ writeRuns file (runsOf host file) entry → PlacedBy host file entry exit r
+      placed-runs {exit} h x =
+          let f : fileRefusal host file ≡ 0 = sym (c .refusal) ∙ z in
+          let p : placeRefusal host (length entry) file ≡ 0 = place-none host file (length entry) f (omega (arith, c .span z)) in
+          record {
+            refusal = z ∙ sym p;
+            part = x ∙ (runs-placed f ∙ sym (part-placed p));
+            span = c .span;
+            segments = c .segments;
+            few = c .few;
+            none = c .none;
+          }
 
 -- ---- the host
 
-module _ (file entry : List ℕ) (z : headerRefusal file ≡ 0) where
-  pub host-seven : (length file % pageSize ≡ 0 → ⊥) → placeRefusal true (length entry) file ≡ 7
-  host-seven ne = refusal-seven true file (length entry) z (ne-eqb (length file % pageSize) 0 ne)
+module _ (file : List ℕ) (z : headerRefusal file ≡ 0) where
+  pub host-seven : (length file % pageSize ≡ 0 → ⊥) → fileRefusal true file ≡ 7
+  host-seven ne = refusal-seven true file z (ne-eqb (length file % pageSize) 0 ne)
 
-  module _ (whole : length file % pageSize ≡ 0) where
-    pub host-eight : length entry < length file → placeRefusal true (length entry) file ≡ 8
-    unfolding objectSpan
-    host-eight h = refusal-eight true file (length entry) z (eq-eqb (length file % pageSize) 0 whole) h
+  pub host-checked : (r : Placed) → length file % pageSize ≡ 0 → r .refusal ≡ 0 → r .span ≡ length file → r .loads .count ≡ 0 → CheckedBy true file r
+  unfolding objectSpan segmentsOf
+  host-checked r whole e s k =
+      checked-yes true file r (refusal-none true file z (eq-eqb (length file % pageSize) 0 whole)) e s (ap (λ (n : ℕ). take n (r .loads .list)) k)
+      (omega (arith, k))
 
-    pub host-placed :
-        (r : Placed) {exit : List ℕ} → length file ≤ length entry → exit ≡ patch entry 0 (length file) (from 0 (mem file))
-        → r .refusal ≡ 0
-        → r .span ≡ length file
-        → r .loads .count ≡ 0
-        → PlacedBy true file entry exit r
-    unfolding objectSpan objectBytes segmentsOf
-    host-placed r {exit} h x e s k =
-        placed-by true file entry exit r (refusal-none true file (length entry) z (eq-eqb (length file % pageSize) 0 whole) h) e
-        (x ∙ patch-same entry 0 (length file) (from 0 (mem file)) (mem file) (λ k l. ap (mem file) (omega arith))) s
-        (ap (λ (n : ℕ). take n (r .loads .list)) k) (omega arith)
+pub host-runs : (file entry : List ℕ) {exit : List ℕ} → exit ≡ patch entry 0 (length file) (from 0 (mem file)) → exit ≡ writeRuns file (runsOf true file) entry
+unfolding runsOf writeRuns
+host-runs file entry x =
+    let z : length file ≡ length file - 0 = omega arith in
+    x ∙ (ap (λ (k : ℕ). patch entry 0 k (from 0 (mem file))) z ∙ sym (write-between file 0 (length file) (fileFrom 0) [] entry))
 
 -- ---- the program or a library
 
-module _ (file entry : List ℕ) (z : headerRefusal file ≡ 0) where
-  pub file-seven : segmentsOk file (loadsOf file) ≡ false → placeRefusal false (length entry) file ≡ 7
-  file-seven e = refusal-seven false file (length entry) z e
+module _ (file : List ℕ) (l : Loads) (loaded : SegmentsIn (loadsOf file) l) (z : headerRefusal file ≡ 0) where
+  pub file-seven : segmentsOk file (loadsOf file) ≡ false → fileRefusal false file ≡ 7
+  file-seven e = refusal-seven false file z e
 
-  module _ (l : Loads) (loaded : SegmentsIn (loadsOf file) l) (ok : segmentsOk file (loadsOf file) ≡ true) {span : ℕ} (is : span ≡ spanOf (segmentsIn l)) where
-    span-is : span ≡ objectSpan false file
-    unfolding objectSpan
-    span-is = is ∙ ap (λ (ss : List Segment). spanOf ss) (ok-table file (loadsOf file) l loaded ok)
+  pub file-checked :
+      (r : Placed) → segmentsOk file (loadsOf file) ≡ true → r .refusal ≡ 0 → r .span ≡ spanOf (segmentsIn l) → r .loads ≡ l → CheckedBy false file r
+  unfolding objectSpan segmentsOf
+  file-checked r ok e s k =
+      checked-yes false file r (refusal-none false file z ok) e
+      (s ∙ ap (λ (ss : List Segment). spanOf ss) (ok-table file (loadsOf file) l loaded ok))
+      (ap (λ (t : Loads). segmentsIn t) k ∙ ok-table file (loadsOf file) l loaded ok) (rw k (ok-count file (loadsOf file) l loaded ok))
 
-    pub file-eight : length entry < span → placeRefusal false (length entry) file ≡ 8
-    file-eight h = refusal-eight false file (length entry) z ok (omega (arith, span-is))
+module _ (file : List ℕ) (l : Loads) (same : segmentsIn l ≡ segmentsOf false file) where
+  pub file-every : fileRefusal false file ≡ 0 → every (segmentOk (length file)) (segmentsIn l) ≡ true
+  unfolding segmentsOf
+  file-every z = rw same (fine file (passed-seven false file z) .0)
 
-    pub file-placed :
-        (r : Placed) {exit : List ℕ} → span ≤ length entry
-        → exit ≡ patch entry 0 span (placeSegments file (segmentsIn l) (λ _. 0))
-        → r .refusal ≡ 0
-        → r .span ≡ span
-        → r .loads ≡ l
-        → PlacedBy false file entry exit r
-    unfolding objectBytes segmentsOf placedOf
-    file-placed r {exit} h x e s k =
-        placed-by false file entry exit r (refusal-none false file (length entry) z ok (omega (arith, span-is))) e
-        (x
-        ∙ (ap (λ (n : ℕ). patch entry 0 n (placeSegments file (segmentsIn l) (λ _. 0))) span-is
-        ∙ ap (λ (ss : List Segment). patch entry 0 (objectSpan false file) (placeSegments file ss (λ _. 0))) (ok-table file (loadsOf file) l loaded ok)))
-        (s ∙ span-is) (ap (λ (t : Loads). segmentsIn t) k ∙ ok-table file (loadsOf file) l loaded ok)
-        (rw k (ok-count file (loadsOf file) l loaded ok))
+  pub file-runs :
+      (entry : List ℕ) {exit : List ℕ} → exit ≡ writeRuns file (runsFrom (length file) 0 (byAddress (segmentsIn l))) entry
+      → exit ≡ writeRuns file (runsOf false file) entry
+  unfolding segmentsOf runsOf
+  file-runs entry x = x ∙ ap (λ (ss : List Segment). writeRuns file (runsFrom (length file) 0 (byAddress ss)) entry) same

@@ -4,6 +4,7 @@ pub mod ProgramHeader
 pub mod TableBytes
 pub mod Segments
 pub mod Placed
+pub mod Runs
 pub mod DynamicArray
 pub mod DynamicTags
 pub mod DynamicFields

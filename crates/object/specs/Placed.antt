@@ -32,12 +32,23 @@ objectBytes host file = pick host (mem file) (placedOf file)
 abbrev pub objectImage : Bool → List ℕ → List ℕ
 objectImage host file = tab (objectSpan host file) (objectBytes host file)
 
+-- refusals 4 to 7, by the file alone
+unfoldable pub fileRefusal : Bool → List ℕ → ℕ
+fileRefusal host file =
+    after (headerRefusal file) (require (pick host (eqb (length file % pageSize) 0) (segmentsOk file (loadsOf file))) 7 0)
+
 -- refusals 4 to 8, where `room` bytes are left in the arena
 unfoldable pub placeRefusal : Bool → ℕ → List ℕ → ℕ
-placeRefusal host room file =
-    after (headerRefusal file)
-    (require (pick host (eqb (length file % pageSize) 0) (segmentsOk file (loadsOf file))) 7
-    (require (leb (objectSpan host file) room) 8 0))
+placeRefusal host room file = after (fileRefusal host file) (require (leb (objectSpan host file) room) 8 0)
+
+-- what the header checks answer
+pub record CheckedBy (host : Bool) (file : List ℕ) (r : Placed) : Type 0 where
+  pub refusal : r .refusal ≡ fileRefusal host file
+  pub span : r .refusal ≡ 0 → r .span ≡ objectSpan host file
+  pub segments : r .refusal ≡ 0 → segmentsIn (r .loads) ≡ segmentsOf host file
+  pub few : r .loads .count ≤ 16
+  -- refused: no span, no segments
+  pub none : (r .refusal ≡ 0 → ⊥) → (r .span ≡ 0) × (segmentsIn (r .loads) ≡ [])
 
 -- what placing leaves of the part of the arena that it is lent: the span's bytes are the placed ones, all others as they were; where it
 -- refuses, every byte is as it was

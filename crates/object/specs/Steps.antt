@@ -2,6 +2,7 @@
 -- join it to the definitions of specs/.
 pub mod LoadTable
 pub mod WritableRange
+pub mod WriteRuns
 pub mod LastZero
 pub mod Slots
 pub mod RecordBounds

@@ -1,14 +1,18 @@
 // One object, from its file: port of objects/object_data/mod.rs (`from_file`, `from_base`).
 ghost use mathlib.Core.Path.{_≡_};
 ghost use mathlib.Core.Bool.{true, false};
+ghost use Prim.Native.Nat.{_≤_};
 ghost use Rattle.object.specs.Header.{headerRefusal};
-ghost use Rattle.object.specs.Placed.{PlacedBy};
+ghost use Rattle.object.specs.Steps.LoadTable.{segmentsIn};
+ghost use Rattle.object.specs.Placed.{segmentsOf, fileRefusal, CheckedBy, PlacedBy};
+ghost use Rattle.object.specs.Runs.{runsOf};
+ghost use Rattle.object.specs.Steps.WriteRuns.{writeRuns};
 ghost use Rattle.object.specs.Loaded.{LoadedBy};
 use crate::dynamic_fields::Read;
 use crate::program_header::Loads;
 
-// The answer of placing: a refusal of 4 to 8 with no span and no segments, or 0 with the span and the load segments, of which the host has
-// none.
+// The answer of the header checks, and of placing: a refusal with no span and no segments, or 0 with the span and the load segments, of
+// which the host has none.
 pub struct Placed {
     pub refusal: u32,
     pub span: usize,
@@ -25,19 +29,15 @@ fn refused(number: u32) -> Placed
     }
 }
 
-// The host, of which refusals 4 to 6 were passed: copied whole.
-fn place_host(part: &mut [u8], file: &[u8]) -> Placed
+// The host, of which refusals 4 to 6 were passed.
+fn check_host(file: &[u8]) -> Placed
     requires { ⌜ headerRefusal (now file) ≡ 0 ⌝ }
-    ensures { λ r. ⌜ PlacedBy true (now (file .entry)) (now (part .entry)) (now (part .exit)) r ⌝ }
+    ensures { λ r. ⌜ CheckedBy true (now (file .entry)) r ⌝ }
 {
     let n = file.len();
     if n % 4096 != 0 {
         return refused(7);
     }
-    if part.len() < n {
-        return refused(8);
-    }
-    words::bytes::copy(part, 0, file, 0, n);
     Placed {
         refusal: 0,
         span: n,
@@ -45,20 +45,16 @@ fn place_host(part: &mut [u8], file: &[u8]) -> Placed
     }
 }
 
-// The program or a library, of which refusals 4 to 6 were passed: its segments.
-fn place_file(part: &mut [u8], file: &[u8]) -> Placed
+// The program or a library, of which refusals 4 to 6 were passed.
+fn check_file(file: &[u8]) -> Placed
     requires { ⌜ headerRefusal (now file) ≡ 0 ⌝ }
-    ensures { λ r. ⌜ PlacedBy false (now (file .entry)) (now (part .entry)) (now (part .exit)) r ⌝ }
+    ensures { λ r. ⌜ CheckedBy false (now (file .entry)) r ⌝ }
 {
     let l = crate::program_header::read_loads(file);
     if !crate::segments::segments_ok(file, l) {
         return refused(7);
     }
     let span = crate::segments::span_of(l, file.len());
-    if part.len() < span {
-        return refused(8);
-    }
-    crate::segments::place_segments(part, file, l, span);
     Placed {
         refusal: 0,
         span: span,
@@ -66,18 +62,47 @@ fn place_file(part: &mut [u8], file: &[u8]) -> Placed
     }
 }
 
-// Checks an object by its headers and places it at the start of `part`, the arena from the object's offset to its end.
-pub fn place(part: &mut [u8], file: &[u8], host: bool) -> Placed
-    ensures { λ r. ⌜ PlacedBy host (now (file .entry)) (now (part .entry)) (now (part .exit)) r ⌝ }
+// Checks an object by its headers, which its file alone decides: refusals 4 to 7.
+pub fn check_headers(file: &[u8], host: bool) -> Placed
+    ensures { λ r. ⌜ CheckedBy host (now (file .entry)) r ⌝ }
 {
     let number = crate::header::header_refusal(file);
     if number != 0 {
         return refused(number);
     }
     if host {
-        return place_host(part, file);
+        return check_host(file);
     }
-    place_file(part, file)
+    check_file(file)
+}
+
+// Writes the runs of an object whose headers were checked at the start of `part`, and no other byte.
+pub fn place_runs(part: &mut [u8], file: &[u8], host: bool, l: Loads)
+    requires { ⌜ (fileRefusal host (now file) ≡ 0) × (segmentsIn l ≡ segmentsOf host (now file)) × (l .count ≤ 16) ⌝ }
+    ensures { λ _. ⌜ now (part .exit) ≡ writeRuns (now (file .entry)) (runsOf host (now (file .entry))) (now (part .entry)) ⌝ }
+{
+    if host {
+        words::bytes::copy(part, 0, file, 0, file.len());
+        return;
+    }
+    crate::segments::place_segments(part, file, l);
+}
+
+// Checks an object by its headers and places it at the start of `part`, the arena from the object's offset to its end.
+pub fn place(part: &mut [u8], file: &[u8], host: bool) -> Placed
+    ensures { λ r. ⌜ PlacedBy host (now (file .entry)) (now (part .entry)) (now (part .exit)) r ⌝ }
+{
+    let p = check_headers(file, host);
+    if p.refusal != 0 {
+        return p;
+    }
+    let span = p.span;
+    if part.len() < span {
+        return refused(8);
+    }
+    let l = p.loads;
+    place_runs(part, file, host, l);
+    p
 }
 
 // Checks an object, places it at the start of `part`, the arena from the object's offset to its end, and reads its record: refusals 4 to 12.

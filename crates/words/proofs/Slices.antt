@@ -171,32 +171,6 @@ module _
         ∙ (ap (λ (k : ℕ). patch xs at k (from start (mem src))) (omega arith)
         ∙ patch-room xs at n room (from start (mem src)) l fits)))
 
--- a copy of `a` bytes goes on by `b` more
-pub copy-on :
-    (xs src : List ℕ) (at start a b : ℕ) {ys zs : List ℕ} → ys ≡ patch xs at a (from start (mem src))
-    → zs ≡ patch ys (at + a) b (from (start + a) (mem src))
-    → zs ≡ patch xs at (a + b) (from start (mem src))
-copy-on xs src at start a b e g =
-    g
-    ∙ (ap (λ (ys : List ℕ). patch ys (at + a) b (from (start + a) (mem src))) e
-    ∙ patch-join xs at a b (from start (mem src)) (from (start + a) (mem src)) (from start (mem src)) (λ k h. refl)
-    (λ k h. ap (mem src) (omega arith)))
-
--- through a block
-pub copy-block :
-    (xs src block : List ℕ) (at start a b : ℕ) {ys block′ zs : List ℕ} → ys ≡ patch xs at a (from start (mem src)) → b ≤ length block
-    → block′ ≡ patch block 0 b (from (start + a) (mem src))
-    → zs ≡ patch ys (at + a) b (mem block′)
-    → zs ≡ patch xs at (a + b) (from start (mem src))
-copy-block xs src block at start a b {ys} {block′} {zs} e l f g =
-    copy-on xs src at start a b e (g ∙ patch-same ys (at + a) b (mem block′) (from (start + a) (mem src)) held)
-  where
-    held : (k : ℕ) → k < b → mem block′ k ≡ mem src (start + a + k)
-    held k h =
-        ap (λ (bs : List ℕ). mem bs k) f
-        ∙ (mem-patch-at block 0 b (from (start + a) (mem src)) k (omega arith)
-        ∙ (write-in (mem block) 0 b (from (start + a) (mem src)) k (omega arith) ∙ ap (mem src) (omega arith)))
-
 -- one store is a write of one byte, and one more goes on where the others ended
 pub patch-one : (xs : List ℕ) (at v : ℕ) → set xs at v ≡ patch xs at 1 (λ _. v)
 unfolding mem

@@ -297,8 +297,9 @@ pub fn clear_words(s: &mut [u32])
     }
 }
 
-// `n` bytes of `src` from `start` to the places of `dst` from `at`, all of them in the slices, one by one.
-fn copy_few(dst: &mut [u8], at: usize, src: &[u8], start: usize, n: usize)
+// `n` bytes of `src` from `start` to the places of `dst` from `at`, all of them in the slices. The compiler makes it a loop over vectors,
+// which is as fast as memcpy (docs/BENCHMARKS.md, "ii").
+fn copy_part(dst: &mut [u8], at: usize, src: &[u8], start: usize, n: usize)
     requires { ⌜ (at + n ≤ length (now dst)) × (start + n ≤ length (now src)) ⌝ }
     ensures { λ _. ⌜ now (dst .exit) ≡ patch (now (dst .entry)) at n (from start (mem (now (src .entry)))) ⌝ }
 {
@@ -307,59 +308,6 @@ fn copy_few(dst: &mut [u8], at: usize, src: &[u8], start: usize, n: usize)
         dst[at + i] = src[start + i];
         i += 1;
     }
-}
-
-// A block's worth of bytes of `src` from `start`.
-fn fetch_block(block: &mut [u8; 16384], src: &[u8], start: usize)
-    requires { ⌜ (length (now block) ≡ 16384) × (start + 16384 ≤ length (now src)) ⌝ }
-    ensures { λ _. ⌜ now (block .exit) ≡ patch (now (block .entry)) 0 16384 (from start (mem (now (src .entry)))) ⌝ }
-{
-    let mut j = 0;
-    while j < 16384 {
-        block[j] = src[start + j];
-        j += 1;
-    }
-}
-
-// The bytes of a block to the places of `dst` from `at`.
-fn put_block(dst: &mut [u8], at: usize, block: &[u8; 16384])
-    requires { ⌜ (length (now block) ≡ 16384) × (at + 16384 ≤ length (now dst)) ⌝ }
-    ensures { λ _. ⌜ now (dst .exit) ≡ patch (now (dst .entry)) at 16384 (mem (now (block .entry))) ⌝ }
-{
-    let mut j = 0;
-    while j < 16384 {
-        dst[at + j] = block[j];
-        j += 1;
-    }
-}
-
-// `n` blocks of `src` from `start` to the places of `dst` from `at`, all of them in the slices. A block is a local array, which no slice
-// overlaps: so its loops become copies of memory.
-fn copy_blocks(dst: &mut [u8], at: usize, src: &[u8], start: usize, n: usize)
-    requires { ⌜ (at + 16384 * n ≤ length (now dst)) × (start + 16384 * n ≤ length (now src)) ⌝ }
-    ensures { λ _. ⌜ now (dst .exit) ≡ patch (now (dst .entry)) at (16384 * n) (from start (mem (now (src .entry)))) ⌝ }
-{
-    if n == 0 {
-        return;
-    }
-    let mut block = [0u8; 16384];
-    let mut i = 0;
-    while i < n {
-        fetch_block(&mut block, src, start + 16384 * i);
-        put_block(dst, at + 16384 * i, &block);
-        i += 1;
-    }
-}
-
-// `n` bytes of `src` from `start` to the places of `dst` from `at`, all of them in the slices: by blocks, and what is left one by one.
-fn copy_part(dst: &mut [u8], at: usize, src: &[u8], start: usize, n: usize)
-    requires { ⌜ (at + n ≤ length (now dst)) × (start + n ≤ length (now src)) ⌝ }
-    ensures { λ _. ⌜ now (dst .exit) ≡ patch (now (dst .entry)) at n (from start (mem (now (src .entry)))) ⌝ }
-{
-    let blocks = n / 16384;
-    let k = 16384 * blocks;
-    copy_blocks(dst, at, src, start, blocks);
-    copy_few(dst, at + k, src, start + k, n - k);
 }
 
 // `n` bytes of `src` from `start`, zeros past its end, to the places of `dst` from `at`.

@@ -158,6 +158,7 @@ fn measure(set: &Set, rust: &mut Rust, seconds: f64) {
             if !alone {
                 figures.add("rust relocate", time(2));
                 figures.add("rust load and relocate", time(0) + time(2));
+                make_ready(set, room);
                 let mut fresh = Pages::new(set.arena);
                 figures.add("port bind, fresh arena", nanoseconds(|| assert_eq!(bind(set, fresh.bytes(), &mut report), Ok(()))));
             }
@@ -166,11 +167,16 @@ fn measure(set: &Set, rust: &mut Rust, seconds: f64) {
             figures.add("rust queries", time(1));
             figures.add("rust load and queries", time(0) + time(1));
         }
-        if label == "ii" || program {
+        let placing = label == "ii" || label.starts_with("ii-");
+        if placing || program {
             let length = set.bytes.len();
             make_ready(set, room);
             figures.add("memcpy", nanoseconds(|| black_box(&mut room[..length]).copy_from_slice(black_box(&set.bytes))));
-            if !program {
+            if placing {
+                make_ready(set, room);
+                let mut fresh = Pages::new(length);
+                let fresh = fresh.bytes();
+                figures.add("memcpy, fresh arena", nanoseconds(|| black_box(&mut *fresh).copy_from_slice(black_box(&set.bytes))));
                 make_ready(set, room);
                 // The work of a bind that has nothing to check and nothing to relocate.
                 figures.add("memset, then memcpy", nanoseconds(|| {

@@ -59,10 +59,10 @@ abbrev pub LoadedAt : Bool → List ℕ → ℕ → List ℕ → List ℕ → Lo
 LoadedAt host file off before after (loads.the-variants.Refused n) = (n ≡ objectRefusal host (length before - off) file) × (n ≡ 0 → ⊥)
 LoadedAt host file off before after (loads.the-variants.At s) = SeatedAt host file off before after s
 
--- what loading a list of files leaves
+-- what loading a list of files leaves: their bytes, and zeros elsewhere, whatever the arena held before
 pub record LoadedFiles (files : List File) (before after seats : List ℕ) (r : Met) : Type 0 where
   pub met : metBy r ≡ loadFrom (length before) 0 0 files
-  pub arena : r ≡ Passed → mem after ≡ placeFiles files 0 (mem before)
+  pub arena : r ≡ Passed → mem after ≡ placeFiles files 0 (λ _. 0)
   pub table : r ≡ Passed → Seated seats 0 0 files
   pub filtered : r ≡ Passed → Filtered seats (length files)
 

@@ -10,17 +10,15 @@ use Rattle.binder.proofs.bind.bind.Statement.{statement}
 use Rattle.binder.proofs.bind.bind.Tie as tie
 
 bind-set-requires : tie.Need-bind-set-requires
-bind-set-requires c κs =
-    let a = c .before .before .before .before .before .before .before .before .before .before .before .before .before .before .before .args in (
-      c .before .before .parts-of .ensures .few,
-      many-parts (c .before .before .parts-of .ensures) (now (a .bytes)),
-      c .before .before .before .before .before .before .before .before .before .clear .ensures ∙ ap (λ (n : ℕ). replicate n 0) (sym (c .before .before .before .before .before .before .before .before .before .clear .kept .0)),
-      c .before .before .before .before .before .clear-words .ensures ∙ ap (λ (n : ℕ). replicate n 0) (sym (c .before .before .before .before .before .clear-words .kept .0)),
-    )
+bind-set-requires c κs = (
+  c .before .before .parts-of .ensures .few,
+  many-parts (c .before .before .parts-of .ensures) (now (c .before .before .before .before .before .before .before .before .before .before .before .args .bytes)),
+  c .before .before .before .before .before .clear-words .ensures ∙ ap (λ (n : ℕ). replicate n 0) (sym (c .before .before .before .before .before .clear-words .kept .0)),
+)
 
 same-length : tie.Need-same-length
 same-length c =
-    c .before .before .before .before .settle .kept .1 .0 ∙ c .before .before .before .before .before .before .before .before .before .before .before .bind-set .kept .1 .1 .0 ∙ c .before .before .before .before .before .before .before .before .before .before .before .before .before .before .before .before .before .before .before .before .before .clear .kept .0
+    c .before .before .before .before .settle .kept .1 .0 ∙ c .before .before .before .before .before .before .before .before .before .before .before .bind-set .kept .1 .1 .0
 
 same-length-2 : tie.Need-same-length-2
 same-length-2 c =
@@ -28,18 +26,16 @@ same-length-2 c =
 
 returns : tie.Need-returns
 returns c =
-    let a = c .before .before .before .before .before .before .before .before .before .before .before .before .before .before .before .before .before .before .before .before .before .before .before .before .before .before .before .args in
-    let n : length (c .before .before .before .before .before .before .before .before .before .before .before .before .before .before .before .before .before .before .before .before .before .clear .last .0) ≡ length (now (a .arena)) = c .before .before .before .before .before .before .before .before .before .before .before .before .before .before .before .before .before .before .before .before .before .clear .kept .0 in
+    let a = c .before .before .before .before .before .before .before .before .before .before .before .before .before .before .before .before .before .before .before .before .before .before .before .args in
     let w : length (c .before .before .before .before .before .before .before .before .before .before .before .before .before .before .before .before .before .clear-words .last .0) ≡ length (now (a .report)) = c .before .before .before .before .before .before .before .before .before .before .before .before .before .before .before .before .before .clear-words .kept .0 in
     c .before .before .before .before .settle .ensures
-    ∙ (rw (n, w) at (c .before .before .before .before .before .before .before .before .before .before .before .bind-set .ensures)
+    ∙ (rw w at (c .before .before .before .before .before .before .before .before .before .before .before .bind-set .ensures)
     ∙ bind-handed (now (a .sheet)) (now (a .bytes)) (length (now (a .arena))) (a .address) _ (c .before .before .before .before .before .before .before .before .before .before .before .before .before .before .parts-of .ensures) (a .policy) (length (now (a .report))))
 
 pub bind-spec : {M : Type 1} → statement M
 bind-spec =
     tie.close
     (tie.spec
-    (λ c κs. search needs)
     (λ c κs. search needs)
     (λ c κs. search needs)
     bind-set-requires

@@ -43,7 +43,7 @@ returns-2 c =
     let a = c .before .before .before .before .before .before .before .before .before .before .before .before .before .before .before .before .before .before .before .before .before .before .args in
     bind-is (inputsIn (now (a .bytes)) (a .parts)) (a .parts .count) (now (a .arena)) (c .before .before .before .before .before .before .before .before .before .before .before .before .before .before .before .before .prepare .last .1 .1 .0) (c .before .before .before .before .before .before .before .before .before .before .before .before .before .before .before .before .prepare .last .1 .1 .1 .1 .0) (a .address)
     (c .before .before .before .before .before .before .before .before .before .before .before .before .before .before .before .before .prepare .result) (c .before .before .before .before .before .before .before .before .before .before .before .before .before .before .before .before .before .before .before .before .before .before .pre .1) (c .before .before .before .before .before .before .before .before .before .before .before .before .before .before .before .before .prepare .kept .1 .1 .0) (c .before .before .before .before .before .before .before .before .before .before .before .before .before .before .before .before .prepare .ensures) (c .before .before .before .before .before .before .before .before .before .before .before .enum-told .given .1) (c .before .before .before .before .before .before .before .before .order-of .result) (c .before .before .before .before .before .before .before .before .order-of .ensures)
-    (a .policy) (now (a .report)) (c .before .before .before .before .before .before .before .before .before .before .before .before .before .before .before .before .before .before .before .before .before .before .pre .3) _ _ _ (c .before .before .before .before .bind-in .ensures)
+    (a .policy) (now (a .report)) (c .before .before .before .before .before .before .before .before .before .before .before .before .before .before .before .before .before .before .before .before .before .before .pre .2) _ _ _ (c .before .before .before .before .bind-in .ensures)
 
 pub bind-set-spec : {M : Type 1} → statement M
 bind-set-spec =

@@ -89,17 +89,26 @@ loop-again c =
           (c .before .before .before .put-seat .ensures .1 .0 (omega (arith, c .before .before .before .before .before .before .before .before .before .before .before .before .before .before .before .before .before .before .pre .0, room))) (c .before .before .before .put-seat .ensures .1 .1 .0) (c .before .before .before .put-seat .ensures .1 .1 .1 (omega (arith, c .before .before .before .before .before .before .before .before .before .before .before .before .before .before .before .before .before .before .pre .0, room))),
     )
 
+sub-zero : tie.Need-sub-zero Inv-loop μ-loop
+sub-zero c = search (needs, c .before .before .loop .inv .2 .offset)
+
+zero-requires : tie.Need-zero-requires Inv-loop μ-loop
+zero-requires c κs = search needs
+
 same-length-3 : tie.Need-same-length-3 Inv-loop μ-loop
-same-length-3 c = search needs
+same-length-3 c =
+    c .before .before .zero .kept .0 ∙ c .before .before .before .before .before .loop .inv .2 .same
 
 same-length-4 : tie.Need-same-length-4 Inv-loop μ-loop
 same-length-4 c =
-    c .before .loop .inv .0
+    c .before .before .before .before .before .loop .inv .0
 
 returns-2 : tie.Need-returns-2 Inv-loop μ-loop
 returns-2 c =
-    let a = c .before .before .before .before .before .args in
-    load-finish (inputsIn (now (a .bytes)) (a .parts)) (now (a .arena)) (c .before .loop .arena) (c .before .loop .table) (c .before .loop .off) (c .before .loop .k) (c .before .loop .inv .2) (omega (arith, c .before .loop .inv .1, c .before .loop .inv .2 .number))
+    let a = c .before .before .before .before .before .before .before .before .before .args in
+    let l = c .before .before .before .before .before .loop in
+    load-finish (inputsIn (now (a .bytes)) (a .parts)) (now (a .arena)) (l .arena) (l .table) (l .off) (l .k) (l .inv .2) (omega (arith, l .inv .1, l .inv .2 .number)) _
+    (c .before .before .zero .ensures)
 
 pub load-all-spec : {M : Type 1} → statement M
 load-all-spec =
@@ -121,6 +130,8 @@ load-all-spec =
     add-k
     loop-less
     loop-again
+    sub-zero
+    zero-requires
     same-length-3
     same-length-4
     returns-2)

@@ -1,8 +1,7 @@
 -- `binder::query::query` meets its contract. Assumes nothing.
-use Prim.Native.Nat.{ℕ}
-use mathlib.Core.Path.{_≡_, sym, ap, _∙_}
+use mathlib.Core.Path.{_∙_}
 use denote.Ref.{now}
-use lib.ListN.{length, replicate}
+use lib.ListN.{length}
 use Rattle.binder.proofs.PrepareLaws.{many-parts}
 use Rattle.binder.proofs.QueryIs.{query-handed}
 use borrow.Author.Needs.{needs}
@@ -11,28 +10,22 @@ use Rattle.binder.proofs.query.query.Tie as tie
 
 ask-set-requires : tie.Need-ask-set-requires
 ask-set-requires c κs =
-    let a = c .before .before .before .before .before .before .before .before .before .before .args in (
-      c .before .parts-of .ensures .few,
-      many-parts (c .before .parts-of .ensures) (now (a .bytes)),
-      c .before .before .before .before .clear .ensures ∙ ap (λ (n : ℕ). replicate n 0) (sym (c .before .before .before .before .clear .kept .0)),
-    )
+    (c .before .parts-of .ensures .few, many-parts (c .before .parts-of .ensures) (now (c .before .before .before .before .before .before .args .bytes)))
 
 same-length : tie.Need-same-length
 same-length c =
-    c .before .before .ask-set .kept .1 .1 .0 ∙ c .before .before .before .before .before .before .before .clear .kept .0
+    c .before .before .ask-set .kept .1 .1 .0
 
 returns : tie.Need-returns
 returns c =
-    let a = c .before .before .before .before .before .before .before .before .before .before .before .before .before .args in
-    let n : length (c .before .before .before .before .before .before .before .clear .last .0) ≡ length (now (a .arena)) = c .before .before .before .before .before .before .before .clear .kept .0 in
-    rw n at (c .before .before .ask-set .ensures)
+    let a = c .before .before .before .before .before .before .before .before .before .args in
+    c .before .before .ask-set .ensures
     ∙ query-handed (now (a .sheet)) (now (a .bytes)) (length (now (a .arena))) (a .address) _ (c .before .before .before .before .parts-of .ensures) (a .requester) (now (a .name))
 
 pub query-spec : {M : Type 1} → statement M
 query-spec =
     tie.close
     (tie.spec
-    (λ c κs. search needs)
     (λ c κs. search needs)
     ask-set-requires
     same-length

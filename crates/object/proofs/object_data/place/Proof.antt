@@ -1,59 +1,44 @@
--- `object::object_data::place` meets its contract: a refusal by the header, else what the host's or the file's placing gives. Assumes
--- nothing.
-use mathlib.Core.Path.{_≡_, sym, _∙_}
-use borrow.Author.Needs.{needs}
-use lib.ListN.{length}
+use Rattle.object.proofs.PlaceLaws.{placed-refused, placed-eight, placed-runs}
 use denote.Ref.{now}
-use Rattle.object.specs.Header.{headerRefusal}
-use Rattle.object.proofs.PlaceLaws.{refused-by, refusal-header}
+use mathlib.Core.Path.{sym, _∙_}
+use borrow.Author.Needs.{needs}
 use Rattle.object.proofs.object_data.place.Statement.{statement}
 use Rattle.object.proofs.object_data.place.Tie as tie
 
-header-refusal-requires : tie.Need-header-refusal-requires
-header-refusal-requires c κs = search needs
+check-headers-requires : tie.Need-check-headers-requires
+check-headers-requires c κs = search needs
+
+returns : tie.Need-returns
+returns c =
+    placed-refused (c .before .before .before .before .before .args .host) (now (c .before .before .before .before .before .args .file)) (now (c .before .before .before .before .before .args .part)) _ (c .before .before .check-headers .ensures) (c .if1 .taken)
 
 refused-requires : tie.Need-refused-requires
 refused-requires c κs = search needs
 
-returns : tie.Need-returns
-returns c =
-    let a = c .before .before .before .before .before .args in
-    let ne : headerRefusal (now (a .file)) ≡ 0 → ⊥ = λ h. c .before .if1 .taken (c .before .before .header-refusal .ensures ∙ h) in
-    refused-by (a .host) (now (a .file)) (now (a .part)) _ (headerRefusal (now (a .file))) ne
-    (refusal-header (a .host) (now (a .file)) (length (now (a .part))) ne) (c .refused .ensures .0 ∙ c .before .before .header-refusal .ensures) (c .refused .ensures .1) (c .refused .ensures .2)
+returns-2 : tie.Need-returns-2
+returns-2 c =
+    placed-eight (c .before .before .before .before .before .before .before .args .host) (now (c .before .before .before .before .before .before .before .args .file)) (now (c .before .before .before .before .before .before .before .args .part)) _ (c .before .before .before .before .check-headers .ensures) (c .before .before .if1 .left) _ (c .before .if2 .taken) (c .refused .ensures .0) (c .refused .ensures .1) (c .refused .ensures .2)
 
-place-host-requires : tie.Need-place-host-requires
-place-host-requires c κs =
-    sym (c .before .before .before .header-refusal .ensures) ∙ c .before .before .if1 .left
+place-runs-requires : tie.Need-place-runs-requires
+place-runs-requires c κs =
+    let k = c .before .before .before .before .before .check-headers .ensures in
+    (sym (k .refusal) ∙ c .before .before .before .if1 .left, k .segments (c .before .before .before .if1 .left), k .few)
 
 same-length : tie.Need-same-length
 same-length c = search needs
 
-returns-2 : tie.Need-returns-2
-returns-2 c =
-    rw (c .before .before .before .before .if2 .taken) (c .before .before .place-host .ensures)
-
-place-file-requires : tie.Need-place-file-requires
-place-file-requires c κs =
-    sym (c .before .before .before .header-refusal .ensures) ∙ c .before .before .if1 .left
-
-same-length-2 : tie.Need-same-length-2
-same-length-2 c = search needs
-
 returns-3 : tie.Need-returns-3
 returns-3 c =
-    rw (c .before .before .before .before .if2 .left) (c .before .before .place-file .ensures)
+    placed-runs (c .before .before .before .before .before .before .before .before .before .before .before .args .host) (now (c .before .before .before .before .before .before .before .before .before .before .before .args .file)) (now (c .before .before .before .before .before .before .before .before .before .before .before .args .part)) _ (c .before .before .before .before .before .before .before .before .check-headers .ensures) (c .before .before .before .before .before .before .if1 .left) (c .before .before .before .before .before .if2 .left) (c .before .before .place-runs .ensures)
 
 pub place-spec : {M : Type 1} → statement M
 place-spec =
     tie.close
     (tie.spec
-    header-refusal-requires
-    refused-requires
+    check-headers-requires
     returns
-    place-host-requires
-    same-length
+    refused-requires
     returns-2
-    place-file-requires
-    same-length-2
+    place-runs-requires
+    same-length
     returns-3)

@@ -1,50 +1,74 @@
 -- `words::bytes::copy_part` meets its contract. Assumes nothing.
-use mathlib.Core.Path.{_≡_}
-use Prim.Native.Nat.{_+_, _-_, _*_, _/_}
+use mathlib.Core.Path.{_≡_, refl, sym}
+use Prim.Native.Nat.{_-_, _≤_}
 use native.Mathlib.Omega.{arith}
 use borrow.Author.Needs.{needs}
 use denote.Ref.{now}
-use Rattle.words.proofs.Slices.{copy-on}
+use lib.ListN.{length, length-set}
+use Rattle.words.specs.Memory.{mem, from, patch}
+use Rattle.words.proofs.Slices.{patch-none, patch-next}
 use Rattle.words.proofs.bytes.copy_part.Statement.{statement}
 use Rattle.words.proofs.bytes.copy_part.Tie as tie
 
-mul-k : tie.Need-mul-k
-mul-k c = search needs
+abbrev Inv-loop : tie.InvT-loop
+Inv-loop dst₀ at src start n i₀ dst i =
+    (length dst ≡ length dst₀) × (i ≤ n) × (dst ≡ patch dst₀ at i (from start (mem src)))
 
-copy-blocks-requires : tie.Need-copy-blocks-requires
-copy-blocks-requires c κs = search needs
+abbrev μ-loop : tie.MeasureT-loop
+μ-loop dst₀ at src start n i₀ dst i =
+    n - i
 
-add-copy-few : tie.Need-add-copy-few
-add-copy-few c = search needs
+loop-holds : tie.Need-loop-holds Inv-loop μ-loop
+loop-holds c =
+    (refl, omega arith, sym (patch-none _ _ _))
 
-add-copy-few-2 : tie.Need-add-copy-few-2
-add-copy-few-2 c = search needs
+add-dst : tie.Need-add-dst Inv-loop μ-loop
+add-dst c = search needs
 
-sub-copy-few : tie.Need-sub-copy-few
-sub-copy-few c = search needs
+shared-slice-read-dst : tie.Need-shared-slice-read-dst Inv-loop μ-loop
+shared-slice-read-dst c = search needs
 
-copy-few-requires : tie.Need-copy-few-requires
-copy-few-requires c κs = search needs
+add-dst-2 : tie.Need-add-dst-2 Inv-loop μ-loop
+add-dst-2 c = search needs
 
-same-length : tie.Need-same-length
-same-length c = search needs
+slice-write-dst : tie.Need-slice-write-dst Inv-loop μ-loop
+slice-write-dst c = search needs
 
-returns : tie.Need-returns
+add-i : tie.Need-add-i Inv-loop μ-loop
+add-i c = search needs
+
+loop-less : tie.Need-loop-less Inv-loop μ-loop
+loop-less c = search needs
+
+loop-again : tie.Need-loop-again Inv-loop μ-loop
+unfolding mem
+loop-again c =
+    let a = c .before .before .before .args in
+    let l = c .before .before .loop in
+    (simp length-set (l .inv .0), omega arith, patch-next (now (a .dst)) (a .at) (l .i) (from (a .start) (mem (now (a .src)))) (l .inv .2) refl)
+
+same-length : tie.Need-same-length Inv-loop μ-loop
+same-length c =
+    c .before .loop .inv .0
+
+returns : tie.Need-returns Inv-loop μ-loop
 returns c =
-    let a = c .before .before .before .before .before .before .before .before .before .before .args in
-    let k = 16384 * (a .n / 16384) in
-    let e : 16384 * (a .n / 16384) + (a .n - 16384 * (a .n / 16384)) ≡ a .n = omega arith in
-    rw e at (copy-on (now (a .dst)) (now (a .src)) (a .at) (a .start) k (a .n - k) (c .before .before .before .before .before .before .copy-blocks .ensures) (c .before .before .copy-few .ensures))
+    let e : c .before .loop .i ≡ c .before .before .args .n = omega arith in
+    rw e at (c .before .loop .inv .2)
 
 pub copy-part-spec : {M : Type 1} → statement M
 copy-part-spec =
     tie.close
     (tie.spec
-    mul-k
-    copy-blocks-requires
-    add-copy-few
-    add-copy-few-2
-    sub-copy-few
-    copy-few-requires
+    Inv-loop
+    μ-loop
+    loop-holds
+    add-dst
+    shared-slice-read-dst
+    add-dst-2
+    slice-write-dst
+    add-i
+    loop-less
+    loop-again
     same-length
     returns)
