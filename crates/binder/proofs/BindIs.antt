@@ -18,6 +18,7 @@ use Rattle.sheet.specs.Sheet.{Input, noInput, sheetOk}
 use Rattle.sheet.specs.Steps.Parts.{inputsIn, Tabled}
 use Rattle.sheet.specs.declared.sheet.Parts.{Parts}
 use Rattle.sheet.proofs.PartLaws.{handed-in}
+use Rattle.binder.specs.Setting.{Setting}
 use Rattle.binder.specs.Instance.{File, objectAt}
 use Rattle.binder.specs.Verdict.{Verdict, noFile, passed, refused, orderVerdict}
 use Rattle.binder.specs.Report.{orderWords, firstUndefined}
@@ -96,14 +97,14 @@ filled : (n : ℕ) (ws : List ℕ) → length ws ≤ n → fillOf n ws ≡ ws ++
 unfolding fills.fillOf
 filled n ws l = fits-in n n ws l (omega arith)
 
-module _ (address size : ℕ) (table : List ℕ) (hf pf : File) (fs : List File) (policy : Policy) (order : List ℕ) (words : ℕ) where
+module _ (setting : Setting) (size : ℕ) (table : List ℕ) (hf pf : File) (fs : List File) (policy : Policy) (order : List ℕ) (words : ℕ) where
   abbrev S : objects.Objs
-  S = objsOf (objectAt address) hf pf fs
+  S = objsOf (objectAt setting) hf pf fs
 
   abbrev files : List File
   files = hf ∷ (pf ∷ fs)
 
-  module _ (p : Progress) (a report : List ℕ) (ended : relocated.Ended address size table hf pf fs order words p a report) where
+  module _ (p : Progress) (a report : List ℕ) (ended : relocated.Ended setting size table hf pf fs order words p a report) where
     ends : endsBy policy p ≡ relocateVerdict S files order policy words
     unfolding endsBy relocateVerdict
     ends = go (orderVerdict S files order) refl
@@ -147,30 +148,30 @@ bytes-of (o ∷ ls) (suc j) l = bytes-of ls j (omega arith)
 
 -- refusals 1 to 12
 pub prepare-refused :
-    (os : List Input) (size address : ℕ) (policy : Policy) (words : ℕ) (m : Met) (a report : List ℕ) → metBy m ≡ setVerdict os size address
-    → (n k : ℕ) → m ≡ Refused n k → length a ≡ size → length report ≡ words → BoundSet os size address policy words a report m
+    (setting : Setting) (os : List Input) (size : ℕ) (policy : Policy) (words : ℕ) (m : Met) (a report : List ℕ) → metBy m ≡ setVerdict setting os size
+    → (n k : ℕ) → m ≡ Refused n k → length a ≡ size → length report ≡ words → BoundSet setting os size policy words a report m
 unfolding bindSet bindIn
-prepare-refused os size address policy words m a report e n k z la lr =
+prepare-refused setting os size policy words m a report e n k z la lr =
     rw (sym e ∙ ap metBy z) (settled-by size words m (refused n k) _ _ a report (ap metBy z) la lr (λ q. refused-not n k q))
 
 -- a set that was loaded
 module _
-    (address size : ℕ) (table : List ℕ) (h p : Input) (ls : List Input) (arena a : List ℕ) (r : Met) (len : length arena ≡ size)
-    (kept : length a ≡ length arena) (made : Prepared (h ∷ (p ∷ ls)) address arena a table r) (z : r ≡ Passed)
+    (setting : Setting) (size : ℕ) (table : List ℕ) (h p : Input) (ls : List Input) (arena a : List ℕ) (r : Met) (len : length arena ≡ size)
+    (kept : length a ≡ length arena) (made : Prepared setting (h ∷ (p ∷ ls)) arena a table r) (z : r ≡ Passed)
   where
-    passed-it : Ready (h ∷ (p ∷ ls)) size address
-    passed-it = subst (λ (n : ℕ). Ready (h ∷ (p ∷ ls)) n address) len (passes (h ∷ (p ∷ ls)) address arena a table r made z)
+    passed-it : Ready setting (h ∷ (p ∷ ls)) size
+    passed-it = subst (λ (n : ℕ). Ready setting (h ∷ (p ∷ ls)) n) len (passes setting (h ∷ (p ∷ ls)) arena a table r made z)
 
     abbrev fs : List File
     fs = map fileOf ls
 
     abbrev made-set : objects.Objs
-    made-set = objsOf (objectAt address) (hostFile h) (fileOf p) fs
+    made-set = objsOf (objectAt setting) (hostFile h) (fileOf p) fs
 
     many : objects.count made-set ≡ length ls + 2
     many =
         let n : length fs ≡ length ls = length-map ls fileOf in
-        omega (arith, count-is address size (hostFile h) (fileOf p) fs)
+        omega (arith, count-is setting size (hostFile h) (fileOf p) fs)
 
     not-host : (k : ℕ) → 1 ≤ k → k < length ls + 2 → getD (hostFile h ∷ (fileOf p ∷ fs)) k noFile .host ≡ false
     not-host zero l g = absurd (omega arith)
@@ -183,7 +184,7 @@ module _
     files-are (suc zero) g = refl
     files-are (suc (suc j)) g = bytes-of ls j (omega arith)
 
-    pub loaded : LoadedSet address size table (hostFile h) (fileOf p) fs
+    pub loaded : LoadedSet setting size table (hostFile h) (fileOf p) fs
     unfolding filesOf
     loaded =
         record {
@@ -196,7 +197,7 @@ module _
 
     pub placed-arena : mem a ≡ placed made-set
     unfolding filesOf
-    placed-arena = made .arena z ∙ sym (placed-is address (hostFile h) (fileOf p) fs)
+    placed-arena = made .arena z ∙ sym (placed-is setting (hostFile h) (fileOf p) fs)
 
     -- the order that the code made is the order of the set
     pub ordered :
@@ -205,24 +206,24 @@ module _
     unfolding filesOf
     ordered order o =
         let n : length ls + 2 ≡ length (h ∷ (p ∷ ls)) = omega arith in
-        order-loaded address size table a h p ls loaded
-        (λ k l. lies address size table (hostFile h) (fileOf p) fs loaded k l)
-        (λ k l. starts address size table (hostFile h) (fileOf p) fs loaded a (λ _. 0) (kept ∙ len) (made .arena z) k l)
+        order-loaded setting size table a h p ls loaded
+        (λ k l. lies setting size table (hostFile h) (fileOf p) fs loaded k l)
+        (λ k l. starts setting size table (hostFile h) (fileOf p) fs loaded a (λ _. 0) (kept ∙ len) (made .arena z) k l)
         order (subst (λ (i : ℕ). Arranged (h ∷ (p ∷ ls)) i a table order) n o)
 
     -- 14 to 20: the objects were relocated in an order that has each once
     pub bound-in :
         (policy : Policy) (words : ℕ) (order : List ℕ) → OnceEach (objects.count made-set) order → (report : List ℕ) → report ≡ replicate words 0
-        → (a′ report′ : List ℕ) (m : Met) → Relocated (h ∷ (p ∷ ls)) (length ls + 2) table order a address policy report a′ report′ m
-        → settledOf m a′ report′ ≡ bindIn (setVerdict (h ∷ (p ∷ ls)) size address) (filesOf (h ∷ (p ∷ ls))) order size address policy words
+        → (a′ report′ : List ℕ) (m : Met) → Relocated (h ∷ (p ∷ ls)) (length ls + 2) table order a (setting .address) policy report a′ report′ m
+        → settledOf m a′ report′ ≡ bindIn setting (setVerdict setting (h ∷ (p ∷ ls)) size) (filesOf (h ∷ (p ∷ ls))) order size policy words
     unfolding filesOf bindIn objectsOf
     bound-in policy words order once report zeros a′ report′ m g =
         let n : length a ≡ size = kept ∙ len in
-        let run : left (g .progress) a′ report′ ≡ runOrder address table (objects.count made-set) (h ∷ (p ∷ ls)) order (left started a report) =
+        let run : left (g .progress) a′ report′ ≡ runOrder (setting .address) table (objects.count made-set) (h ∷ (p ∷ ls)) order (left started a report) =
         rw many (g .leaves) in
-        let ended = relocated.relocated-is address size table (hostFile h) (fileOf p) fs loaded (h ∷ (p ∷ ls)) (λ k l. files-are k (omega (arith, many)))
+        let ended = relocated.relocated-is setting size table (hostFile h) (fileOf p) fs loaded (h ∷ (p ∷ ls)) (λ k l. files-are k (omega (arith, many)))
         order once words a report placed-arena n zeros (g .progress) a′ report′ run in
-        relocated-set address size table (hostFile h) (fileOf p) fs policy order words (g .progress) a′ report′ ended m (g .met)
+        relocated-set setting size table (hostFile h) (fileOf p) fs policy order words (g .progress) a′ report′ ended m (g .met)
         ∙ rw (passed-it .verdict-is)
 
     -- the order of the set does
@@ -230,39 +231,39 @@ module _
     unfolding filesOf
     in-order order o =
         subst (λ (l : List ℕ). OnceEach (objects.count made-set) l) (sym o)
-        (order-is address (hostFile h) (fileOf p) fs (namesOf (h ∷ (p ∷ ls))) (names-length h p ls ∙ sym (length-map ls fileOf)))
+        (order-is setting (hostFile h) (fileOf p) fs (namesOf (h ∷ (p ∷ ls))) (names-length h p ls ∙ sym (length-map ls fileOf)))
 
 -- whatever objects the table of parts names
 pub bind-is :
-    (os : List Input) (count : ℕ) (arena a table : List ℕ) (address : ℕ) (r : Met) → length os ≡ count → length a ≡ length arena
-    → Prepared os address arena a table r → r ≡ Passed → (order : Order) → Arranged os count a table order
+    (setting : Setting) (os : List Input) (count : ℕ) (arena a table : List ℕ) (r : Met) → length os ≡ count → length a ≡ length arena
+    → Prepared setting os arena a table r → r ≡ Passed → (order : Order) → Arranged os count a table order
     → (policy : Policy) (report : List ℕ) → report ≡ replicate (length report) 0
-    → (a′ report′ : List ℕ) (m : Met) → Relocated os count table (take (order .count) (order .list)) a address policy report a′ report′ m
-    → BoundSet os (length arena) address policy (length report) a′ report′ m
+    → (a′ report′ : List ℕ) (m : Met) → Relocated os count table (take (order .count) (order .list)) a (setting .address) policy report a′ report′ m
+    → BoundSet setting os (length arena) policy (length report) a′ report′ m
 unfolding bindSet
-bind-is [] count arena a table address r many kept made z order o policy report zeros a′ report′ m g =
-    absurd (omega (arith, passes [] address arena a table r made z .two))
-bind-is (h ∷ []) count arena a table address r many kept made z order o policy report zeros a′ report′ m g =
-    absurd (omega (arith, passes (h ∷ []) address arena a table r made z .two))
-bind-is (h ∷ (p ∷ ls)) count arena a table address r many kept made z order o policy report zeros a′ report′ m g =
+bind-is setting [] count arena a table r many kept made z order o policy report zeros a′ report′ m g =
+    absurd (omega (arith, passes setting [] arena a table r made z .two))
+bind-is setting (h ∷ []) count arena a table r many kept made z order o policy report zeros a′ report′ m g =
+    absurd (omega (arith, passes setting (h ∷ []) arena a table r made z .two))
+bind-is setting (h ∷ (p ∷ ls)) count arena a table r many kept made z order o policy report zeros a′ report′ m g =
     let c : count ≡ length ls + 2 = omega (arith, many) in
-    let same = ordered address (length arena) table h p ls arena a r refl kept made z order
+    let same = ordered setting (length arena) table h p ls arena a r refl kept made z order
     (subst (λ (n : ℕ). Arranged (h ∷ (p ∷ ls)) n a table order) c o) in
-    bound-in address (length arena) table h p ls arena a r refl kept made z policy (length report) (take (order .count) (order .list))
-    (in-order address (length arena) table h p ls arena a r refl kept made z (take (order .count) (order .list)) same) report zeros a′ report′ m
-    (subst (λ (n : ℕ). Relocated (h ∷ (p ∷ ls)) n table (take (order .count) (order .list)) a address policy report a′ report′ m) c g)
+    bound-in setting (length arena) table h p ls arena a r refl kept made z policy (length report) (take (order .count) (order .list))
+    (in-order setting (length arena) table h p ls arena a r refl kept made z (take (order .count) (order .list)) same) report zeros a′ report′ m
+    (subst (λ (n : ℕ). Relocated (h ∷ (p ∷ ls)) n table (take (order .count) (order .list)) a (setting .address) policy report a′ report′ m) c g)
     ∙ ap
-    (λ (l : List ℕ). bindIn (setVerdict (h ∷ (p ∷ ls)) (length arena) address) (filesOf (h ∷ (p ∷ ls))) l (length arena) address policy (length report))
+    (λ (l : List ℕ). bindIn setting (setVerdict setting (h ∷ (p ∷ ls)) (length arena)) (filesOf (h ∷ (p ∷ ls))) l (length arena) policy (length report))
     same
 
 -- ---- the objects of a sheet
 
 pub bind-handed :
-    (sheet bytes : List ℕ) (size address : ℕ) (p : Parts) → Tabled sheet (length bytes) p → (policy : Policy) (words : ℕ)
-    → bindSet (inputsIn bytes p) size address policy words ≡ bindOf sheet bytes size address policy words
+    (setting : Setting) (sheet bytes : List ℕ) (size : ℕ) (p : Parts) → Tabled sheet (length bytes) p → (policy : Policy) (words : ℕ)
+    → bindSet setting (inputsIn bytes p) size policy words ≡ bindOf setting sheet bytes size policy words
 unfolding bindSet bindOf bindIn outcomeOf
-bind-handed sheet bytes size address p t policy words =
+bind-handed setting sheet bytes size p t policy words =
     ⊎-elim
-    (λ (ok : sheetOk sheet (length bytes) ≡ true). rw (handed-in t ok bytes, handed sheet bytes size address p t ok))
-    (λ (bad : sheetOk sheet (length bytes) ≡ false). rw (not-handed sheet bytes size address p t bad, refused-sheet sheet bytes size address p t bad))
+    (λ (ok : sheetOk sheet (length bytes) ≡ true). rw (handed-in t ok bytes, handed setting sheet bytes size p t ok))
+    (λ (bad : sheetOk sheet (length bytes) ≡ false). rw (not-handed setting sheet bytes size p t bad, refused-sheet setting sheet bytes size p t bad))
     (decide (sheetOk sheet (length bytes)))

@@ -29,6 +29,7 @@ use Rattle.object.specs.declared.entry_symbol.CheckedSymbol.{CheckedSymbol}
 use Rattle.object.specs.declared.entry_symbol.CheckedSymbol.the-variants.{Refused, Checked}
 use Rattle.object.specs.declared.hash_tables.Definition.{Definition}
 use Rattle.binder.specs.Instance.{File, fileImage, fileRecord, symOf, entryBy}
+use Rattle.binder.specs.Setting.{Setting}
 use Rattle.binder.specs.Verdict.{Verdict, passed, verdict, writtenRefusal, copyOk, copyRefusal, symbolThen, refusalBy}
 use Rattle.binder.specs.Report.{reportWord, unresolved, undefinedBy, isPassed}
 use Rattle.scope.specs.Steps.Seats.{seatAt}
@@ -92,22 +93,25 @@ weak-keeps last y k i p report e =
 strong-keeps : (last : ℕ) (y : Symbol) (q : Noted) → eqb (bindingOf y) 2 ≡ false → keepsWeak last y q ≡ q
 strong-keeps last y (noted p report) e = rw e
 
-module _ (address size : ℕ) (table : List ℕ) (h pr : File) (fs : List File) where
+module _ (setting : Setting) (size : ℕ) (table : List ℕ) (h pr : File) (fs : List File) where
+  abbrev address : ℕ
+  address = setting .address
+
   abbrev S : Objs
-  S = set address size table h pr fs
+  S = set setting size table h pr fs
 
   pub written-then :
-      (a b c : List ℕ) (k : ℕ) → Written address size table h pr fs a b k → Written address size table h pr fs b c k
-      → Written address size table h pr fs a c k
+      (a b c : List ℕ) (k : ℕ) → Written setting size table h pr fs a b k → Written setting size table h pr fs b c k
+      → Written setting size table h pr fs a c k
   written-then a b c k x y = record { steady = y .steady; others = λ j l ne. y .others j l ne ∙ x .others j l ne }
 
-  module _ (L : LoadedSet address size table h pr fs) (k : ℕ) (lo : 1 ≤ k) (hi : k < count (set address size table h pr fs))
+  module _ (L : LoadedSet setting size table h pr fs) (k : ℕ) (lo : 1 ≤ k) (hi : k < count (set setting size table h pr fs))
       (n : ℕ) (a₀ : List ℕ) where
     abbrev t : Turn
     t = turnOf address table k
 
     abbrev f : File
-    f = fileAt address size table h pr fs k
+    f = fileAt setting size table h pr fs k
 
     abbrev r : Record
     r = fileRecord f
@@ -138,26 +142,26 @@ module _ (address size : ℕ) (table : List ℕ) (h pr : File) (fs : List File) 
     pub record Doing (ws : List ℕ) (u : ℕ) (m : Mem) (p : Progress) (a report : List ℕ) : Type 0 where
       pub going : Going ws u n p report
       pub memory : mem a ≡ m
-      pub written : Written address size table h pr fs a₀ a k
+      pub written : Written setting size table h pr fs a₀ a k
       pub kept : RightlyKept p
 
     seat-offset : (d : ℕ) → d < count S → seatAt table d .offset ≡ (obj S d) .offset
-    seat-offset d l = ap (λ (s : Seat). s .offset) ((lies address size table h pr fs L d l) .seat)
+    seat-offset d l = ap (λ (s : Seat). s .offset) ((lies setting size table h pr fs L d l) .seat)
 
     base-is : t .base ≡ (obj S k) .base
-    base-is = (lies address size table h pr fs L k hi) .base
+    base-is = (lies setting size table h pr fs L k hi) .base
 
     module _ (ws : List ℕ) (u : ℕ) (m : Mem) (p : Progress) (a report : List ℕ) (d : Doing ws u m p a report) where
-      steady : Steady address size table h pr fs a
+      steady : Steady setting size table h pr fs a
       steady = d .written .steady
 
       -- a write to the object
       wrote-to :
           (q w : ℕ) (g : ℕ → ℕ) → inWritable (r .segments) q w ≡ true
-          → Written address size table h pr fs a₀ (patch a (t .offset + q) w g) k
+          → Written setting size table h pr fs a₀ (patch a (t .offset + q) w g) k
           × (mem (patch a (t .offset + q) w g) ≡ write m ((obj S k) .offset + q) w g)
       wrote-to q w g e =
-          let x = write-steady address size table h pr fs L a steady k hi q w e g in
+          let x = write-steady setting size table h pr fs L a steady k hi q w e g in
           rw (seat-offset k hi) (
             written-then a₀ a (patch a ((obj S k) .offset + q) w g) k (d .written) (x .0),
             x .1 ∙ ap (λ (m : Mem). write m ((obj S k) .offset + q) w g) (d .memory),
@@ -165,7 +169,7 @@ module _ (address size : ℕ) (table : List ℕ) (h pr : File) (fs : List File) 
 
       -- no refusal, and no word
       pub plain :
-          (v : Verdict) (m′ : Mem) (a′ : List ℕ) → v ≡ passed → Written address size table h pr fs a₀ a′ k → mem a′ ≡ m′
+          (v : Verdict) (m′ : Mem) (a′ : List ℕ) → v ≡ passed → Written setting size table h pr fs a₀ a′ k → mem a′ ≡ m′
           → Ran size n v (Doing (ws ++ []) (earlier u 0) m′) (left p a′ report)
       plain v m′ a′ e w same =
           ran-passed size n v (Doing (ws ++ []) (earlier u 0) m′) p a′ report e (d .going .refusal) (w .steady .size-is)
@@ -175,7 +179,7 @@ module _ (address size : ℕ) (table : List ℕ) (h pr : File) (fs : List File) 
       -- no refusal, and what was noted
       with-words :
           (v : Verdict) (vs : List ℕ) (u′ : ℕ) (m′ : Mem) (a′ : List ℕ) (q : Noted) → v ≡ passed → NotedGoing vs u′ n q
-          → KeptAs (p .last) (p .address) q → Written address size table h pr fs a₀ a′ k → mem a′ ≡ m′
+          → KeptAs (p .last) (p .address) q → Written setting size table h pr fs a₀ a′ k → mem a′ ≡ m′
           → Ran size n v (Doing vs u′ m′) (withArena a′ q)
       with-words v vs u′ m′ a′ (noted p′ report′) e g z w same =
           ran-passed size n v (Doing vs u′ m′) p′ a′ report′ e (g .refusal) (w .steady .size-is) (going-length vs u′ n p′ report′ g)
@@ -184,7 +188,7 @@ module _ (address size : ℕ) (table : List ℕ) (h pr : File) (fs : List File) 
       -- no refusal, no word, and an answer is kept
       with-answer :
           (v : Verdict) (last found : ℕ) (m′ : Mem) (a′ : List ℕ) → v ≡ passed → RightlyKept (keeps last found p)
-          → Written address size table h pr fs a₀ a′ k → mem a′ ≡ m′
+          → Written setting size table h pr fs a₀ a′ k → mem a′ ≡ m′
           → Ran size n v (Doing (ws ++ []) (earlier u 0) m′) (left (keeps last found p) a′ report)
       with-answer v last found m′ a′ e z w same =
           ran-passed size n v (Doing (ws ++ []) (earlier u 0) m′) (keeps last found p) a′ report e (d .going .refusal) (w .steady .size-is)
@@ -257,7 +261,7 @@ module _ (address size : ℕ) (table : List ℕ) (h pr : File) (fs : List File) 
           (symbol-case image r index))
         where
           same : checkedSymbol (imageIn a t) r index ≡ checkedSymbol image r index
-          same = (readings address size table h pr fs L a steady k hi) .symbols index
+          same = (readings setting size table h pr fs L a steady k hi) .symbols index
 
       name-same :
           (index : ℕ) → symbolOk (isTableOf r) image (r .symbols) (r .strings) index ≡ true
@@ -265,7 +269,7 @@ module _ (address size : ℕ) (table : List ℕ) (h pr : File) (fs : List File) 
           → nameOf (imageIn a t) r (symbolAt image (r .symbols) index) ≡ symbolName image (r .symbols) (r .strings) index
       name-same index ok e =
           ap (nameOf (imageIn a t) r) e
-          ∙ (name-is (imageIn a t) r index ∙ (readings address size table h pr fs L a steady k hi) .names index ok)
+          ∙ (name-is (imageIn a t) r index ∙ (readings setting size table h pr fs L a steady k hi) .names index ok)
 
       -- ---- a write with a search
 
@@ -387,7 +391,7 @@ module _ (address size : ℕ) (table : List ℕ) (h pr : File) (fs : List File) 
               (λ ok same.
               symbolic-by (soughtFor address table (count S) t a (nameOf (imageIn a t) r y))
               (ap (λ (x : List ℕ). scopedOf (soughtFor address table (count S) t a x)) (name-same (e .symbol) ok same)
-              ∙ searches address size table h pr fs L a steady k hi name)
+              ∙ searches setting size table h pr fs L a steady k hi name)
               (inWritable (r .segments) (e .place) (f .width)) refl)
 
         -- ---- 5
@@ -423,8 +427,8 @@ module _ (address size : ℕ) (table : List ℕ) (h pr : File) (fs : List File) 
               → copyFits (length a) t (e .place) (seatAt table o) x many ≡ copyOk S k (e .place) o (symOf x) many
           fits-is w =
               ap (λ (s : ℕ). copyFits s t (e .place) (seatAt table o) x many) (steady .size-is)
-              ∙ copy-tests address size table h pr fs L k o hi ol (e .place) many
-              (writable-inside address size table h pr fs k (e .place) many w) x
+              ∙ copy-tests setting size table h pr fs L k o hi ol (e .place) many
+              (writable-inside setting size table h pr fs k (e .place) many w) x
 
           copy-writable :
               (b : Bool) → inWritable (r .segments) (e .place) many ≡ b
@@ -497,7 +501,7 @@ module _ (address size : ℕ) (table : List ℕ) (h pr : File) (fs : List File) 
             rw (name-is image r (e .symbol))
             (copy-by (resolveCopy S name) (soughtForCopy address table (count S) a (nameOf (imageIn a t) r y))
             (ap (λ (x : List ℕ). scopedOf (soughtForCopy address table (count S) a x)) (name-same (e .symbol) ok same)
-            ∙ copy-searches address size table h pr fs L a steady name)
+            ∙ copy-searches setting size table h pr fs L a steady name)
             (λ o z v q. resolveCopy-range S name o z v q .0)))
 
         -- ---- any entry

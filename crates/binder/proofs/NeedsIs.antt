@@ -27,6 +27,7 @@ use Rattle.object.specs.Loaded.{objectRefusal}
 use Rattle.object.proofs.RefusalLaws.{required, after-zero}
 use Rattle.sheet.specs.Sheet.{Input, noInput}
 use Rattle.binder.specs.Instance.{File, fileImage, fileRecord, objectAt}
+use Rattle.binder.specs.Setting.{Setting}
 use Rattle.binder.specs.Verdict.{passed, verdict, noFile}
 use Rattle.binder.specs.Steps.Prepared.{loadFrom}
 use Rattle.binder.specs.Bind.{filesOf, namesOf}
@@ -125,14 +126,14 @@ module _
     order-read r made = made .order few-needs ∙ order-are
 
 -- in the words of Steady: every object lies at its seat, and its bytes are as they were placed
-module _ (address size : ℕ) (table arena : List ℕ) (h p : Input) (ls : List Input) where
+module _ (setting : Setting) (size : ℕ) (table arena : List ℕ) (h p : Input) (ls : List Input) where
   abbrev objects : ℕ
-  objects = count (objsOf (objectAt address) (hostFile h) (fileOf p) (map fileOf ls))
+  objects = count (objsOf (objectAt setting) (hostFile h) (fileOf p) (map fileOf ls))
 
   pub order-loaded :
-      LoadedSet address size table (hostFile h) (fileOf p) (map fileOf ls)
-      → ((k : ℕ) → k < objects → steady.At address size table (hostFile h) (fileOf p) (map fileOf ls) k)
-      → ((k : ℕ) → k < objects → PlacedAt address size table (hostFile h) (fileOf p) (map fileOf ls) arena k)
+      LoadedSet setting size table (hostFile h) (fileOf p) (map fileOf ls)
+      → ((k : ℕ) → k < objects → steady.At setting size table (hostFile h) (fileOf p) (map fileOf ls) k)
+      → ((k : ℕ) → k < objects → PlacedAt setting size table (hostFile h) (fileOf p) (map fileOf ls) arena k)
       → (r : Order) → Arranged (h ∷ (p ∷ ls)) (length (h ∷ (p ∷ ls))) arena table r
       → take (r .count) (r .list) ≡ setOrder (filesOf (h ∷ (p ∷ ls))) (namesOf (h ∷ (p ∷ ls)))
   unfolding filesOf
@@ -141,4 +142,4 @@ module _ (address size : ℕ) (table arena : List ℕ) (h p : Input) (ls : List 
       (λ k a b. bytes k (many k b))
     where
       many : (k : ℕ) → k < length (h ∷ (p ∷ ls)) → k < objects
-      many k b = omega (arith, count-is address size (hostFile h) (fileOf p) (map fileOf ls), length-map ls fileOf)
+      many k b = omega (arith, count-is setting size (hostFile h) (fileOf p) (map fileOf ls), length-map ls fileOf)

@@ -14,6 +14,7 @@ use Rattle.model.specs.Relocation.{bound}
 use Rattle.binder.specs.declared.Policy.{Policy}
 use Rattle.binder.specs.declared.Answer.the-variants.{Bound}
 use Rattle.sheet.specs.Sheet.{Input, sheetOk, setOf, arenaOk, twinOf}
+use Rattle.binder.specs.Setting.{Setting}
 use Rattle.binder.specs.Verdict.{Verdict, passed, refused, first, verdict, loadVerdict, orderVerdict}
 use Rattle.binder.specs.Steps.Prepared.{loadFrom}
 use Rattle.binder.specs.Report.{orderWords}
@@ -56,40 +57,40 @@ abbrev pub orderIn : List Input → List ℕ
 orderIn os = setOrder (filesOf os) (namesOf os)
 
 -- the objects of a set
-abbrev pub objectsIn : ℕ → List Input → Objs
-objectsIn address os = objectsOf address (filesOf os)
+abbrev pub objectsIn : Setting → List Input → Objs
+objectsIn setting os = objectsOf setting (filesOf os)
 
-pub record Passed (sheet bytes : List ℕ) (size address : ℕ) (words : ℕ) (arena report : List ℕ) : Type 0 where
+pub record Passed (setting : Setting) (sheet bytes : List ℕ) (size words : ℕ) (arena report : List ℕ) : Type 0 where
   pub sheet-ok : sheetOk sheet (length bytes) ≡ true
-  pub arena-ok : arenaOk size address ≡ true
+  pub arena-ok : arenaOk size (setting .address) ≡ true
   pub no-twin : twinOf (setOf sheet bytes) ≡ 0
   pub loads : loadFrom size 0 0 (filesOf (setOf sheet bytes)) ≡ passed
-  pub relocates : orderVerdict (objectsIn address (setOf sheet bytes)) (filesOf (setOf sheet bytes)) (orderIn (setOf sheet bytes)) ≡ passed
-  pub arena-is : arena ≡ tab size (bound (objectsIn address (setOf sheet bytes)) (orderIn (setOf sheet bytes)))
+  pub relocates : orderVerdict (objectsIn setting (setOf sheet bytes)) (filesOf (setOf sheet bytes)) (orderIn (setOf sheet bytes)) ≡ passed
+  pub arena-is : arena ≡ tab size (bound (objectsIn setting (setOf sheet bytes)) (orderIn (setOf sheet bytes)))
   pub report-is :
       report
-      ≡ orderWords (objectsIn address (setOf sheet bytes)) (filesOf (setOf sheet bytes)) (orderIn (setOf sheet bytes))
-      ++ replicate (words - length (orderWords (objectsIn address (setOf sheet bytes)) (filesOf (setOf sheet bytes)) (orderIn (setOf sheet bytes)))) 0
+      ≡ orderWords (objectsIn setting (setOf sheet bytes)) (filesOf (setOf sheet bytes)) (orderIn (setOf sheet bytes))
+      ++ replicate (words - length (orderWords (objectsIn setting (setOf sheet bytes)) (filesOf (setOf sheet bytes)) (orderIn (setOf sheet bytes)))) 0
 
 pub bound-passed :
-    (sheet bytes : List ℕ) (size address : ℕ) (policy : Policy) (words : ℕ) (arena report : List ℕ)
-    → bindOf sheet bytes size address policy words ≡ outcome Bound arena report
-    → Passed sheet bytes size address words arena report
+    (setting : Setting) (sheet bytes : List ℕ) (size : ℕ) (policy : Policy) (words : ℕ) (arena report : List ℕ)
+    → bindOf setting sheet bytes size policy words ≡ outcome Bound arena report
+    → Passed setting sheet bytes size words arena report
 unfolding bindOf bindIn prepareVerdict relocateVerdict
-bound-passed sheet bytes size address policy words arena report e =
+bound-passed setting sheet bytes size policy words arena report e =
     let os : List Input = setOf sheet bytes in
-    let S : Objs = objectsIn address os in
+    let S : Objs = objectsIn setting os in
     let o = bound-outcome size words _ _ _ arena report e in
-    let p = first-passed (prepareVerdict sheet bytes size address) (relocateVerdict S (filesOf os) (orderIn os) policy words) (o .0) in
+    let p = first-passed (prepareVerdict setting sheet bytes size) (relocateVerdict S (filesOf os) (orderIn os) policy words) (o .0) in
     let a = first-passed (unless (sheetOk sheet (length bytes)) 1 0) _ (p .0) in
-    let b = first-passed (unless (arenaOk size address) 2 0) _ (a .1) in
+    let b = first-passed (unless (arenaOk size (setting .address)) 2 0) _ (a .1) in
     let c = first-passed (unless (eqb (twinOf os) 0) 3 (twinOf os)) (loadVerdict S size 0 (filesOf os)) (b .1) in
     let d = first-passed (orderVerdict S (filesOf os) (orderIn os)) _ (p .1) in
     record {
       sheet-ok = unless-passed (sheetOk sheet (length bytes)) 1 0 (a .0);
-      arena-ok = unless-passed (arenaOk size address) 2 0 (b .0);
+      arena-ok = unless-passed (arenaOk size (setting .address)) 2 0 (b .0);
       no-twin = eqb-true (twinOf os) 0 (unless-passed (eqb (twinOf os) 0) 3 (twinOf os) (c .0));
-      loads = sym (loads-same address size (filesOf os)) ∙ c .1;
+      loads = sym (loads-same setting size (filesOf os)) ∙ c .1;
       relocates = d .0;
       arena-is = o .1;
       report-is = o .2;

@@ -32,6 +32,7 @@ use Rattle.sheet.specs.Sheet.{Input, noInput, sheetOk, setOf, arenaOk, twinOf}
 use Rattle.sheet.specs.Steps.Parts.{inputsIn, Tabled}
 use Rattle.sheet.specs.declared.sheet.Parts.{Parts}
 use Rattle.sheet.proofs.PartLaws.{handed-in, two-parts}
+use Rattle.binder.specs.Setting.{Setting}
 use Rattle.binder.specs.Instance.{File, fileRecord}
 use Rattle.binder.specs.Verdict.{passed, refused, first, verdict, noFile}
 use Rattle.binder.specs.Bind.{filesOf, unless, prepareVerdict}
@@ -250,10 +251,10 @@ module _ (os : List Input) (a₀ a table : List ℕ) (off k : ℕ) (h : Loading 
 
 -- ---- preparing: refusals 1 to 3, then loading
 
-module _ (os : List Input) (address : ℕ) (arena : List ℕ) where
+module _ (setting : Setting) (os : List Input) (arena : List ℕ) where
   -- a refusal before anything is loaded
   refuses :
-      (n k : ℕ) → setVerdict os (length arena) address ≡ refused n k → (arena′ table : List ℕ) → Prepared os address arena arena′ table (Refused n k)
+      (n k : ℕ) → setVerdict setting os (length arena) ≡ refused n k → (arena′ table : List ℕ) → Prepared setting os arena arena′ table (Refused n k)
   refuses n k e arena′ table =
       record {
         met = sym e;
@@ -262,23 +263,23 @@ module _ (os : List Input) (address : ℕ) (arena : List ℕ) where
         filtered = λ z. refused-not n k (ap metBy z);
       }
 
-  pub prepare-one : length os < 2 → (arena′ table : List ℕ) → Prepared os address arena arena′ table (Refused 1 0)
+  pub prepare-one : length os < 2 → (arena′ table : List ℕ) → Prepared setting os arena arena′ table (Refused 1 0)
   unfolding setVerdict unless
   prepare-one l = refuses 1 0 (rw (lt-leb 2 (length os) l))
 
   module _ (two : 2 ≤ length os) where
-    pub prepare-two : arenaOk (length arena) address ≡ false → (arena′ table : List ℕ) → Prepared os address arena arena′ table (Refused 2 0)
+    pub prepare-two : arenaOk (length arena) (setting .address) ≡ false → (arena′ table : List ℕ) → Prepared setting os arena arena′ table (Refused 2 0)
     unfolding setVerdict unless
     prepare-two e = refuses 2 0 (rw (le-leb 2 (length os) two, e))
 
-    module _ (ok : arenaOk (length arena) address ≡ true) where
-      pub prepare-three : (t : ℕ) → t ≡ twinOf os → (t ≡ 0 → ⊥) → (arena′ table : List ℕ) → Prepared os address arena arena′ table (Refused 3 t)
+    module _ (ok : arenaOk (length arena) (setting .address) ≡ true) where
+      pub prepare-three : (t : ℕ) → t ≡ twinOf os → (t ≡ 0 → ⊥) → (arena′ table : List ℕ) → Prepared setting os arena arena′ table (Refused 3 t)
       unfolding setVerdict unless
       prepare-three t e ne = refuses 3 t (rw (le-leb 2 (length os) two, ok, ← e, ne-eqb t 0 ne))
 
       pub prepare-loads :
           twinOf os ≡ 0 → (arena′ table : List ℕ) (r : Met) → LoadedFiles (filesOf os) arena arena′ table r
-          → Prepared os address arena arena′ table r
+          → Prepared setting os arena arena′ table r
       unfolding setVerdict unless
       prepare-loads none arena′ table r h =
           record {
@@ -289,55 +290,55 @@ module _ (os : List Input) (address : ℕ) (arena : List ℕ) where
           }
 
 -- a set that passed
-pub record Ready (os : List Input) (size address : ℕ) : Type 0 where
-  pub verdict-is : setVerdict os size address ≡ passed
+pub record Ready (setting : Setting) (os : List Input) (size : ℕ) : Type 0 where
+  pub verdict-is : setVerdict setting os size ≡ passed
   pub two : 2 ≤ length os
   pub loads : loadFrom size 0 0 (filesOf os) ≡ passed
-  pub end : address + size ≤ 2 ^ 63
+  pub end : setting .address + size ≤ 2 ^ 63
   pub small : size ≤ 2 ^ 28
 
-pub ready : (os : List Input) (size address : ℕ) → setVerdict os size address ≡ passed → Ready os size address
+pub ready : (setting : Setting) (os : List Input) (size : ℕ) → setVerdict setting os size ≡ passed → Ready setting os size
 unfolding setVerdict sheets.arenaOk
-ready os size address e =
+ready setting os size e =
     let a = first-passed (unless (leb 2 (length os)) 1 0) _ e in
-    let b = first-passed (unless (arenaOk size address) 2 0) _ (a .1) in
+    let b = first-passed (unless (arenaOk size (setting .address)) 2 0) _ (a .1) in
     let c = first-passed (unless (eqb (twinOf os) 0) 3 (twinOf os)) (loadFrom size 0 0 (filesOf os)) (b .1) in
-    let p = both-true (eqb (address % 4096) 0) _ (unless-passed (arenaOk size address) 2 0 (b .0)) in
+    let p = both-true (eqb (setting .address % 4096) 0) _ (unless-passed (arenaOk size (setting .address)) 2 0 (b .0)) in
     let q = both-true (leb size (2 ^ 28)) _ (p .1) in
     record {
       verdict-is = e;
       two = leb-true 2 (length os) (unless-passed (leb 2 (length os)) 1 0 (a .0));
       loads = c .1;
-      end = leb-true (address + size) (2 ^ 63) (q .1);
+      end = leb-true (setting .address + size) (2 ^ 63) (q .1);
       small = leb-true size (2 ^ 28) (q .0);
     }
 
 pub passes :
-    (os : List Input) (address : ℕ) (arena arena′ table : List ℕ) (r : Met) → Prepared os address arena arena′ table r → r ≡ Passed
-    → Ready os (length arena) address
-passes os address arena arena′ table r made z = ready os (length arena) address (sym (made .met) ∙ ap metBy z)
+    (setting : Setting) (os : List Input) (arena arena′ table : List ℕ) (r : Met) → Prepared setting os arena arena′ table r → r ≡ Passed
+    → Ready setting os (length arena)
+passes setting os arena arena′ table r made z = ready setting os (length arena) (sym (made .met) ∙ ap metBy z)
 
 -- the words of every filter of a set that was prepared
 pub all-filtered :
-    (os : List Input) (count address : ℕ) (arena arena′ table : List ℕ) (r : Met) → Prepared os address arena arena′ table r → r ≡ Passed
+    (setting : Setting) (os : List Input) (count : ℕ) (arena arena′ table : List ℕ) (r : Met) → Prepared setting os arena arena′ table r → r ≡ Passed
     → length os ≡ count → Filtered table count
-all-filtered os count address arena arena′ table r made z many = λ k l. made .filtered z k (omega (arith, many))
+all-filtered setting os count arena arena′ table r made z many = λ k l. made .filtered z k (omega (arith, many))
 
 -- a table of parts names as many objects as it counts
 pub many-parts : {sheet : List ℕ} {n : ℕ} {p : Parts} → Tabled sheet n p → (bytes : List ℕ) → length (inputsIn bytes p) ≡ p .count
 many-parts t bytes = ap length (t .same bytes) ∙ t .count bytes
 
 -- the objects of a sheet: none where it is refused
-module _ (sheet bytes : List ℕ) (size address : ℕ) (p : Parts) (t : Tabled sheet (length bytes) p) where
-  pub not-handed : sheetOk sheet (length bytes) ≡ false → setVerdict (inputsIn bytes p) size address ≡ refused 1 0
+module _ (setting : Setting) (sheet bytes : List ℕ) (size : ℕ) (p : Parts) (t : Tabled sheet (length bytes) p) where
+  pub not-handed : sheetOk sheet (length bytes) ≡ false → setVerdict setting (inputsIn bytes p) size ≡ refused 1 0
   unfolding setVerdict unless
   not-handed bad = rw (t .same bytes, bad)
 
-  pub refused-sheet : sheetOk sheet (length bytes) ≡ false → prepareVerdict sheet bytes size address ≡ refused 1 0
+  pub refused-sheet : sheetOk sheet (length bytes) ≡ false → prepareVerdict setting sheet bytes size ≡ refused 1 0
   unfolding prepareVerdict unless
   refused-sheet bad = rw bad
 
-  pub handed : sheetOk sheet (length bytes) ≡ true → setVerdict (setOf sheet bytes) size address ≡ prepareVerdict sheet bytes size address
+  pub handed : sheetOk sheet (length bytes) ≡ true → setVerdict setting (setOf sheet bytes) size ≡ prepareVerdict setting sheet bytes size
   unfolding setVerdict prepareVerdict unless
   handed ok =
       let two : 2 ≤ length (setOf sheet bytes) = omega (
@@ -347,4 +348,4 @@ module _ (sheet bytes : List ℕ) (size address : ℕ) (p : Parts) (t : Tabled s
         ap length (handed-in t ok bytes),
         ap length (t .same bytes),
       ) in
-      rw (ok, le-leb 2 (length (setOf sheet bytes)) two, loads-same address size (filesOf (setOf sheet bytes)))
+      rw (ok, le-leb 2 (length (setOf sheet bytes)) two, loads-same setting size (filesOf (setOf sheet bytes)))

@@ -26,6 +26,7 @@ use Rattle.scope.specs.declared.seats.Seat.{Seat}
 use Rattle.binder.specs.declared.turn.Turn.{Turn}
 use Rattle.binder.specs.declared.relr.Moved.{Moved}
 use Rattle.binder.specs.Instance.{File, fileImage, fileRecord, placesOf, namedWords}
+use Rattle.binder.specs.Setting.{Setting}
 use Rattle.binder.specs.Verdict.{Verdict, passed, refused, first, verdict, wordRefusal, wordsVerdict}
 use Rattle.binder.specs.Steps.Relocating.{imageIn, far, cutTo32, Summed, summed, Shifted, shifted, wordAdded, addBits, bitsAdded, addRelr, thenRelr, addRelrs, turnOf}
 use Rattle.binder.proofs.Steady as steady
@@ -76,21 +77,24 @@ abbrev Sits : Location → ℕ → Type 0
 Sits none l = l ≡ far
 Sits (word w) l = l ≡ min w far
 
-module _ (address size : ℕ) (table : List ℕ) (h p : File) (fs : List File) where
+module _ (setting : Setting) (size : ℕ) (table : List ℕ) (h p : File) (fs : List File) where
+  abbrev address : ℕ
+  address = setting .address
+
   abbrev S : Objs
-  S = steady.set address size table h p fs
+  S = steady.set setting size table h p fs
 
   abbrev file : ℕ → File
-  file k = steady.fileAt address size table h p fs k
+  file k = steady.fileAt setting size table h p fs k
 
   abbrev LoadedSet : Type 0
-  LoadedSet = steady.LoadedSet address size table h p fs
+  LoadedSet = steady.LoadedSet setting size table h p fs
 
   abbrev Steady : List ℕ → Type 0
-  Steady a = steady.Steady address size table h p fs a
+  Steady a = steady.Steady setting size table h p fs a
 
   abbrev Written : List ℕ → List ℕ → ℕ → Type 0
-  Written a b k = steady.Written address size table h p fs a b k
+  Written a b k = steady.Written setting size table h p fs a b k
 
   -- ---- writes one after another
 
@@ -163,8 +167,8 @@ module _ (address size : ℕ) (table : List ℕ) (h p : File) (fs : List File) w
         go : (b : Bool) → inWritable (r .segments) q 8 ≡ b → b ≡ false
         go false e = refl
         go true e =
-            let i = laws.writable-inside address size table h p fs k q 8 e in
-            let f = laws.lies address size table h p fs L k member .fits in
+            let i = laws.writable-inside setting size table h p fs k q 8 e in
+            let f = laws.lies setting size table h p fs L k member .fits in
             let s = L .small in
             absurd (omega arith)
 
@@ -197,10 +201,10 @@ module _ (address size : ℕ) (table : List ℕ) (h p : File) (fs : List File) w
         → Written a (wordAdded t q a) k × (mem (wordAdded t q a) ≡ addWord (obj S k) q (mem a))
     unfolding wordAdded addWord
     added-is q a s e =
-        let at = laws.lies address size table h p fs L k member in
+        let at = laws.lies setting size table h p fs L k member in
         let offset-is : t .offset ≡ (obj S k) .offset = ap (λ (x : Seat). x .offset) (at .seat) in
         let g : ℕ → ℕ = byteOf (sum64 (leAt 8 (mem a) ((obj S k) .offset + q)) ((obj S k) .base)) in
-        rw (at .base, offset-is) (laws.write-steady address size table h p fs L a s k member q 8 e g)
+        rw (at .base, offset-is) (laws.write-steady setting size table h p fs L a s k member q 8 e g)
 
     ran-word : (w : Word) (q : ℕ) (a : List ℕ) → Same w q → Steady a → inWritable (r .segments) q 8 ≡ true → Ran k (w ∷ []) 0 a (wordAdded t q a)
     unfolding wordsVerdict verdict addWords placesOf require
@@ -305,7 +309,7 @@ module _ (address size : ℕ) (table : List ℕ) (h p : File) (fs : List File) w
     -- entry `i` of the arena is that of the placed bytes
     entry-is : (a : List ℕ) → Steady a → (i : ℕ) → i < r .relrs → relrAt (imageIn a t) (r .relr) i ≡ relrAt (fileImage (file k)) (r .relr) i
     entry-is a s i l =
-        let e = laws.readings address size table h p fs L a s k member .relrs (L .others k low member) in
+        let e = laws.readings setting size table h p fs L a s k member .relrs (L .others k low member) in
         rw (zero-add i) at (relr-at (imageIn a t) (fileImage (file k)) (r .relr) 0 (r .relrs) e i l)
 
     ran-entries :
@@ -356,7 +360,7 @@ module _ (address size : ℕ) (table : List ℕ) (h p : File) (fs : List File) w
       → RelrEnded k z a a′
   unfolding namedWords
   relr-is L k low member a s z a′ e =
-      let few = laws.counts address size table h p fs L k low member .2 in
+      let few = laws.counts setting size table h p fs L k low member .2 in
       let n : cutTo32 (fileRecord (file k) .relrs) ≡ fileRecord (file k) .relrs = omega arith in
       let u = ran-entries L k low member (fileRecord (file k) .relrs) 0 (omega arith) none far refl a s z a′ (rw n at e) in
       record { verdict-is = u .verdict-is; done = u .done; length-is = u .length-is }

@@ -14,6 +14,7 @@ use Rattle.object.specs.Invariant.{SameReadings}
 use Rattle.object.specs.Placed.{objectSpan}
 use Rattle.object.specs.declared.hash_tables.Definition.{Definition}
 use Rattle.binder.specs.Instance.{File, fileImage, fileRecord, symOf, objectAt}
+use Rattle.binder.specs.Setting.{Setting}
 use Rattle.binder.specs.Verdict.{passed, noFile, copyOk}
 use Rattle.scope.specs.Steps.Seats.{seatAt}
 use Rattle.binder.specs.Steps.Prepared.{loadFrom, seatOf, placeFiles, Seated}
@@ -21,7 +22,10 @@ use Rattle.scope.specs.Steps.ScopeCode.{imageAt}
 use Rattle.binder.specs.Steps.ScopeModel.{scopedOf}
 use Rattle.binder.specs.Steps.Relocating.{turnOf, imageIn, soughtFor, soughtForCopy, againRefusal, againRecord, copyFits}
 
-module _ (address size : ℕ) (table : List ℕ) (h p : File) (fs : List File) where
+module _ (setting : Setting) (size : ℕ) (table : List ℕ) (h p : File) (fs : List File) where
+  abbrev address : ℕ
+  address = setting .address
+
   abbrev pub files : List File
   files = h ∷ (p ∷ fs)
 
@@ -29,7 +33,7 @@ module _ (address size : ℕ) (table : List ℕ) (h p : File) (fs : List File) w
   fileAt k = getD files k noFile
 
   abbrev pub set : Objs
-  set = objsOf (objectAt address) h p fs
+  set = objsOf (objectAt setting) h p fs
 
   -- refusals 2 and 4 to 12 were passed, and the table has the seats
   pub record LoadedSet : Type 0 where
@@ -50,7 +54,7 @@ module _ (address size : ℕ) (table : List ℕ) (h p : File) (fs : List File) w
 
   -- where object `k` lies
   pub record At (k : ℕ) : Type 0 where
-    pub is : obj set k ≡ objectAt address (fileAt k) ((obj set k) .offset)
+    pub is : obj set k ≡ objectAt setting (fileAt k) ((obj set k) .offset)
     pub fits : (obj set k) .offset + objectSpan (fileAt k .host) (fileAt k .bytes) ≤ size
     pub seat : seatAt table k ≡ seatOf (fileAt k) ((obj set k) .offset)
     -- base = address + offset, without wrapping

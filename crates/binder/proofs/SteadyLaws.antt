@@ -41,6 +41,7 @@ use Rattle.object.proofs.Ranges.{spares, seg-in, below-at, table-inside}
 use Rattle.object.proofs.RefusalLaws.{required, after-zero}
 use Rattle.object.proofs.ReadingsSame.{invariance}
 use Rattle.binder.specs.Instance.{File, fileImage, fileRecord, objectAt}
+use Rattle.binder.specs.Setting.{Setting}
 use Rattle.binder.specs.Verdict.{noFile, copyOk}
 use Rattle.scope.specs.Steps.Seats.{seatAt}
 use Rattle.binder.specs.Steps.Prepared.{seatOf, placeFiles}
@@ -166,9 +167,12 @@ copy-same a t size off place start value n span fits ends = ap (both a) (go (leb
         rw (le-leb (off + place + n) size fits, le-leb (start + value + n) size (omega arith)) refl
     go false e = refl
 
-module _ (address size : ℕ) (table : List ℕ) (h p : File) (fs : List File) where
+module _ (setting : Setting) (size : ℕ) (table : List ℕ) (h p : File) (fs : List File) where
+  abbrev address : ℕ
+  address = setting .address
+
   abbrev set : Objs
-  set = objsOf (objectAt address) h p fs
+  set = objsOf (objectAt setting) h p fs
 
   abbrev fileAt : ℕ → File
   fileAt k = getD (h ∷ (p ∷ fs)) k noFile
@@ -177,21 +181,21 @@ module _ (address size : ℕ) (table : List ℕ) (h p : File) (fs : List File) w
   spanAt k = objectSpan (fileAt k .host) (fileAt k .bytes)
 
   abbrev LoadedSet : Type 0
-  LoadedSet = steady.LoadedSet address size table h p fs
+  LoadedSet = steady.LoadedSet setting size table h p fs
 
   abbrev Steady : List ℕ → Type 0
-  Steady = steady.Steady address size table h p fs
+  Steady = steady.Steady setting size table h p fs
 
   -- ---- where an object lies
 
-  sits : LoadedSet → (m : Mem) (k : ℕ) → k < count set → Sits address size table (placeFiles (h ∷ (p ∷ fs)) 0 m) k (fileAt k) (obj set k)
-  sits s m k l = sits-at address size table h p fs m (s .loads) (s .seats) k l
+  sits : LoadedSet → (m : Mem) (k : ℕ) → k < count set → Sits setting size table (placeFiles (h ∷ (p ∷ fs)) 0 m) k (fileAt k) (obj set k)
+  sits s m k l = sits-at setting size table h p fs m (s .loads) (s .seats) k l
 
-  pub lies : steady.Lies address size table h p fs
+  pub lies : steady.Lies setting size table h p fs
   unfolding objectAt
   lies s k l =
       record {
-        is = t .is ∙ ap (objectAt address (fileAt k)) (sym off);
+        is = t .is ∙ ap (objectAt setting (fileAt k)) (sym off);
         fits = omega (arith, off, t .fits);
         seat = t .seat ∙ ap (seatOf (fileAt k)) (sym off);
         base =
@@ -199,7 +203,7 @@ module _ (address size : ℕ) (table : List ℕ) (h p : File) (fs : List File) w
             ∙ (mod-eq-of-lt (omega (arith, t .fits, s .end)) ∙ sym (ap (λ (o : Obj). o .base) (t .is)));
       }
     where
-      t : Sits address size table (placeFiles (h ∷ (p ∷ fs)) 0 (λ _. 0)) k (fileAt k) (obj set k)
+      t : Sits setting size table (placeFiles (h ∷ (p ∷ fs)) 0 (λ _. 0)) k (fileAt k) (obj set k)
       t = sits s (λ _. 0) k l
 
       off : (obj set k) .offset ≡ t .off
@@ -213,10 +217,10 @@ module _ (address size : ℕ) (table : List ℕ) (h p : File) (fs : List File) w
 
   -- ---- an arena with the placed bytes
 
-  pub starts : steady.Starts address size table h p fs
-  starts s a m len e k l = image-at address size table k (fileAt k) (obj set k) (placeFiles (h ∷ (p ∷ fs)) 0 m) (sits s m k l) a len e
+  pub starts : steady.Starts setting size table h p fs
+  starts s a m len e k l = image-at setting size table k (fileAt k) (obj set k) (placeFiles (h ∷ (p ∷ fs)) 0 m) (sits s m k l) a len e
 
-  pub placed-steady : steady.PlacedSteady address size table h p fs
+  pub placed-steady : steady.PlacedSteady setting size table h p fs
   placed-steady s a len placed =
       record { size-is = len; tables = λ k l i t. ap (λ (image : List ℕ). mem image i) (placed k l) }
 
@@ -228,7 +232,7 @@ module _ (address size : ℕ) (table : List ℕ) (h p : File) (fs : List File) w
       let t = lies s k l in
       ap (λ (x : Seat). length (imageAt a x)) (t .seat) ∙ simp (length-take, length-drop) (omega (arith, t .fits))
 
-  pub readings : steady.Readings address size table h p fs
+  pub readings : steady.Readings setting size table h p fs
   readings s a st k l =
       invariance (fileAt k .host) (fileRecord (fileAt k)) (fileImage (fileAt k)) (imageAt a (seatAt table k))
       (load-tables (fileAt k) (size - (obj set k) .offset) (loaded-at s k l))
@@ -237,18 +241,18 @@ module _ (address size : ℕ) (table : List ℕ) (h p : File) (fs : List File) w
   seated : LoadedSet → (a : List ℕ) → Steady a → SeatedFor address a table set
   seated s a st k l =
       let t = lies s k l in
-      seat-of address size table k (fileAt k) (obj set k) ((obj set k) .offset) a (t .is) (t .seat) (omega (arith, t .fits, s .end))
+      seat-of setting size table k (fileAt k) (obj set k) ((obj set k) .offset) a (t .is) (t .seat) (omega (arith, t .fits, s .end))
       (λ name. readings s a st k l .answers name _ _)
 
-  pub searches : steady.Searches address size table h p fs
+  pub searches : steady.Searches setting size table h p fs
   searches s a st k l name = resolve-is address a table name set (count set) refl (seated s a st) k l
 
-  pub copy-searches : steady.CopySearches address size table h p fs
+  pub copy-searches : steady.CopySearches setting size table h p fs
   copy-searches s a st name = resolve-copy-is address a table name set (count set) refl (seated s a st)
 
   -- ---- a write
 
-  pub writable-inside : steady.WritableInside address size table h p fs
+  pub writable-inside : steady.WritableInside setting size table h p fs
   writable-inside k q n e = inside.writable-inside (fileAt k .host) (fileAt k .bytes) q n e
 
   -- spans of two objects lie apart
@@ -262,8 +266,8 @@ module _ (address size : ℕ) (table : List ℕ) (h p : File) (fs : List File) w
       span i x = ap (λ (o : Obj). o .span) (lies s i x .is)
 
       go : Dec (j < k) → ((obj set j) .offset + spanAt j ≤ (obj set k) .offset) ⊎ ((obj set k) .offset + spanAt k ≤ (obj set j) .offset)
-      go (yes x) = inl (omega (arith, span j l, objs-apart (objectAt address) (λ f off. omega arith) h p fs j k x g))
-      go (no x) = inr (omega (arith, span k g, objs-apart (objectAt address) (λ f off. omega arith) h p fs k j (omega arith) l))
+      go (yes x) = inl (omega (arith, span j l, objs-apart (objectAt setting) (λ f off. omega arith) h p fs j k x g))
+      go (no x) = inr (omega (arith, span k g, objs-apart (objectAt setting) (λ f off. omega arith) h p fs k j (omega arith) l))
 
   -- a byte of object `j`, in an arena
   byte-at :
@@ -348,7 +352,7 @@ module _ (address size : ℕ) (table : List ℕ) (h p : File) (fs : List File) w
               (sym e) (own-kept i) t
           go (no ne) = ap (λ (image : List ℕ). mem image i) (others-kept j x ne)
 
-  pub write-steady : steady.Writes address size table h p fs
+  pub write-steady : steady.Writes setting size table h p fs
   write-steady s a st k l q n w g = (
     record {
       steady =
@@ -363,7 +367,7 @@ module _ (address size : ℕ) (table : List ℕ) (h p : File) (fs : List File) w
 
   -- ---- refusal 18
 
-  pub copy-tests : steady.CopyTests address size table h p fs
+  pub copy-tests : steady.CopyTests setting size table h p fs
   unfolding copyFits copyOk objectAt
   copy-tests s k d l m q n fits x =
       let t = lies s k l in
@@ -376,13 +380,13 @@ module _ (address size : ℕ) (table : List ℕ) (h p : File) (fs : List File) w
 
   -- ---- an object's turn
 
-  pub counts : steady.Counts address size table h p fs
+  pub counts : steady.Counts setting size table h p fs
   counts s k g l =
       let c = load-counts (fileAt k) (size - (obj set k) .offset) (loaded-at s k l) (s .others k g l) in
       let e : fileRecord (fileAt k) .span ≤ 2 ^ 28 = omega (arith, file-span (fileAt k), lies s k l .fits, s .small) in
       (omega (arith, c .0), omega (arith, c .1), omega (arith, c .2))
 
-  pub again : steady.Again address size table h p fs
+  pub again : steady.Again setting size table h p fs
   unfolding againRefusal loading.objectRecord
   again s a k g l placed =
       let f : File = fileAt k in

@@ -21,12 +21,13 @@ use Rattle.binder.specs.declared.Answer as answers
 use Rattle.binder.specs.declared.Reply.{Reply}
 use Rattle.binder.specs.declared.Reply as replies
 use Rattle.sheet.specs.Sheet.{Input, sheetOk, setOf, arenaOk, twinOf}
+use Rattle.binder.specs.Setting.{Setting}
 use Rattle.binder.specs.Instance.{File, objectAt}
 use Rattle.binder.specs.Verdict.{Verdict, passed, refused, first, noFile, loadVerdict, orderVerdict}
 use Rattle.binder.specs.Report.{orderWords, firstUndefined}
 use Rattle.binder.specs.SetOrder.{setOrder}
 
--- ---- a set: its files by object number, the libraries' names, and its objects in an arena at `address`
+-- ---- a set: its files by object number, the libraries' names, and its objects in a setting
 
 unfoldable pub filesOf : List Input → List File
 filesOf [] = []
@@ -35,10 +36,10 @@ filesOf (h ∷ os) = record { host = true; bytes = h .file } ∷ map (λ o. reco
 unfoldable pub namesOf : List Input → List (List ℕ)
 namesOf os = map (λ o. o .name) (drop 2 os)
 
-unfoldable pub objectsOf : ℕ → List File → Objs
-objectsOf address [] = objsOf (objectAt address) noFile noFile []
-objectsOf address (h ∷ []) = objsOf (objectAt address) h noFile []
-objectsOf address (h ∷ (p ∷ fs)) = objsOf (objectAt address) h p fs
+unfoldable pub objectsOf : Setting → List File → Objs
+objectsOf setting [] = objsOf (objectAt setting) noFile noFile []
+objectsOf setting (h ∷ []) = objsOf (objectAt setting) h noFile []
+objectsOf setting (h ∷ (p ∷ fs)) = objsOf (objectAt setting) h p fs
 
 -- ---- the refusals, in checking order
 
@@ -47,12 +48,12 @@ unfoldable pub unless : Bool → ℕ → ℕ → Verdict
 unless t n k = pick t passed (refused n k)
 
 -- 1 to 12, which a query meets too
-unfoldable pub prepareVerdict : List ℕ → List ℕ → ℕ → ℕ → Verdict
-prepareVerdict sheet bytes size address =
+unfoldable pub prepareVerdict : Setting → List ℕ → List ℕ → ℕ → Verdict
+prepareVerdict setting sheet bytes size =
     first (unless (sheetOk sheet (length bytes)) 1 0)
-    (first (unless (arenaOk size address) 2 0)
+    (first (unless (arenaOk size (setting .address)) 2 0)
     (first (unless (eqb (twinOf (setOf sheet bytes)) 0) 3 (twinOf (setOf sheet bytes)))
-    (loadVerdict (objectsOf address (filesOf (setOf sheet bytes))) size 0 (filesOf (setOf sheet bytes)))))
+    (loadVerdict (objectsOf setting (filesOf (setOf sheet bytes))) size 0 (filesOf (setOf sheet bytes)))))
 
 -- 19: "Strict policy and an undefined entry"
 abbrev pub allows : Policy → ℕ → Bool
@@ -78,16 +79,16 @@ outcomeOf size words (refused n k) arena report = outcome (answers.the-variants.
 outcomeOf size words passed arena report = outcome answers.the-variants.Bound arena (report ++ replicate (words - length report) 0)
 
 -- a set bound in an order
-unfoldable pub bindIn : Verdict → List File → List ℕ → ℕ → ℕ → Policy → ℕ → Outcome
-bindIn prepared files order size address policy words =
-    outcomeOf size words (first prepared (relocateVerdict (objectsOf address files) files order policy words))
-    (tab size (bound (objectsOf address files) order)) (orderWords (objectsOf address files) files order)
+unfoldable pub bindIn : Setting → Verdict → List File → List ℕ → ℕ → Policy → ℕ → Outcome
+bindIn setting prepared files order size policy words =
+    outcomeOf size words (first prepared (relocateVerdict (objectsOf setting files) files order policy words))
+    (tab size (bound (objectsOf setting files) order)) (orderWords (objectsOf setting files) files order)
 
 -- what `bind` answers for an arena of `size` bytes and a report of `words` words
-unfoldable pub bindOf : List ℕ → List ℕ → ℕ → ℕ → Policy → ℕ → Outcome
-bindOf sheet bytes size address policy words =
-    bindIn (prepareVerdict sheet bytes size address) (filesOf (setOf sheet bytes))
-    (setOrder (filesOf (setOf sheet bytes)) (namesOf (setOf sheet bytes))) size address policy words
+unfoldable pub bindOf : Setting → List ℕ → List ℕ → ℕ → Policy → ℕ → Outcome
+bindOf setting sheet bytes size policy words =
+    bindIn setting (prepareVerdict setting sheet bytes size) (filesOf (setOf sheet bytes))
+    (setOrder (filesOf (setOf sheet bytes)) (namesOf (setOf sheet bytes))) size policy words
 
 -- ---- query
 
@@ -105,9 +106,9 @@ repliedOf size (refused n k) reply arena = replied (replies.the-variants.Refused
 repliedOf size passed reply arena = replied reply arena
 
 -- what `query` answers: it "meets only refusals 1 to 13"
-unfoldable pub queryOf : List ℕ → List ℕ → ℕ → ℕ → ℕ → List ℕ → Replied
-queryOf sheet bytes size address requester name =
+unfoldable pub queryOf : Setting → List ℕ → List ℕ → ℕ → ℕ → List ℕ → Replied
+queryOf setting sheet bytes size requester name =
     repliedOf size
-    (first (prepareVerdict sheet bytes size address) (unless (ltb requester (length (setOf sheet bytes))) 13 0))
-    (replyOf (resolve (objectsOf address (filesOf (setOf sheet bytes))) requester name))
-    (tab size (placed (objectsOf address (filesOf (setOf sheet bytes)))))
+    (first (prepareVerdict setting sheet bytes size) (unless (ltb requester (length (setOf sheet bytes))) 13 0))
+    (replyOf (resolve (objectsOf setting (filesOf (setOf sheet bytes))) requester name))
+    (tab size (placed (objectsOf setting (filesOf (setOf sheet bytes)))))

@@ -1,6 +1,6 @@
 -- The objects of a set as the model has them: its objects made of files by the reader's definitions. Document 01, "Placed bytes" ("base =
 -- arena address + offset"), "An address for a name", "Relocated bytes and report". An object depends on its file, on whether it is the
--- host's, on its offset and on the arena's address, and on nothing else. Assumes nothing.
+-- host's, on its offset and on the setting, and on nothing else. Assumes nothing.
 use mathlib.Core.Bool.{Bool, true, false}
 use mathlib.Core.List.{List, [], _∷_, _++_, map}
 use Prim.Native.Nat.{ℕ, _+_}
@@ -20,6 +20,7 @@ use Rattle.object.specs.Entries as entries
 use Rattle.object.specs.Record.{Record, viewOf}
 use Rattle.object.specs.Placed.{objectSpan, objectBytes, objectImage}
 use Rattle.object.specs.Loaded.{objectRecord}
+use Rattle.binder.specs.Setting.{Setting}
 
 -- a file of the set, and whether it is the host's
 pub record File : Type 0 where
@@ -67,15 +68,15 @@ entryBy image r base e copies =
 abbrev pub entryOf : List ℕ → Record → ℕ → Rela → Entry
 entryOf image r base e = entryBy image r base e (rowOf (e .rtype))
 
--- the object of a file at an offset, in an arena at `address`; the host's relocation tables are not read
-unfoldable pub objectAt : ℕ → File → ℕ → Obj
-objectAt address f off =
+-- the object of a file at an offset, in a setting; the host's relocation tables are not read
+unfoldable pub objectAt : Setting → File → ℕ → Obj
+objectAt setting f off =
     record {
       offset = off;
       span = objectSpan (f .host) (f .bytes);
-      base = address + off;
+      base = setting .address + off;
       image = objectBytes (f .host) (f .bytes);
       find = λ name. definitionFound (answerIn (fileImage f) (viewOf (fileRecord f)) name);
       words = pick (f .host) [] (placesOf (namedWords (fileImage f) (fileRecord f)));
-      entries = pick (f .host) [] (map (entryOf (fileImage f) (fileRecord f) (address + off)) (relasOf (fileImage f) (fileRecord f)));
+      entries = pick (f .host) [] (map (entryOf (fileImage f) (fileRecord f) (setting .address + off)) (relasOf (fileImage f) (fileRecord f)));
     }

@@ -4,6 +4,7 @@ ghost use Prim.Native.Nat.{_≤_};
 ghost use lib.Dec.{eqb};
 ghost use lib.ListN.{length, replicate, take};
 ghost use Rattle.sheet.specs.Steps.Parts.{inputsIn};
+ghost use Rattle.binder.specs.Setting.{settingAt};
 ghost use Rattle.binder.specs.Bind.{outcome, bindOf, allows};
 ghost use Rattle.scope.specs.Steps.Seats.{Filtered};
 ghost use Rattle.binder.specs.Steps.Settled.{endsBy, Relocated, BoundSet, settledOf};
@@ -87,7 +88,7 @@ fn bind_set(
     report: &mut [u32],
 ) -> Met
     requires { ⌜ (parts .count ≤ 64) × (length (inputsIn (now bytes) parts) ≡ parts .count) × (now report ≡ replicate (length (now report)) 0) ⌝ }
-    ensures { λ r. ⌜ BoundSet (inputsIn (now (bytes .entry)) parts) (length (now (arena .entry))) address policy (length (now (report .entry))) (now (arena .exit)) (now (report .exit)) r ⌝ }
+    ensures { λ r. ⌜ BoundSet (settingAt address) (inputsIn (now (bytes .entry)) parts) (length (now (arena .entry))) policy (length (now (report .entry))) (now (arena .exit)) (now (report .exit)) r ⌝ }
 {
     let mut table = [0u64; 1024];
     let m = crate::prepare::prepare(bytes, parts, arena, address, &mut table);
@@ -122,7 +123,7 @@ pub fn bind(
     policy: Policy,
     report: &mut [u32],
 ) -> Answer
-    ensures { λ r. ⌜ outcome r (now (arena .exit)) (now (report .exit)) ≡ bindOf (now (sheet .entry)) (now (bytes .entry)) (length (now (arena .entry))) address policy (length (now (report .entry))) ⌝ }
+    ensures { λ r. ⌜ outcome r (now (arena .exit)) (now (report .exit)) ≡ bindOf (settingAt address) (now (sheet .entry)) (now (bytes .entry)) (length (now (arena .entry))) policy (length (now (report .entry))) ⌝ }
 {
     words::bytes::clear_words(report);
     let parts = sheet::sheet::parts_of(sheet, bytes.len());

@@ -3,6 +3,7 @@ ghost use mathlib.Core.Path.{_≡_};
 ghost use Prim.Native.Nat.{_≤_};
 ghost use lib.ListN.{length};
 ghost use Rattle.sheet.specs.Steps.Parts.{inputsIn};
+ghost use Rattle.binder.specs.Setting.{settingAt};
 ghost use Rattle.binder.specs.Bind.{filesOf};
 ghost use Rattle.binder.specs.Steps.Prepared.{LoadedAt, LoadedFiles, Prepared};
 use scope::seats::Seat;
@@ -79,7 +80,7 @@ pub(crate) fn prepare(
     table: &mut [u64],
 ) -> Met
     requires { ⌜ (parts .count ≤ 64) × (length (inputsIn (now bytes) parts) ≡ parts .count) × (1024 ≤ length (now table)) ⌝ }
-    ensures { λ r. ⌜ Prepared (inputsIn (now (bytes .entry)) parts) address (now (arena .entry)) (now (arena .exit)) (now (table .exit)) r ⌝ }
+    ensures { λ r. ⌜ Prepared (settingAt address) (inputsIn (now (bytes .entry)) parts) (now (arena .entry)) (now (arena .exit)) (now (table .exit)) r ⌝ }
 {
     if parts.count < 2 {
         return Met::Refused {

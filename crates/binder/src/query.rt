@@ -4,6 +4,7 @@ ghost use Prim.Native.Nat.{_≤_};
 ghost use lib.ListN.{length, replicate};
 ghost use Rattle.sheet.specs.Steps.Parts.{inputsIn};
 ghost use Rattle.binder.specs.Steps.ScopeModel.{scopedOf};
+ghost use Rattle.binder.specs.Setting.{settingAt};
 ghost use Rattle.binder.specs.Bind.{replied, replyOf, queryOf};
 ghost use Rattle.binder.specs.Steps.Asked.{askOf};
 ghost use Rattle.binder.specs.declared.Reply.the-variants.{Refused};
@@ -52,7 +53,7 @@ fn ask_set(
     name: &[u8],
 ) -> Reply
     requires { ⌜ (parts .count ≤ 64) × (length (inputsIn (now bytes) parts) ≡ parts .count) ⌝ }
-    ensures { λ r. ⌜ replied r (now (arena .exit)) ≡ askOf (inputsIn (now (bytes .entry)) parts) (length (now (arena .entry))) address requester (now (name .entry)) ⌝ }
+    ensures { λ r. ⌜ replied r (now (arena .exit)) ≡ askOf (settingAt address) (inputsIn (now (bytes .entry)) parts) (length (now (arena .entry))) requester (now (name .entry)) ⌝ }
 {
     let count = parts.count;
     let mut table = [0u64; 1024];
@@ -77,7 +78,7 @@ pub fn query(
     requester: u32,
     name: &[u8],
 ) -> Reply
-    ensures { λ r. ⌜ replied r (now (arena .exit)) ≡ queryOf (now (sheet .entry)) (now (bytes .entry)) (length (now (arena .entry))) address requester (now (name .entry)) ⌝ }
+    ensures { λ r. ⌜ replied r (now (arena .exit)) ≡ queryOf (settingAt address) (now (sheet .entry)) (now (bytes .entry)) (length (now (arena .entry))) requester (now (name .entry)) ⌝ }
 {
     let parts = sheet::sheet::parts_of(sheet, bytes.len());
     ask_set(bytes, parts, arena, address, requester as usize, name)

@@ -8,12 +8,13 @@ use Rattle.words.specs.Memory.{tab}
 use Rattle.model.specs.Scope.{resolve}
 use Rattle.model.specs.Relocation.{placed}
 use Rattle.sheet.specs.Sheet.{Input}
+use Rattle.binder.specs.Setting.{Setting}
 use Rattle.binder.specs.Verdict.{first}
 use Rattle.binder.specs.Bind.{filesOf, objectsOf, unless, Replied, replyOf, repliedOf}
 use Rattle.binder.specs.Steps.Prepared.{setVerdict}
 
 -- what is asked of the objects `os`
-unfoldable pub askOf : List Input → ℕ → ℕ → ℕ → List ℕ → Replied
-askOf os size address requester name =
-    repliedOf size (first (setVerdict os size address) (unless (ltb requester (length os)) 13 0))
-    (replyOf (resolve (objectsOf address (filesOf os)) requester name)) (tab size (placed (objectsOf address (filesOf os))))
+unfoldable pub askOf : Setting → List Input → ℕ → ℕ → List ℕ → Replied
+askOf setting os size requester name =
+    repliedOf size (first (setVerdict setting os size) (unless (ltb requester (length os)) 13 0))
+    (replyOf (resolve (objectsOf setting (filesOf os)) requester name)) (tab size (placed (objectsOf setting (filesOf os))))

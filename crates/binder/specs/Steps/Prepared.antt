@@ -11,6 +11,7 @@ use Rattle.object.specs.Placed.{objectSpan, objectBytes}
 use Rattle.object.specs.Record.{viewOf}
 use Rattle.object.specs.Loaded.{objectRefusal}
 use Rattle.sheet.specs.Sheet.{Input, arenaOk, twinOf}
+use Rattle.binder.specs.Setting.{Setting}
 use Rattle.binder.specs.Instance.{File, fileRecord}
 use Rattle.binder.specs.Verdict.{Verdict, passed, refused, first, verdict}
 use Rattle.binder.specs.Bind.{filesOf, unless}
@@ -67,16 +68,16 @@ pub record LoadedFiles (files : List File) (before after seats : List ℕ) (r : 
   pub filtered : r ≡ Passed → Filtered seats (length files)
 
 -- 1 to 12 of the objects that a table of parts names. A sheet that is not refused has two at least; a refused one is handed on as none.
-unfoldable pub setVerdict : List Input → ℕ → ℕ → Verdict
-setVerdict os size address =
+unfoldable pub setVerdict : Setting → List Input → ℕ → Verdict
+setVerdict setting os size =
     first (unless (leb 2 (length os)) 1 0)
-    (first (unless (arenaOk size address) 2 0)
+    (first (unless (arenaOk size (setting .address)) 2 0)
     (first (unless (eqb (twinOf os) 0) 3 (twinOf os))
     (loadFrom size 0 0 (filesOf os))))
 
 -- what preparing them leaves
-pub record Prepared (os : List Input) (address : ℕ) (before after seats : List ℕ) (r : Met) : Type 0 where
-  pub met : metBy r ≡ setVerdict os (length before) address
+pub record Prepared (setting : Setting) (os : List Input) (before after seats : List ℕ) (r : Met) : Type 0 where
+  pub met : metBy r ≡ setVerdict setting os (length before)
   pub arena : r ≡ Passed → mem after ≡ placeFiles (filesOf os) 0 (λ _. 0)
   pub table : r ≡ Passed → Seated seats 0 0 (filesOf os)
   pub filtered : r ≡ Passed → Filtered seats (length os)

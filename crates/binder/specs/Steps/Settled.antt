@@ -6,6 +6,7 @@ use mathlib.Core.Path.{_≡_}
 use Prim.Native.Nat.{ℕ}
 use lib.ListN.{length, replicate}
 use Rattle.sheet.specs.Sheet.{Input}
+use Rattle.binder.specs.Setting.{Setting}
 use Rattle.binder.specs.Verdict.{Verdict, first, verdict}
 use Rattle.binder.specs.SetOrder.{setOrder}
 use Rattle.binder.specs.Bind.{filesOf, namesOf, unless, allows, Outcome, outcome, bindIn}
@@ -38,10 +39,10 @@ pub record Relocated
   pub met : metBy m ≡ endsBy policy progress
 
 -- the objects that a table of parts names, bound in the order of the set
-unfoldable pub bindSet : List Input → ℕ → ℕ → Policy → ℕ → Outcome
-bindSet os size address policy words =
-    bindIn (setVerdict os size address) (filesOf os) (setOrder (filesOf os) (namesOf os)) size address policy words
+unfoldable pub bindSet : Setting → List Input → ℕ → Policy → ℕ → Outcome
+bindSet setting os size policy words =
+    bindIn setting (setVerdict setting os size) (filesOf os) (setOrder (filesOf os) (namesOf os)) size policy words
 
 -- what is left of them: settled, it is `bindSet`
-abbrev pub BoundSet : List Input → ℕ → ℕ → Policy → ℕ → List ℕ → List ℕ → Met → Type 0
-BoundSet os size address policy words arena′ report′ m = settledOf m arena′ report′ ≡ bindSet os size address policy words
+abbrev pub BoundSet : Setting → List Input → ℕ → Policy → ℕ → List ℕ → List ℕ → Met → Type 0
+BoundSet setting os size policy words arena′ report′ m = settledOf m arena′ report′ ≡ bindSet setting os size policy words

@@ -5,6 +5,7 @@ use denote.Ref.{now}
 use lib.ListN.{length, replicate}
 use Rattle.binder.proofs.PrepareLaws.{many-parts}
 use Rattle.binder.proofs.BindIs.{bind-handed}
+use Rattle.binder.specs.Setting.{settingAt}
 use borrow.Author.Needs.{needs}
 use Rattle.binder.proofs.bind.bind.Statement.{statement}
 use Rattle.binder.proofs.bind.bind.Tie as tie
@@ -30,7 +31,7 @@ returns c =
     let w : length (c .before .before .before .before .before .before .before .before .before .before .before .before .before .before .before .before .before .clear-words .last .0) ≡ length (now (a .report)) = c .before .before .before .before .before .before .before .before .before .before .before .before .before .before .before .before .before .clear-words .kept .0 in
     c .before .before .before .before .settle .ensures
     ∙ (rw w at (c .before .before .before .before .before .before .before .before .before .before .before .bind-set .ensures)
-    ∙ bind-handed (now (a .sheet)) (now (a .bytes)) (length (now (a .arena))) (a .address) _ (c .before .before .before .before .before .before .before .before .before .before .before .before .before .before .parts-of .ensures) (a .policy) (length (now (a .report))))
+    ∙ bind-handed (settingAt (a .address)) (now (a .sheet)) (now (a .bytes)) (length (now (a .arena))) _ (c .before .before .before .before .before .before .before .before .before .before .before .before .before .before .parts-of .ensures) (a .policy) (length (now (a .report))))
 
 pub bind-spec : {M : Type 1} → statement M
 bind-spec =

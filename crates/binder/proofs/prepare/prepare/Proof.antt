@@ -5,6 +5,7 @@ use borrow.Author.Tests.{not-true, not-false}
 use denote.Ref.{now}
 use Rattle.sheet.specs.Steps.Parts.{inputsIn}
 use Rattle.binder.proofs.PrepareLaws.{prepare-one, prepare-two, prepare-three, prepare-loads}
+use Rattle.binder.specs.Setting.{settingAt}
 use borrow.Author.Needs.{needs}
 use Rattle.binder.proofs.prepare.prepare.Statement.{statement}
 use Rattle.binder.proofs.prepare.prepare.Tie as tie
@@ -12,24 +13,24 @@ use Rattle.binder.proofs.prepare.prepare.Tie as tie
 returns : tie.Need-returns
 returns c =
     let a = c .before .before .before .before .before .args in
-    prepare-one (inputsIn (now (a .bytes)) (a .parts)) (a .address) (now (a .arena)) (omega (arith, c .before .before .before .before .before .pre .1, c .if1 .taken)) _ _
+    prepare-one (settingAt (a .address)) (inputsIn (now (a .bytes)) (a .parts)) (now (a .arena)) (omega (arith, c .before .before .before .before .before .pre .1, c .if1 .taken)) _ _
 
 returns-2 : tie.Need-returns-2
 returns-2 c =
     let a = c .before .before .before .before .before .before .before .args in
-    prepare-two (inputsIn (now (a .bytes)) (a .parts)) (a .address) (now (a .arena)) (omega (arith, c .before .before .before .before .before .before .before .pre .1, c .before .before .if1 .left))
+    prepare-two (settingAt (a .address)) (inputsIn (now (a .bytes)) (a .parts)) (now (a .arena)) (omega (arith, c .before .before .before .before .before .before .before .pre .1, c .before .before .if1 .left))
     (sym (c .before .arena-ok .ensures) ∙ not-true _ (c .if2 .taken)) _ _
 
 returns-3 : tie.Need-returns-3
 returns-3 c =
     let a = c .before .before .before .before .before .before .before .before .before .args in
-    prepare-three (inputsIn (now (a .bytes)) (a .parts)) (a .address) (now (a .arena)) (omega (arith, c .before .before .before .before .before .before .before .before .before .pre .1, c .before .before .before .before .if1 .left))
+    prepare-three (settingAt (a .address)) (inputsIn (now (a .bytes)) (a .parts)) (now (a .arena)) (omega (arith, c .before .before .before .before .before .before .before .before .before .pre .1, c .before .before .before .before .if1 .left))
     (sym (c .before .before .before .arena-ok .ensures) ∙ not-false _ (c .before .before .if2 .left)) (c .before .twin .result) (c .before .twin .ensures .0) (c .if3 .taken) _ _
 
 returns-4 : tie.Need-returns-4
 returns-4 c =
     let a = c .before .before .before .before .before .before .before .before .before .before .before .before .before .before .before .before .args in
-    prepare-loads (inputsIn (now (a .bytes)) (a .parts)) (a .address) (now (a .arena)) (omega (arith, c .before .before .before .before .before .before .before .before .before .before .before .before .before .before .before .before .pre .1, c .before .before .before .before .before .before .before .before .before .before .before .if1 .left))
+    prepare-loads (settingAt (a .address)) (inputsIn (now (a .bytes)) (a .parts)) (now (a .arena)) (omega (arith, c .before .before .before .before .before .before .before .before .before .before .before .before .before .before .before .before .pre .1, c .before .before .before .before .before .before .before .before .before .before .before .if1 .left))
     (sym (c .before .before .before .before .before .before .before .before .before .before .arena-ok .ensures) ∙ not-false _ (c .before .before .before .before .before .before .before .before .before .if2 .left)) (sym (c .before .before .before .before .before .before .before .before .twin .ensures .0) ∙ c .before .before .before .before .before .before .before .if3 .left) _ _ _ (c .before .before .before .before .load-all .ensures)
 
 pub prepare-spec : {M : Type 1} → statement M

@@ -4,6 +4,7 @@ use denote.Ref.{now}
 use lib.ListN.{length}
 use Rattle.binder.proofs.PrepareLaws.{many-parts}
 use Rattle.binder.proofs.QueryIs.{query-handed}
+use Rattle.binder.specs.Setting.{settingAt}
 use borrow.Author.Needs.{needs}
 use Rattle.binder.proofs.query.query.Statement.{statement}
 use Rattle.binder.proofs.query.query.Tie as tie
@@ -20,7 +21,7 @@ returns : tie.Need-returns
 returns c =
     let a = c .before .before .before .before .before .before .before .before .before .args in
     c .before .before .ask-set .ensures
-    ∙ query-handed (now (a .sheet)) (now (a .bytes)) (length (now (a .arena))) (a .address) _ (c .before .before .before .before .parts-of .ensures) (a .requester) (now (a .name))
+    ∙ query-handed (settingAt (a .address)) (now (a .sheet)) (now (a .bytes)) (length (now (a .arena))) _ (c .before .before .before .before .parts-of .ensures) (a .requester) (now (a .name))
 
 pub query-spec : {M : Type 1} → statement M
 query-spec =
