@@ -43,7 +43,7 @@ use Rattle.binder.specs.Report.{reportWord, isAbsent, undefinedBy, entryReport,
 use Rattle.binder.specs.SetOrder.{neededObjects, setOrder}
 use Rattle.binder.specs.Bind.{filesOf, namesOf, objectsOf, unless, prepareVerdict, relocateVerdict, outcome, outcomeOf, bindIn, bindOf, queryOf, replied, replyOf}
 use Rattle.demands.specs.LongerSet.{BoundBy, setObjects}
-use Rattle.demands.specs.PairOfSheets.{wordBytes, hostFile, programFile, libraryFile, sheet, bytes, longerSheet, longerBytes, PairOfSheets}
+use Rattle.demands.specs.PairOfSheets.{wordBytes, hostFile, programFile, libraryFile, setting, sheet, bytes, longerSheet, longerBytes, PairOfSheets}
 use Rattle.demands.proofs.LongerQueryLaw.{asked}
 use Rattle.demands.proofs.LongerSetLaw.{longer-set}
 use Rattle.demands.proofs.PairFiles.{
@@ -117,19 +117,19 @@ programObj =
 abbrev libraryObj : ℕ → ℕ → Obj
 libraryObj c off = objectOf false (libraryFile c) off 0x1000 (libraryImage c) libraryRecord []
 
-host-is : objectAt 0x10000000 (file true hostFile) 0 ≡ hostObj
+host-is : objectAt setting (file true hostFile) 0 ≡ hostObj
 unfolding objectAt
 host-is = rw (host-reads .image-is, host-reads .record-is, host-reads .span-is)
 
-program-is : objectAt 0x10000000 (file false programFile) 0x1000 ≡ programObj
+program-is : objectAt setting (file false programFile) 0x1000 ≡ programObj
 unfolding objectAt wordBytes tab mem byteOf leAt untilZero placesOf namedWords relrWords relrsFrom relasOf relasFrom relaAt entryBy rowOf
 program-is = rw (program-reads .image-is, program-reads .record-is, program-reads .span-is)
 
-a-is : objectAt 0x10000000 (file false (libraryFile 97)) 0x3000 ≡ libraryObj 97 0x3000
+a-is : objectAt setting (file false (libraryFile 97)) 0x3000 ≡ libraryObj 97 0x3000
 unfolding objectAt placesOf namedWords relrWords relrsFrom relasOf relasFrom
 a-is = rw (a-reads .image-is, a-reads .record-is, a-reads .span-is)
 
-b-is : objectAt 0x10000000 (file false (libraryFile 98)) 0x4000 ≡ libraryObj 98 0x4000
+b-is : objectAt setting (file false (libraryFile 98)) 0x4000 ≡ libraryObj 98 0x4000
 unfolding objectAt placesOf namedWords relrWords relrsFrom relasOf relasFrom
 b-is = rw (b-reads .image-is, b-reads .record-is, b-reads .span-is)
 
@@ -145,11 +145,11 @@ files = file true hostFile ∷ (file false programFile ∷ (file false (libraryF
 abbrev longerFiles : List File
 longerFiles = file true hostFile ∷ (file false programFile ∷ (file false (libraryFile 97) ∷ (file false (libraryFile 98) ∷ [])))
 
-S-is : objectsOf 0x10000000 files ≡ S
+S-is : objectsOf setting files ≡ S
 unfolding objectsOf layouts.objsOf layouts.layout
 S-is = rw (host-is, program-is, a-is)
 
-T-is : objectsOf 0x10000000 longerFiles ≡ T
+T-is : objectsOf setting longerFiles ≡ T
 unfolding objectsOf layouts.objsOf layouts.layout
 T-is = rw (host-is, program-is, a-is, b-is)
 
@@ -179,13 +179,13 @@ T-loads =
     (load-next 0x5000 2 0x3000 0x1000 false (libraryFile 97) (libraryImage 97) libraryRecord _ a-reads (omega arith)
     (load-next 0x5000 3 0x4000 0x1000 false (libraryFile 98) (libraryImage 98) libraryRecord _ b-reads (omega arith) (load-end 0x5000 4 0x5000))))
 
-S-prepared : prepareVerdict sheet bytes 0x4000 0x10000000 ≡ passed
+S-prepared : prepareVerdict setting sheet bytes 0x4000 ≡ passed
 unfolding prepareVerdict unless arenaOk twinFrom some filesOf
-S-prepared = rw (sheet-ok, set-is) (loads-same 0x10000000 0x4000 files ∙ S-loads)
+S-prepared = rw (sheet-ok, set-is) (loads-same setting 0x4000 files ∙ S-loads)
 
-T-prepared : prepareVerdict longerSheet longerBytes 0x5000 0x10000000 ≡ passed
+T-prepared : prepareVerdict setting longerSheet longerBytes 0x5000 ≡ passed
 unfolding prepareVerdict unless arenaOk twinFrom some filesOf sameBytes
-T-prepared = rw (longer-ok, longer-is) (loads-same 0x10000000 0x5000 longerFiles ∙ T-loads)
+T-prepared = rw (longer-ok, longer-is) (loads-same setting 0x5000 longerFiles ∙ T-loads)
 
 -- ---- the order: no library needs another
 
@@ -268,18 +268,18 @@ T-words = rw (library-words T 2 97 a-reads, library-words T 3 98 b-reads, progra
 -- a set whose stages are known
 bind-passed :
     (sheet bytes : List ℕ) (size : ℕ) (os : List Input) (order ws : List ℕ) (A : Objs) → setOf sheet bytes ≡ os
-    → prepareVerdict sheet bytes size 0x10000000 ≡ passed → objectsOf 0x10000000 (filesOf os) ≡ A → setOrder (filesOf os) (namesOf os) ≡ order
+    → prepareVerdict setting sheet bytes size ≡ passed → objectsOf setting (filesOf os) ≡ A → setOrder (filesOf os) (namesOf os) ≡ order
     → orderVerdict A (filesOf os) order ≡ passed → orderWords A (filesOf os) order ≡ ws → leb (length ws) 16 ≡ true
-    → bindOf sheet bytes size 0x10000000 Lenient 16 ≡ outcome Bound (tab size (bound A order)) (ws ++ replicate (16 - length ws) 0)
+    → bindOf setting sheet bytes size Lenient 16 ≡ outcome Bound (tab size (bound A order)) (ws ++ replicate (16 - length ws) 0)
 unfolding bindOf bindIn relocateVerdict unless outcomeOf
 bind-passed sheet bytes size os order ws A s v o r e w l = rw (v, s, o, r, e, w, l)
 
-S-bound : BoundBy sheet bytes 0x4000 0x10000000 Lenient 16 (tab 0x4000 (bound S (2 ∷ 1 ∷ []))) (0x50000002 ∷ 0x50000001 ∷ 0x60000001 ∷ replicate 13 0)
+S-bound : BoundBy setting sheet bytes 0x4000 Lenient 16 (tab 0x4000 (bound S (2 ∷ 1 ∷ []))) (0x50000002 ∷ 0x50000001 ∷ 0x60000001 ∷ replicate 13 0)
 unfolding filesOf namesOf
 S-bound = bind-passed sheet bytes 0x4000 inputs (2 ∷ 1 ∷ []) _ S set-is S-prepared S-is S-order S-entries S-words refl
 
 T-bound :
-    BoundBy longerSheet longerBytes 0x5000 0x10000000 Lenient 16 (tab 0x5000 (bound T (2 ∷ 3 ∷ 1 ∷ [])))
+    BoundBy setting longerSheet longerBytes 0x5000 Lenient 16 (tab 0x5000 (bound T (2 ∷ 3 ∷ 1 ∷ [])))
     (0x50000002 ∷ 0x50000003 ∷ 0x50000001 ∷ replicate 13 0)
 unfolding filesOf namesOf
 T-bound = bind-passed longerSheet longerBytes 0x5000 longerInputs (2 ∷ 3 ∷ 1 ∷ []) _ T longer-is T-prepared T-is T-order T-entries T-words refl
@@ -288,9 +288,9 @@ T-bound = bind-passed longerSheet longerBytes 0x5000 longerInputs (2 ∷ 3 ∷ 1
 
 query-passed :
     (sheet bytes : List ℕ) (size : ℕ) (os : List Input) (A : Objs) (name : List ℕ) (x : symbols.Answer) → setOf sheet bytes ≡ os
-    → prepareVerdict sheet bytes size 0x10000000 ≡ passed → objectsOf 0x10000000 (filesOf os) ≡ A → 1 < length os → resolve A 1 name ≡ x
-    → queryOf sheet bytes size 0x10000000 1 name ≡ replied (replyOf x) (tab size (placed A))
-query-passed sheet bytes size os A name x s v o l e = asked sheet bytes size 0x10000000 1 name v (rw s l) ∙ rw (s, o, e)
+    → prepareVerdict setting sheet bytes size ≡ passed → objectsOf setting (filesOf os) ≡ A → 1 < length os → resolve A 1 name ≡ x
+    → queryOf setting sheet bytes size 1 name ≡ replied (replyOf x) (tab size (placed A))
+query-passed sheet bytes size os A name x s v o l e = asked setting sheet bytes size 1 name v (rw s l) ∙ rw (s, o, e)
 
 -- ---- the program's words
 
@@ -326,7 +326,7 @@ only (suc zero) l h e m = absurd (omega arith)
 only (suc (suc zero)) l h e m = absurd (List·Memᴰ·not-nil m)
 only (suc (suc (suc k))) l h e m = absurd (omega arith)
 
-objects-are : setObjects 0x10000000 sheet bytes ≡ S
+objects-are : setObjects setting sheet bytes ≡ S
 unfolding filesOf
 objects-are = rw set-is S-is
 
@@ -355,6 +355,6 @@ pair-of-sheets =
       b-word-longer = word-of 0x5000 (bound T (2 ∷ 3 ∷ 1 ∷ [])) 0x2008 (omega arith) ∙ program-has .b-in-T;
       b-excepted = λ i w. subst (λ (A : Objs). Excepted A i) (sym objects-are) (excepted i w);
       kept =
-          longer-set 0x10000000 Lenient sheet bytes 0x4000 16 _ _ S-bound (subst OnlyProgramCopies (sym objects-are) only) 0x30000140 0x40000001
+          longer-set setting Lenient sheet bytes 0x4000 16 _ _ S-bound (subst OnlyProgramCopies (sym objects-are) only) 0x30000140 0x40000001
           (libraryFile 98 ++ (109 ∷ [])) 0x5000 16 _ _ T-bound;
     }

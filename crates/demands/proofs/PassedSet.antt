@@ -11,6 +11,7 @@ use Rattle.model.specs.Order.{has}
 use Rattle.model.proofs.OrderLaws.{nothing-else}
 use Rattle.sheet.specs.Sheet.{Input, sheetOk, setOf, arenaOk, twinOf}
 use Rattle.sheet.proofs.SheetLonger.{sheet-shape}
+use Rattle.binder.specs.Setting.{Setting}
 use Rattle.binder.specs.Instance.{File}
 use Rattle.binder.specs.Verdict.{passed, noFile, loadVerdict}
 use Rattle.binder.specs.Steps.Prepared.{loadFrom}
@@ -28,13 +29,13 @@ module _ (sheet bytes : List ℕ) where
     pub sheet-ok : sheetOk sheet (length bytes) ≡ true
     pub loads : loadFrom size 0 0 (filesOf os) ≡ passed
 
-  pub prepared : (size address : ℕ) → prepareVerdict sheet bytes size address ≡ passed → Loads size
+  pub prepared : (setting : Setting) (size : ℕ) → prepareVerdict setting sheet bytes size ≡ passed → Loads size
   unfolding prepareVerdict
-  prepared size address v =
+  prepared setting size v =
       let a = first-passed (unless (sheetOk sheet (length bytes)) 1 0) _ v in
-      let b = first-passed (unless (arenaOk size address) 2 0) _ (a .1) in
-      let c = first-passed (unless (eqb (twinOf os) 0) 3 (twinOf os)) (loadVerdict (objectsOf address (filesOf os)) size 0 (filesOf os)) (b .1) in
-      record { sheet-ok = unless-passed (sheetOk sheet (length bytes)) 1 0 (a .0); loads = sym (loads-same address size (filesOf os)) ∙ c .1 }
+      let b = first-passed (unless (arenaOk size (setting .address)) 2 0) _ (a .1) in
+      let c = first-passed (unless (eqb (twinOf os) 0) 3 (twinOf os)) (loadVerdict (objectsOf setting (filesOf os)) size 0 (filesOf os)) (b .1) in
+      record { sheet-ok = unless-passed (sheetOk sheet (length bytes)) 1 0 (a .0); loads = sym (loads-same setting size (filesOf os)) ∙ c .1 }
 
   -- its libraries have a name each, and are at most 62
   pub record Counts : Type 0 where

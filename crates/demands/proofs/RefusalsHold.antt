@@ -22,6 +22,7 @@ use Rattle.binder.specs.declared.Answer as answers
 use Rattle.binder.specs.declared.Answer.{Answer}
 use Rattle.binder.specs.declared.Reply as replies
 use Rattle.binder.specs.declared.Reply.{Reply}
+use Rattle.binder.specs.Setting.{Setting}
 use Rattle.binder.specs.Instance.{File}
 use Rattle.binder.specs.Verdict.{Verdict, passed, refused, first, orderVerdict}
 use Rattle.binder.specs.Report.{orderWords, firstUndefined}
@@ -86,20 +87,20 @@ of-object count n k a b c d small later entry =
       entry = λ l h. omega (arith, entry l h);
     }
 
-module _ (sheet bytes : List ℕ) (size address : ℕ) where
+module _ (setting : Setting) (sheet bytes : List ℕ) (size : ℕ) where
   abbrev os : List Input
   os = setOf sheet bytes
 
   -- 1 to 12
   prepare-right :
-      (N : ℕ → Type 0) → ((n : ℕ) → 1 ≤ n → n ≤ 12 → N n) → Meets (Right N (length os)) (prepareVerdict sheet bytes size address)
+      (N : ℕ → Type 0) → ((n : ℕ) → 1 ≤ n → n ≤ 12 → N n) → Meets (Right N (length os)) (prepareVerdict setting sheet bytes size)
   unfolding prepareVerdict
   prepare-right N ok =
       first-meets (Right N (length os)) (unless (sheetOk sheet (length bytes)) 1 0) _
       (unless-meets (Right N (length os)) (sheetOk sheet (length bytes)) 1 0
       (λ _. (ok 1 (omega arith) (omega arith), without (length os) 1 refl (λ e. omega arith) (λ l h. omega arith))))
-      (first-meets (Right N (length os)) (unless (arenaOk size address) 2 0) _
-      (unless-meets (Right N (length os)) (arenaOk size address) 2 0
+      (first-meets (Right N (length os)) (unless (arenaOk size (setting .address)) 2 0) _
+      (unless-meets (Right N (length os)) (arenaOk size (setting .address)) 2 0
       (λ _. (ok 2 (omega arith) (omega arith), without (length os) 2 refl (λ e. omega arith) (λ l h. omega arith))))
       (first-meets (Right N (length os)) (unless (eqb (twinOf os) 0) 3 (twinOf os)) _
       (unless-meets (Right N (length os)) (eqb (twinOf os) 0) 3 (twinOf os)
@@ -109,7 +110,7 @@ module _ (sheet bytes : List ℕ) (size address : ℕ) where
         of-object (length os) 3 (twinOf os) (λ e. omega arith) (λ e. omega arith) (λ e. omega arith) (λ e. omega arith) (t .1) (λ _. t .0)
             (λ l h. absurd (omega arith)),
       )))
-      (load-meets (Right N (length os)) (objectsIn address os) size 0 (filesOf os)
+      (load-meets (Right N (length os)) (objectsIn setting os) size 0 (filesOf os)
       (λ n j l h b. (
         ok n (omega arith) (omega arith),
         of-object (length os) n j (λ e. omega arith) (λ e. omega arith) (λ e. omega arith) (λ e. omega arith)
@@ -119,25 +120,25 @@ module _ (sheet bytes : List ℕ) (size address : ℕ) where
   -- 14 to 20
   relocate-right :
       (N : ℕ → Type 0) → ((n : ℕ) → 14 ≤ n → n ≤ 20 → N n) → sheetOk sheet (length bytes) ≡ true → (policy : Policy) (words : ℕ)
-      → Meets (Right N (length os)) (relocateVerdict (objectsIn address os) (filesOf os) (orderIn os) policy words)
+      → Meets (Right N (length os)) (relocateVerdict (objectsIn setting os) (filesOf os) (orderIn os) policy words)
   unfolding relocateVerdict
   relocate-right N ok good policy words =
-      first-meets (Right N (length os)) (orderVerdict (objectsIn address os) (filesOf os) (orderIn os)) _
-      (order-meets (Right N (length os)) (objectsIn address os) (filesOf os) (orderIn os)
+      first-meets (Right N (length os)) (orderVerdict (objectsIn setting os) (filesOf os) (orderIn os)) _
+      (order-meets (Right N (length os)) (objectsIn setting os) (filesOf os) (orderIn os)
       (λ n k l h m.
       let b : (1 ≤ k) × (k < length (namesOf os) + 2) = order-objects (filesOf os) (namesOf os) k m in
       (ok n (omega arith) (omega arith), entry-of n k l (omega arith) (b .0) (b .1))))
       (first-meets (Right N (length os)) (unless (allows policy u) 19 u) _
       (unless-meets (Right N (length os)) (allows policy u) 19 u
       (λ e.
-      let m = first-undefined (objectsIn address os) (filesOf os) (orderIn os) (undefined policy e) in
+      let m = first-undefined (objectsIn setting os) (filesOf os) (orderIn os) (undefined policy e) in
       let b : (1 ≤ u) × (u < length (namesOf os) + 2) = order-objects (filesOf os) (namesOf os) u m in
       (ok 19 (omega arith) (omega arith), entry-of 19 u (omega arith) (omega arith) (b .0) (b .1))))
-      (unless-meets (Right N (length os)) (leb (length (orderWords (objectsIn address os) (filesOf os) (orderIn os))) words) 20 0
+      (unless-meets (Right N (length os)) (leb (length (orderWords (objectsIn setting os) (filesOf os) (orderIn os))) words) 20 0
       (λ _. (ok 20 (omega arith) (omega arith), without (length os) 20 refl (λ e. omega arith) (λ l h. omega arith)))))
     where
       u : ℕ
-      u = firstUndefined (objectsIn address os) (filesOf os) (orderIn os)
+      u = firstUndefined (objectsIn setting os) (filesOf os) (orderIn os)
 
       entry-of : (n k : ℕ) → 14 ≤ n → n ≤ 19 → 1 ≤ k → k < length (namesOf os) + 2 → ObjectOf (length os) n k
       entry-of n k l h pos small =
@@ -151,18 +152,18 @@ module _ (sheet bytes : List ℕ) (size address : ℕ) where
   bind-right :
       (policy : Policy) (words : ℕ)
       → Meets (Right BindNumber (length os))
-      (first (prepareVerdict sheet bytes size address) (relocateVerdict (objectsIn address os) (filesOf os) (orderIn os) policy words))
+      (first (prepareVerdict setting sheet bytes size) (relocateVerdict (objectsIn setting os) (filesOf os) (orderIn os) policy words))
   bind-right policy words =
-      first-then (Right BindNumber (length os)) (prepareVerdict sheet bytes size address) _
+      first-then (Right BindNumber (length os)) (prepareVerdict setting sheet bytes size) _
       (prepare-right BindNumber (λ n l h. omega arith))
-      (λ v. relocate-right BindNumber (λ n l h. omega arith) (prepared sheet bytes size address v .sheet-ok) policy words)
+      (λ v. relocate-right BindNumber (λ n l h. omega arith) (prepared sheet bytes setting size v .sheet-ok) policy words)
 
   query-right :
       (requester : ℕ)
       → Meets (Right QueryNumber (length os))
-      (first (prepareVerdict sheet bytes size address) (unless (ltb requester (length os)) 13 0))
+      (first (prepareVerdict setting sheet bytes size) (unless (ltb requester (length os)) 13 0))
   query-right requester =
-      first-then (Right QueryNumber (length os)) (prepareVerdict sheet bytes size address) _
+      first-then (Right QueryNumber (length os)) (prepareVerdict setting sheet bytes size) _
       (prepare-right QueryNumber (λ n l h. omega arith))
       (λ v. unless-meets (Right QueryNumber (length os)) (ltb requester (length os)) 13 0
       (λ _. (omega arith, without (length os) 13 refl (λ e. omega arith) (λ l h. omega arith))))
@@ -182,9 +183,9 @@ refused-outcome P size words (refused i j) a r n k arena report m e =
 
 pub bind-refusals : BindRefusals
 unfolding bindOf bindIn
-bind-refusals sheet bytes size address policy words n k arena report e =
+bind-refusals setting sheet bytes size policy words n k arena report e =
     let o = refused-outcome (Right BindNumber (length (setOf sheet bytes))) size words _ _ _ n k arena report
-    (bind-right sheet bytes size address policy words) e in
+    (bind-right setting sheet bytes size policy words) e in
     record { number = o .0 .0; object = o .0 .1; arena-zeros = o .1; report-zeros = o .2 }
 
 refused-reply :
@@ -206,10 +207,10 @@ no-refusal (answer j s a) n k e = let z : _≡_ {A = ℕ} 0 1 = cc in absurd (om
 
 pub query-refusals : QueryRefusals
 unfolding queryOf
-query-refusals sheet bytes size address requester name n k arena e =
+query-refusals setting sheet bytes size requester name n k arena e =
     let o = refused-reply (Right QueryNumber (length (setOf sheet bytes))) size _ _ _ n k arena
-    (query-right sheet bytes size address requester)
-    (no-refusal (resolve (objectsIn address (setOf sheet bytes)) requester name)) e in
+    (query-right setting sheet bytes size requester)
+    (no-refusal (resolve (objectsIn setting (setOf sheet bytes)) requester name)) e in
     record { number = o .0 .0; object = o .0 .1; arena-zeros = o .1 }
 
 -- ---- every call
@@ -234,8 +235,8 @@ pub answered : Answered
 unfolding bindOf bindIn queryOf
 answered =
     record {
-      bind = λ sheet bytes size address policy words. bind-answered size words _ _ _;
-      query = λ sheet bytes size address requester name. query-answered size _ _ _;
+      bind = λ setting sheet bytes size policy words. bind-answered size words _ _ _;
+      query = λ setting sheet bytes size requester name. query-answered size _ _ _;
     }
 
 -- ---- lengths
@@ -279,9 +280,9 @@ pub lengths : Lengths
 unfolding bindOf bindIn queryOf
 lengths =
     record {
-      bind = λ sheet bytes size address policy words x arena report e.
+      bind = λ setting sheet bytes size policy words x arena report e.
           bind-lengths size words _ _ _ x arena report (length-tab size _)
-          (room (objectsIn address (setOf sheet bytes)) (filesOf (setOf sheet bytes)) (orderIn (setOf sheet bytes)) policy words
-          (prepareVerdict sheet bytes size address)) e;
-      query = λ sheet bytes size address requester name r arena e. query-length size _ _ _ r arena (length-tab size _) e;
+          (room (objectsIn setting (setOf sheet bytes)) (filesOf (setOf sheet bytes)) (orderIn (setOf sheet bytes)) policy words
+          (prepareVerdict setting sheet bytes size)) e;
+      query = λ setting sheet bytes size requester name r arena e. query-length size _ _ _ r arena (length-tab size _) e;
     }

@@ -19,6 +19,7 @@ use Rattle.sheet.specs.Sheet.{sheetOk, arenaOk, setOf, twinOf}
 use Rattle.binder.specs.declared.Policy.{Policy}
 use Rattle.binder.specs.declared.Answer as answers
 use Rattle.binder.specs.declared.Reply as replies
+use Rattle.binder.specs.Setting.{Setting}
 use Rattle.binder.specs.Instance.{File, fileImage, fileRecord, namedWords, relasOf}
 use Rattle.binder.specs.Verdict as verdicts
 use Rattle.binder.specs.Verdict.{Verdict, passed, refused, first, verdict, noFile, loadVerdict, wordRefusal, wordsVerdict, entryRefusal, entriesVerdict, objectVerdict, orderVerdict}
@@ -91,17 +92,17 @@ of-relocate S files order policy words =
     either-one (orderVerdict S files order) (first (unless (allows policy u) 19 u) (unless room 20 0)) (of-order S files order)
     (either-one (unless (allows policy u) 19 u) (unless room 20 0) (of-test (allows policy u) 19 u (omega arith)) (of-test room 20 0 (omega arith)))
 
-of-prepare : (sheet bytes : List ℕ) (size address : ℕ) → Numbered (prepareVerdict sheet bytes size address)
+of-prepare : (setting : Setting) (sheet bytes : List ℕ) (size : ℕ) → Numbered (prepareVerdict setting sheet bytes size)
 unfolding binding.prepareVerdict
-of-prepare sheet bytes size address =
+of-prepare setting sheet bytes size =
     let one = sheetOk sheet (length bytes) in
-    let two = arenaOk size address in
+    let two = arenaOk size (setting .address) in
     let twin = twinOf (setOf sheet bytes) in
     let files : List File = filesOf (setOf sheet bytes) in
-    let loaded = loadVerdict (objectsOf address files) size 0 files in
+    let loaded = loadVerdict (objectsOf setting files) size 0 files in
     either-one (unless one 1 0) (first (unless two 2 0) (first (unless (eqb twin 0) 3 twin) loaded)) (of-test one 1 0 (omega arith))
     (either-one (unless two 2 0) (first (unless (eqb twin 0) 3 twin) loaded) (of-test two 2 0 (omega arith))
-    (either-one (unless (eqb twin 0) 3 twin) loaded (of-test (eqb twin 0) 3 twin (omega arith)) (of-load (objectsOf address files) size 0 files)))
+    (either-one (unless (eqb twin 0) 3 twin) loaded (of-test (eqb twin 0) 3 twin (omega arith)) (of-load (objectsOf setting files) size 0 files)))
 
 -- ---- the answers
 
@@ -126,11 +127,11 @@ of-replied size (refused m j) s a arena n k h e = h n k cc
 pub zero-tells : ZeroTells
 unfolding binding.bindOf binding.bindIn binding.queryOf
 zero-tells = (
-  λ sheet bytes size address policy words n k arena report e.
+  λ setting sheet bytes size policy words n k arena report e.
       of-outcome size words _ _ _ arena report n k
-      (either-one (prepareVerdict sheet bytes size address) _ (of-prepare sheet bytes size address) (of-relocate _ _ _ policy words)) e,
-  λ sheet bytes size address requester name n k arena e.
-      of-replied size _ (resolve (objectsOf address (filesOf (setOf sheet bytes))) requester name) _ arena n k
-      (either-one (prepareVerdict sheet bytes size address) (unless (ltb requester (length (setOf sheet bytes))) 13 0) (of-prepare sheet bytes size address)
+      (either-one (prepareVerdict setting sheet bytes size) _ (of-prepare setting sheet bytes size) (of-relocate _ _ _ policy words)) e,
+  λ setting sheet bytes size requester name n k arena e.
+      of-replied size _ (resolve (objectsOf setting (filesOf (setOf sheet bytes))) requester name) _ arena n k
+      (either-one (prepareVerdict setting sheet bytes size) (unless (ltb requester (length (setOf sheet bytes))) 13 0) (of-prepare setting sheet bytes size)
       (of-test (ltb requester (length (setOf sheet bytes))) 13 0 (omega arith))) e,
 )
