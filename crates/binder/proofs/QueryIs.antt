@@ -13,6 +13,7 @@ use Rattle.words.specs.Hash.{gnuHash, elfHash}
 use Rattle.words.proofs.Slices.{tab-mem}
 use Rattle.model.specs.Objects as objects
 use Rattle.model.specs.Relocation.{placed}
+use Rattle.model.specs.Symbols.{byName}
 use Rattle.model.specs.Scope.{resolve}
 use Rattle.model.specs.Layout.{objsOf}
 use Rattle.model.proofs.OrderLaws.{decide}
@@ -55,7 +56,7 @@ module _ (os : List Input) (size address requester : ℕ) (name : List ℕ) wher
   pub ask-found :
       (r : Met) → metBy r ≡ setVerdict os size address → r ≡ Passed → requester < length os
       → askOf os size address requester name
-      ≡ replied (replyOf (resolve (objectsOf address (filesOf os)) requester name)) (tab size (placed (objectsOf address (filesOf os))))
+      ≡ replied (replyOf (resolve (objectsOf address (filesOf os)) requester (byName name))) (tab size (placed (objectsOf address (filesOf os))))
   unfolding askOf repliedOf unless
   ask-found r e z l = rw (sym e ∙ ap metBy z, lt-ltb requester (length os) l)
 
@@ -72,7 +73,7 @@ asked [] count arena arena′ table address requester name r many made z l len x
 asked (h ∷ []) count arena arena′ table address requester name r many made z l len x e =
     absurd (omega (arith, passes (h ∷ []) address arena arena′ table r made z .two))
 asked (h ∷ (p ∷ ls)) count arena arena′ table address requester name r many made z l len x e =
-    rw (e, answer) (ap (replied (replyOf (resolve S requester name))) bytes)
+    rw (e, answer) (ap (replied (replyOf (resolve S requester (byName name)))) bytes)
     ∙ sym (ask-found (h ∷ (p ∷ ls)) (length arena) address requester name r (made .met) z (omega (arith, many)) ∙ same)
   where
     hf : File
@@ -88,9 +89,9 @@ asked (h ∷ (p ∷ ls)) count arena arena′ table address requester name r man
     S = objsOf (objectAt address) hf pf fs
 
     same :
-        replied (replyOf (resolve (objectsOf address (filesOf (h ∷ (p ∷ ls)))) requester name))
+        replied (replyOf (resolve (objectsOf address (filesOf (h ∷ (p ∷ ls)))) requester (byName name)))
         (tab (length arena) (placed (objectsOf address (filesOf (h ∷ (p ∷ ls))))))
-        ≡ replied (replyOf (resolve S requester name)) (tab (length arena) (placed S))
+        ≡ replied (replyOf (resolve S requester (byName name))) (tab (length arena) (placed S))
     same = refl
 
     passed-it : Ready (h ∷ (p ∷ ls)) (length arena) address
@@ -102,7 +103,7 @@ asked (h ∷ (p ∷ ls)) count arena arena′ table address requester name r man
         ∙ (ap (λ (n : ℕ). tab n (mem arena′)) len
         ∙ ap (tab (length arena)) (made .arena z ∙ sym (placed-is address hf pf fs)))
 
-    answer : scopedOf (resolveSeats address arena′ table count requester name (gnuHash name) (elfHash name)) ≡ resolve S requester name
+    answer : scopedOf (resolveSeats address arena′ table count requester name (gnuHash name) (elfHash name)) ≡ resolve S requester (byName name)
     answer =
         let n : length fs ≡ length ls = length-map ls (λ (o : Input). record { host = false; bytes = o .file }) in
         let c : count ≡ objects.count S = omega (arith, count-is address (length arena) hf pf fs, many) in

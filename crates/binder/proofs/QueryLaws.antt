@@ -18,6 +18,7 @@ use Rattle.object.specs.Placed.{objectSpan, objectBytes}
 use Rattle.object.specs.Record.{viewOf}
 use Rattle.object.specs.Loaded.{objectRefusal}
 use Rattle.object.specs.HashTable.{answerIn}
+use Rattle.model.specs.Symbols.{byName}
 use Rattle.binder.specs.Instance.{File, fileImage, fileRecord, definitionFound, objectAt}
 use Rattle.binder.specs.Verdict.{passed, verdict, noFile}
 use Rattle.scope.specs.Steps.Seats.{seatAt}
@@ -140,7 +141,7 @@ module _ (address size : ℕ) (table : List ℕ) where
         base = ap (λ (o : Obj). o .base) is ∙ ap (λ (x : Seat). address + x .offset) (sym seat);
         small = let e : seatAt table k .offset ≡ off = ap (λ (x : Seat). x .offset) seat in omega arith;
         find = λ name.
-            ap (λ (o : Obj). o .find name) is
+            ap (λ (o : Obj). o .find (byName name)) is
             ∙ ap definitionFound
             (sym (ap (λ (x : Seat). answerIn (imageAt arena (seatAt table k)) (x .view) name) seat ∙ answers name));
       }

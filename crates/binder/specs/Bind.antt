@@ -8,7 +8,7 @@ use lib.Dec.{eqb, leb, ltb}
 use lib.ListN.{length, drop, replicate}
 use Rattle.words.specs.Choice.{pick, both, either}
 use Rattle.words.specs.Memory.{tab}
-use Rattle.model.specs.Symbols.{absent, answer}
+use Rattle.model.specs.Symbols.{byName, absent, answer}
 use Rattle.model.specs.Symbols as symbols
 use Rattle.model.specs.Objects.{Objs}
 use Rattle.model.specs.Scope.{resolve}
@@ -109,5 +109,5 @@ unfoldable pub queryOf : List ℕ → List ℕ → ℕ → ℕ → ℕ → List 
 queryOf sheet bytes size address requester name =
     repliedOf size
     (first (prepareVerdict sheet bytes size address) (unless (ltb requester (length (setOf sheet bytes))) 13 0))
-    (replyOf (resolve (objectsOf address (filesOf (setOf sheet bytes))) requester name))
+    (replyOf (resolve (objectsOf address (filesOf (setOf sheet bytes))) requester (byName name)))
     (tab size (placed (objectsOf address (filesOf (setOf sheet bytes)))))

@@ -8,7 +8,7 @@ use borrow.Author.Tests.{ltb-true, lt-ltb}
 use lib.Dec.{ltb}
 use lib.ListN.{length, length-append, length-map}
 use Rattle.words.specs.Memory.{tab}
-use Rattle.model.specs.Symbols.{Sym, absent, answer}
+use Rattle.model.specs.Symbols.{byName, Sym, absent, answer}
 use Rattle.model.specs.Symbols as symbols
 use Rattle.model.specs.Scope.{resolve}
 use Rattle.model.specs.Relocation.{placed}
@@ -46,8 +46,8 @@ found-answer (answer j s b) k i a e = (s, cc, cc)
 -- of any two sets of which the second is the first and one object more
 kept :
     (address : ℕ) (os os′ : List Input) → Longer os os′ → (r : ℕ) → r < length os → (name : List ℕ) (k : ℕ) (s : Sym) (a : ℕ)
-    → resolve (objectsOf address (filesOf os)) r name ≡ answer k s a → k ≢ 0
-    → (resolve (objectsOf address (filesOf os′)) r name ≡ answer k s a) × (r < length os′)
+    → resolve (objectsOf address (filesOf os)) r (byName name) ≡ answer k s a → k ≢ 0
+    → (resolve (objectsOf address (filesOf os′)) r (byName name) ≡ answer k s a) × (r < length os′)
 unfolding objectsOf
 kept address os os′ l r small name k s a e pos =
     let fs : List File = map fileOf (l .libs) in
@@ -59,7 +59,7 @@ kept address os os′ l r small name k s a e pos =
     let n′ : length os′ ≡ length fs + 3 =
     ap length (l .longer) ∙ omega (arith, length-map (l .libs) fileOf, length-append (l .libs) (l .added ∷ [])) in (
       rw (files′, objs-longer (objectAt address) (hostFile (l .host)) (fileOf (l .program)) fs (fileOf (l .added)))
-          (resolve-kept _ _ r (omega (arith, count-is address 0 (hostFile (l .host)) (fileOf (l .program)) fs)) name k s a (rw files at e) pos),
+          (resolve-kept _ _ r (omega (arith, count-is address 0 (hostFile (l .host)) (fileOf (l .program)) fs)) (byName name) k s a (rw files at e) pos),
       omega arith,
     )
 
@@ -76,7 +76,7 @@ loaded sheet bytes size address policy words arena report e =
 pub asked :
     (sheet bytes : List ℕ) (size address requester : ℕ) (name : List ℕ) → PassesLoading sheet bytes size address → requester < length (setOf sheet bytes)
     → queryOf sheet bytes size address requester name
-    ≡ replied (replyOf (resolve (setObjects address sheet bytes) requester name)) (tab size (placed (setObjects address sheet bytes)))
+    ≡ replied (replyOf (resolve (setObjects address sheet bytes) requester (byName name))) (tab size (placed (setObjects address sheet bytes)))
 unfolding queryOf repliedOf unless
 asked sheet bytes size address requester name v l = rw (v, lt-ltb requester (length (setOf sheet bytes)) l)
 
@@ -93,7 +93,7 @@ same address sheet bytes size requester name k i a arena e pos f n added size′
     let q = first-passed (prepareVerdict sheet bytes size address) (unless (ltb requester (length os)) 13 0) (p .0) in
     let ok = prepared sheet bytes size address (q .0) .sheet-ok in
     let l = ltb-true requester (length os) (unless-passed (ltb requester (length os)) 13 0 (q .1)) in
-    let x = found-answer (resolve (setObjects address sheet bytes) requester name) k i a (p .1) in
+    let x = found-answer (resolve (setObjects address sheet bytes) requester (byName name)) k i a (p .1) in
     let t = kept address os (setOf (sheet ++ (f ∷ (n ∷ []))) (bytes ++ added)) (sheet-longer sheet bytes f n added ok) requester l name k (x .0) a
     (x .1) pos in
     asked (sheet ++ (f ∷ (n ∷ []))) (bytes ++ added) size′ address requester name v (t .1) ∙ rw (t .0, x .2)

@@ -15,7 +15,7 @@ use Rattle.words.proofs.Slices.{mem-tab}
 use Rattle.words.proofs.Words.{leAt-same}
 use Rattle.model.specs.Objects as objects
 use Rattle.model.specs.Objects.{Obj, Objs}
-use Rattle.model.specs.Symbols.{Sym, absent, answer}
+use Rattle.model.specs.Symbols.{byName, Sym, absent, answer}
 use Rattle.model.specs.Symbols as symbols
 use Rattle.model.specs.Scope.{scopeAnswer, protectedOf, scan, resolve}
 use Rattle.model.specs.Order.{visit, orderOf}
@@ -230,10 +230,10 @@ abbrev found : Sym
 found = record { index = 1; value = 0x18; size = 8; protected = false; absolute = false }
 
 record Lookups : Type 0 where
-  a-in-S : resolve S 1 (97 ∷ []) ≡ answer 2 found 0x10003018
-  a-in-T : resolve T 1 (97 ∷ []) ≡ answer 2 found 0x10003018
-  b-in-S : resolve S 1 (98 ∷ []) ≡ absent
-  b-in-T : resolve T 1 (98 ∷ []) ≡ answer 3 found 0x10004018
+  a-in-S : resolve S 1 (byName (97 ∷ [])) ≡ answer 2 found 0x10003018
+  a-in-T : resolve T 1 (byName (97 ∷ [])) ≡ answer 2 found 0x10003018
+  b-in-S : resolve S 1 (byName (98 ∷ [])) ≡ absent
+  b-in-T : resolve T 1 (byName (98 ∷ [])) ≡ answer 3 found 0x10004018
 
 look : Lookups
 unfolding resolve scan scopeAnswer protectedOf symbols.address wordBytes tab mem byteOf leAt untilZero sameBytes hashBy elfHash gnuHash walk walkFrom
@@ -243,7 +243,7 @@ look = record { a-in-S = refl; a-in-T = refl; b-in-S = refl; b-in-T = refl }
 -- ---- reports
 
 program-words :
-    (A : Objs) (t : Bool) → isAbsent (resolve A 1 (97 ∷ [])) ≡ false → isAbsent (resolve A 1 (98 ∷ [])) ≡ t
+    (A : Objs) (t : Bool) → isAbsent (resolve A 1 (byName (97 ∷ []))) ≡ false → isAbsent (resolve A 1 (byName (98 ∷ []))) ≡ t
     → objectWords A 1 (file false programFile) ≡ 0x50000001 ∷ pick t (0x60000001 ∷ []) []
 unfolding objectWords entryReport undefinedBy wordBytes tab mem byteOf leAt untilZero relasOf relasFrom relaAt rowOf symbolFrom
 program-words A true a b = rw (program-reads .image-is, program-reads .record-is, a, b)
@@ -288,7 +288,7 @@ T-bound = bind-passed longerSheet longerBytes 0x5000 longerInputs (2 ∷ 3 ∷ 1
 
 query-passed :
     (sheet bytes : List ℕ) (size : ℕ) (os : List Input) (A : Objs) (name : List ℕ) (x : symbols.Answer) → setOf sheet bytes ≡ os
-    → prepareVerdict sheet bytes size 0x10000000 ≡ passed → objectsOf 0x10000000 (filesOf os) ≡ A → 1 < length os → resolve A 1 name ≡ x
+    → prepareVerdict sheet bytes size 0x10000000 ≡ passed → objectsOf 0x10000000 (filesOf os) ≡ A → 1 < length os → resolve A 1 (byName name) ≡ x
     → queryOf sheet bytes size 0x10000000 1 name ≡ replied (replyOf x) (tab size (placed A))
 query-passed sheet bytes size os A name x s v o l e = asked sheet bytes size 0x10000000 1 name v (rw s l) ∙ rw (s, o, e)
 

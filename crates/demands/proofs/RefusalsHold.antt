@@ -13,7 +13,7 @@ use Rattle.model.specs.Order.{has}
 use Rattle.model.specs.Objects.{Objs}
 use Rattle.model.specs.Scope.{resolve}
 use Rattle.model.specs.Symbols as symbols
-use Rattle.model.specs.Symbols.{absent, answer}
+use Rattle.model.specs.Symbols.{byName, absent, answer}
 use Rattle.model.proofs.OrderLaws.{clash}
 use Rattle.sheet.specs.Sheet.{Input, sheetOk, setOf, arenaOk, twinOf}
 use Rattle.binder.specs.declared.Policy.{Policy}
@@ -209,7 +209,7 @@ unfolding queryOf
 query-refusals sheet bytes size address requester name n k arena e =
     let o = refused-reply (Right QueryNumber (length (setOf sheet bytes))) size _ _ _ n k arena
     (query-right sheet bytes size address requester)
-    (no-refusal (resolve (objectsIn address (setOf sheet bytes)) requester name)) e in
+    (no-refusal (resolve (objectsIn address (setOf sheet bytes)) requester (byName name))) e in
     record { number = o .0 .0; object = o .0 .1; arena-zeros = o .1 }
 
 -- ---- every call

@@ -8,6 +8,7 @@ use mathlib.Core.Logic.{_⊎_, _≢_}
 use mathlib.Core.Path.{_≡_}
 use Prim.Native.Nat.{ℕ, _≤_, _<_}
 use lib.ListN.{length, getD, take, replicate}
+use Rattle.model.specs.Symbols.{byName}
 use Rattle.model.specs.Order.{has}
 use Rattle.model.specs.Scope.{resolve}
 use Rattle.sheet.specs.Sheet.{Input, noInput, setOf}
@@ -82,7 +83,7 @@ pub record Answered : Type 0 where
       (sheet bytes : List ℕ) (size address requester : ℕ) (name : List ℕ)
       → ((arena : List ℕ)
       × (queryOf sheet bytes size address requester name
-      ≡ replied (replyOf (resolve (setObjects address sheet bytes) requester name)) arena))
+      ≡ replied (replyOf (resolve (setObjects address sheet bytes) requester (byName name))) arena))
       ⊎ ((n k : ℕ) × (queryOf sheet bytes size address requester name ≡ replied (replies.the-variants.Refused n k) (replicate size 0)))
 
 -- ---- the host's part of the arena

@@ -130,7 +130,7 @@ zero-tells = (
       of-outcome size words _ _ _ arena report n k
       (either-one (prepareVerdict sheet bytes size address) _ (of-prepare sheet bytes size address) (of-relocate _ _ _ policy words)) e,
   λ sheet bytes size address requester name n k arena e.
-      of-replied size _ (resolve (objectsOf address (filesOf (setOf sheet bytes))) requester name) _ arena n k
+      of-replied size _ (resolve (objectsOf address (filesOf (setOf sheet bytes))) requester (symbols.byName name)) _ arena n k
       (either-one (prepareVerdict sheet bytes size address) (unless (ltb requester (length (setOf sheet bytes))) 13 0) (of-prepare sheet bytes size address)
       (of-test (ltb requester (length (setOf sheet bytes))) 13 0 (omega arith))) e,
 )

@@ -5,6 +5,7 @@ use Prim.Native.Nat.{ℕ}
 use lib.Dec.{ltb}
 use lib.ListN.{length}
 use Rattle.words.specs.Memory.{tab}
+use Rattle.model.specs.Symbols.{byName}
 use Rattle.model.specs.Scope.{resolve}
 use Rattle.model.specs.Relocation.{placed}
 use Rattle.sheet.specs.Sheet.{Input}
@@ -16,4 +17,4 @@ use Rattle.binder.specs.Steps.Prepared.{setVerdict}
 unfoldable pub askOf : List Input → ℕ → ℕ → ℕ → List ℕ → Replied
 askOf os size address requester name =
     repliedOf size (first (setVerdict os size address) (unless (ltb requester (length os)) 13 0))
-    (replyOf (resolve (objectsOf address (filesOf os)) requester name)) (tab size (placed (objectsOf address (filesOf os))))
+    (replyOf (resolve (objectsOf address (filesOf os)) requester (byName name))) (tab size (placed (objectsOf address (filesOf os))))
