@@ -101,7 +101,7 @@ objectOf host bs off span image r es =
       span = span;
       base = 0x10000000 + off;
       image = objectBytes host bs;
-      find = λ name. definitionFound (answerIn image (viewOf r) name);
+      find = λ wanted. definitionFound (answerIn image (viewOf r) (wanted .name));
       words = [];
       entries = es;
     }
@@ -112,7 +112,7 @@ hostObj = objectOf true hostFile 0 0x1000 hostImage hostRecord []
 abbrev programObj : Obj
 programObj =
     objectOf false programFile 0x1000 0x2000 programImage programRecord
-    (objects.symbol 0x1000 8 (97 ∷ []) (λ a. a) ∷ (objects.symbol 0x1008 8 (98 ∷ []) (λ a. a) ∷ []))
+    (objects.symbol 0x1000 8 (byName (97 ∷ [])) (λ a. a) ∷ (objects.symbol 0x1008 8 (byName (98 ∷ [])) (λ a. a) ∷ []))
 
 abbrev libraryObj : ℕ → ℕ → Obj
 libraryObj c off = objectOf false (libraryFile c) off 0x1000 (libraryImage c) libraryRecord []
@@ -312,7 +312,7 @@ excepted : (i : ℕ) → In 0x2008 8 i → Excepted S i
 excepted i w =
     named (
       1,
-      objects.symbol 0x1008 8 (98 ∷ []) (λ a. a),
+      objects.symbol 0x1008 8 (byName (98 ∷ [])) (λ a. a),
       omega arith,
       omega arith,
       List·Memᴰ·tail (List·Memᴰ·head refl),
