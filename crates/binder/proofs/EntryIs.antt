@@ -11,7 +11,7 @@ use lib.ListN.{length}
 use Rattle.words.specs.Choice.{pick}
 use Rattle.words.specs.Memory.{Mem, mem, from, write, patch}
 use Rattle.words.proofs.Memory.{write-none}
-use Rattle.model.specs.Symbols.{Sym, Answer, absent, answer}
+use Rattle.model.specs.Symbols.{Wanted, Sym, Answer, absent, answer}
 use Rattle.model.specs.Objects.{Objs, count, obj}
 use Rattle.model.specs.Scope.{resolve, resolveCopy}
 use Rattle.model.specs.Relocation.{addressOr0, copied, effect}
@@ -123,8 +123,8 @@ module _ (setting : Setting) (size : ℕ) (table : List ℕ) (h pr : File) (fs :
     abbrev pub RightlyKept : Progress → Type 0
     RightlyKept p =
         (index : ℕ) → p .last ≡ index + 1
-        → ((o : ℕ) × (z : Sym) × (resolve S k (symbolName image (r .symbols) (r .strings) index) ≡ answer o z (p .address)))
-        ⊎ ((resolve S k (symbolName image (r .symbols) (r .strings) index) ≡ absent)
+        → ((o : ℕ) × (z : Sym) × (resolve S k (wantedBy image r index) ≡ answer o z (p .address)))
+        ⊎ ((resolve S k (wantedBy image r index) ≡ absent)
         × (eqb (bindingOf (symbolAt image (r .symbols) index)) 2 ≡ true)
         × (p .address ≡ 0))
 
@@ -280,21 +280,24 @@ module _ (setting : Setting) (size : ℕ) (table : List ℕ) (h pr : File) (fs :
         abbrev name : List ℕ
         name = symbolName image (r .symbols) (r .strings) (e .symbol)
 
+        abbrev sought : Wanted
+        sought = wantedBy image r (e .symbol)
+
         -- the words and the mark of an entry whose search has the answer
         abbrev After : Answer → Mem → Progress → List ℕ → List ℕ → Type 0
         After x m′ =
             Doing (ws ++ pick (unresolved image r e x) (reportWord 6 i ∷ []) []) (earlier u (pick (unresolved image r e x) k 0)) m′
 
-        kept-now : (o : ℕ) (z : Sym) (v : ℕ) → answer o z v ≡ resolve S k name → RightlyKept (keeps (e .symbol + 1) v p)
+        kept-now : (o : ℕ) (z : Sym) (v : ℕ) → answer o z v ≡ resolve S k sought → RightlyKept (keeps (e .symbol + 1) v p)
         kept-now o z v is index f =
             let same : e .symbol ≡ index = omega arith in
-            inl (o, z, sym (ap (λ (s : ℕ). resolve S k (symbolName image (r .symbols) (r .strings) s)) same) ∙ sym is)
+            inl (o, z, sym (ap (λ (s : ℕ). resolve S k (wantedBy image r s)) same) ∙ sym is)
 
-        weak-kept : absent ≡ resolve S k name → eqb (bindingOf y) 2 ≡ true → RightlyKept (keeps (e .symbol + 1) 0 p)
+        weak-kept : absent ≡ resolve S k sought → eqb (bindingOf y) 2 ≡ true → RightlyKept (keeps (e .symbol + 1) 0 p)
         weak-kept is weak index f =
             let same : e .symbol ≡ index = omega arith in
             inr (
-              sym (ap (λ (s : ℕ). resolve S k (symbolName image (r .symbols) (r .strings) s)) same) ∙ sym is,
+              sym (ap (λ (s : ℕ). resolve S k (wantedBy image r s)) same) ∙ sym is,
               sym (ap (λ (s : ℕ). eqb (bindingOf (symbolAt image (r .symbols) s)) 2) same) ∙ weak,
               refl,
             )
@@ -306,7 +309,7 @@ module _ (setting : Setting) (size : ℕ) (table : List ℕ) (h pr : File) (fs :
 
           -- found nowhere: a weak symbol's absence is kept
           nowhere-ran :
-              absent ≡ resolve S k name → inWritable (r .segments) (e .place) (f .width) ≡ true → (b : Bool) → eqb (bindingOf y) 2 ≡ b
+              absent ≡ resolve S k sought → inWritable (r .segments) (e .place) (f .width) ≡ true → (b : Bool) → eqb (bindingOf y) 2 ≡ b
               → Written6 absent
               (withArena (patch a (t .offset + e .place) (f .width) (writtenBytes t e f 0)) (keepsWeak (e .symbol + 1) y (unresolvedOf y k i p report)))
           unfolding addressOr0
@@ -327,7 +330,7 @@ module _ (setting : Setting) (size : ℕ) (table : List ℕ) (h pr : File) (fs :
               (write m ((obj S k) .offset + e .place) (f .width) (writtenBytes t e f 0)) (patch a (t .offset + e .place) (f .width) (writtenBytes t e f 0)) (unresolvedOf y k i p report)
               (verdict-none 0 k refl) (unresolved-going i l y) (unresolved-kept y k i p report) (z .0) (z .1))
 
-          found-ran : (s : Scoped) → scopedOf s ≡ resolve S k name → inWritable (r .segments) (e .place) (f .width) ≡ true → Written6 (resolve S k name) (writeFound t e f i y s p a report)
+          found-ran : (s : Scoped) → scopedOf s ≡ resolve S k sought → inWritable (r .segments) (e .place) (f .width) ≡ true → Written6 (resolve S k sought) (writeFound t e f i y s p a report)
           unfolding scopedOf writeFound addressOr0
           found-ran Absent eq w =
               subst (λ (x : Answer). Written6 x (writeFound t e f i y Absent p a report)) eq (nowhere-ran eq w (eqb (bindingOf y) 2) refl)
@@ -341,7 +344,7 @@ module _ (setting : Setting) (size : ℕ) (table : List ℕ) (h pr : File) (fs :
 
           kept-ran :
               p .last ≡ e .symbol + 1 → inWritable (r .segments) (e .place) (f .width) ≡ true
-              → Written6 (resolve S k name) (left p (patch a (t .offset + e .place) (f .width) (writtenBytes t e f (p .address))) report)
+              → Written6 (resolve S k sought) (left p (patch a (t .offset + e .place) (f .width) (writtenBytes t e f (p .address))) report)
           unfolding addressOr0
           kept-ran same w =
               let z = wrote-to (e .place) (f .width) (writtenBytes t e f (p .address)) w in
@@ -362,16 +365,16 @@ module _ (setting : Setting) (size : ℕ) (table : List ℕ) (h pr : File) (fs :
               (d .kept (e .symbol) same)
 
           answered-ran :
-              (s : Scoped) → scopedOf s ≡ resolve S k name → inWritable (r .segments) (e .place) (f .width) ≡ true → (b : Bool) → eqb (p .last) (e .symbol + 1) ≡ b
-              → Written6 (resolve S k name)
+              (s : Scoped) → scopedOf s ≡ resolve S k sought → inWritable (r .segments) (e .place) (f .width) ≡ true → (b : Bool) → eqb (p .last) (e .symbol + 1) ≡ b
+              → Written6 (resolve S k sought)
               (pick b (left p (patch a (t .offset + e .place) (f .width) (writtenBytes t e f (p .address))) report) (writeFound t e f i y s p a report))
           answered-ran s eq w true same = kept-ran (eqb-true (p .last) (e .symbol + 1) same) w
           answered-ran s eq w false same = found-ran s eq w
 
           symbolic-by :
-              (s : Scoped) → scopedOf s ≡ resolve S k name → (b : Bool) → inWritable (r .segments) (e .place) (f .width) ≡ b
+              (s : Scoped) → scopedOf s ≡ resolve S k sought → (b : Bool) → inWritable (r .segments) (e .place) (f .width) ≡ b
               → Ran size n (verdict (require b 17 0) k)
-              (After (resolve S k name) (write m ((obj S k) .offset + e .place) (f .width) (writtenBytes t e f (addressOr0 (resolve S k name)))))
+              (After (resolve S k sought) (write m ((obj S k) .offset + e .place) (f .width) (writtenBytes t e f (addressOr0 (resolve S k sought)))))
               (pick b
               (pick (eqb (p .last) (e .symbol + 1)) (left p (patch a (t .offset + e .place) (f .width) (writtenBytes t e f (p .address))) report) (writeFound t e f i y s p a report))
               (left (refusedBy t 17 p) a report))
@@ -381,12 +384,12 @@ module _ (setting : Setting) (size : ℕ) (table : List ℕ) (h pr : File) (fs :
 
           symbolic-ran :
               Ran size n (verdict (symbolThen (checkedSymbol image r (e .symbol)) (λ y. writtenRefusal r (e .place) (f .width))) k)
-              (After (resolve S k name) (write m ((obj S k) .offset + e .place) (f .width) (writtenBytes t e f (addressOr0 (resolve S k name)))))
+              (After (resolve S k sought) (write m ((obj S k) .offset + e .place) (f .width) (writtenBytes t e f (addressOr0 (resolve S k sought)))))
               (symbolicOf address table (count S) t r e f i (checkedSymbol (imageIn a t) r (e .symbol)) p a report)
           unfolding symbolicOf answeredOf
           symbolic-ran =
               symbol-step (e .symbol) (λ y. writtenRefusal r (e .place) (f .width))
-              (After (resolve S k name) (write m ((obj S k) .offset + e .place) (f .width) (writtenBytes t e f (addressOr0 (resolve S k name)))))
+              (After (resolve S k sought) (write m ((obj S k) .offset + e .place) (f .width) (writtenBytes t e f (addressOr0 (resolve S k sought)))))
               (λ c. symbolicOf address table (count S) t r e f i c p a report) (λ z. refl)
               (λ ok same.
               symbolic-by (soughtFor address table (count S) t a (nameOf (imageIn a t) r y))
@@ -489,17 +492,16 @@ module _ (setting : Setting) (size : ℕ) (table : List ℕ) (h pr : File) (fs :
             Ran size n
             (verdict
             (symbolThen (checkedSymbol image r (e .symbol))
-            (λ y. copyRefusal S k r (e .place) (y .size) (resolveCopy S (nameOf image r y)))) k)
-            (After (resolveCopy S name) (copied S ((obj S k) .offset + e .place) (y .size) (resolveCopy S name) m))
+            (λ y. copyRefusal S k r (e .place) (y .size) (resolveCopy S sought))) k)
+            (After (resolveCopy S sought) (copied S ((obj S k) .offset + e .place) (y .size) (resolveCopy S sought) m))
             (copyingOf address table (count S) t r e i (checkedSymbol (imageIn a t) r (e .symbol)) p a report)
         unfolding copyingOf
         copy-ran =
-            symbol-step (e .symbol) (λ y. copyRefusal S k r (e .place) (y .size) (resolveCopy S (nameOf image r y)))
-            (After (resolveCopy S name) (copied S ((obj S k) .offset + e .place) (y .size) (resolveCopy S name) m))
+            symbol-step (e .symbol) (λ y. copyRefusal S k r (e .place) (y .size) (resolveCopy S sought))
+            (After (resolveCopy S sought) (copied S ((obj S k) .offset + e .place) (y .size) (resolveCopy S sought) m))
             (λ c. copyingOf address table (count S) t r e i c p a report) (λ z. refl)
             (λ ok same.
-            rw (name-is image r (e .symbol))
-            (copy-by (resolveCopy S name) (soughtForCopy address table (count S) a (nameOf (imageIn a t) r y))
+            (copy-by (resolveCopy S sought) (soughtForCopy address table (count S) a (nameOf (imageIn a t) r y))
             (ap (λ (x : List ℕ). scopedOf (soughtForCopy address table (count S) a x)) (name-same (e .symbol) ok same)
             ∙ copy-searches setting size table h pr fs L a steady name)
             (λ o z v q. resolveCopy-range S name o z v q .0)))

@@ -41,7 +41,7 @@ use Rattle.object.specs.declared.program_header.Segment.{Segment}
 use Rattle.object.specs.declared.program_header.Dynamic.{Dynamic}
 use Rattle.object.specs.declared.program_header.Dynamic.the-variants.{Missing, At}
 use Rattle.object.proofs.RefusalLaws.{required}
-use Rattle.binder.specs.Instance.{fileRecord, placesOf, entryBy, entryOf}
+use Rattle.binder.specs.Instance.{fileRecord, placesOf, wantedBy, entryBy, entryOf}
 use Rattle.binder.specs.Verdict.{passed, verdict, wordRefusal, writtenRefusal, copyOk, copyRefusal, symbolThen, refusalBy, entryRefusal, wordsVerdict, entriesVerdict}
 use Rattle.binder.proofs.OutcomeLaws.{first-passed, verdict-passed}
 
@@ -142,10 +142,9 @@ module _ (S : Objs) (k : ℕ) (image : List ℕ) (r : Record) (base : ℕ)
   entry-inside e (writes inScope f) z =
       written (e .place) (f .width) (checked-then (e .symbol) (λ y. writtenRefusal r (e .place) (f .width)) z)
   entry-inside e copies z =
-      let rest : Symbol → ℕ = λ y. copyRefusal S k r (e .place) (y .size) (resolveCopy S (nameOf image r y)) in
-      let y : Symbol = symbolAt image (r .symbols) (e .symbol) in
-      copy-inside (e .place) (y .size) (resolveCopy S (symbolName image (r .symbols) (r .strings) (e .symbol)))
-      (sym (ap (λ (n : List ℕ). copyRefusal S k r (e .place) (y .size) (resolveCopy S n)) (name-is image r (e .symbol))) ∙ checked-then (e .symbol) rest z)
+      let found : Answer = resolveCopy S (wantedBy image r (e .symbol)) in
+      copy-inside (e .place) (symbolAt image (r .symbols) (e .symbol) .size) found
+      (checked-then (e .symbol) (λ y. copyRefusal S k r (e .place) (y .size) found) z)
 
   pub entries-inside :
       (es : List Rela) → entriesVerdict S k image r es ≡ passed → (x : Entry) → List·Memᴰ x (map (entryOf image r base) es)

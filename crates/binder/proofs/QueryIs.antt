@@ -13,6 +13,7 @@ use Rattle.words.specs.Hash.{gnuHash, elfHash}
 use Rattle.words.proofs.Slices.{tab-mem}
 use Rattle.model.specs.Objects as objects
 use Rattle.model.specs.Relocation.{placed}
+use Rattle.model.specs.Symbols.{byName}
 use Rattle.model.specs.Scope.{resolve}
 use Rattle.model.specs.Layout.{objsOf}
 use Rattle.model.proofs.OrderLaws.{decide}

@@ -141,7 +141,7 @@ module _ (setting : Setting) (size : ℕ) (table : List ℕ) where
         base = ap (λ (o : Obj). o .base) is ∙ ap (λ (x : Seat). setting .address + x .offset) (sym seat);
         small = let e : seatAt table k .offset ≡ off = ap (λ (x : Seat). x .offset) seat in omega arith;
         find = λ name.
-            ap (λ (o : Obj). o .find name) is
+            ap (λ (o : Obj). o .find (byName name)) is
             ∙ ap definitionFound
             (sym (ap (λ (x : Seat). answerIn (imageAt arena (seatAt table k)) (x .view) name) seat ∙ answers name));
       }

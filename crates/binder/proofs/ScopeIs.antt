@@ -53,13 +53,13 @@ module _ (at : ℕ) (arena table name : List ℕ) where
     base-is : sum64 at (s .offset) ≡ o .base
     base-is = mod-eq-of-lt (h .small) ∙ sym (h .base)
 
-    seat-is : scopedOf (seatAnswer at arena k s name (gnuHash name) (elfHash name)) ≡ model.scopeAnswer k o (o .find name)
+    seat-is : scopedOf (seatAnswer at arena k s name (gnuHash name) (elfHash name)) ≡ model.scopeAnswer k o (o .find (symbols.byName name))
     unfolding searches.seatAnswer
     seat-is =
         by-found k (sum64 at (s .offset)) o (answerAt arena s name (gnuHash name) (elfHash name)) base-is
         ∙ ap (model.scopeAnswer k o) (sym (h .find name))
 
-    own-is : scopedOf (ownAnswer at arena k s name (gnuHash name) (elfHash name)) ≡ model.protectedOf k o (o .find name)
+    own-is : scopedOf (ownAnswer at arena k s name (gnuHash name) (elfHash name)) ≡ model.protectedOf k o (o .find (symbols.byName name))
     unfolding searches.ownAnswer
     own-is =
         by-guarded k (sum64 at (s .offset)) o (answerAt arena s name (gnuHash name) (elfHash name)) base-is
@@ -69,7 +69,7 @@ module _ (at : ℕ) (arena table name : List ℕ) where
 
   scan-is :
       (d : Obj) (os : List Obj) (k : ℕ) → ((j : ℕ) → j < length os → SeatOf at arena (getD os j d) (seatAt table (k + j)))
-      → scopedOf (scanSeats at arena k (seatsFrom table k (length os)) name (gnuHash name) (elfHash name)) ≡ model.scan k os name
+      → scopedOf (scanSeats at arena k (seatsFrom table k (length os)) name (gnuHash name) (elfHash name)) ≡ model.scan k os (symbols.byName name)
   unfolding searches.scanSeats seats-specs.seatsFrom scopedOf model.scan
   scan-is d [] k h = refl
   scan-is d (o ∷ os) k h =
@@ -84,7 +84,7 @@ module _ (at : ℕ) (arena table name : List ℕ) where
 
   module _ (S : Objs) (n : ℕ) (c : n ≡ count S) (h : SeatedFor at arena table S) where
     -- where the set has `n` objects and the requester is one of them
-    pub resolve-is : (r : ℕ) → r < n → scopedOf (resolveSeats at arena table n r name (gnuHash name) (elfHash name)) ≡ model.resolve S r name
+    pub resolve-is : (r : ℕ) → r < n → scopedOf (resolveSeats at arena table n r name (gnuHash name) (elfHash name)) ≡ model.resolve S r (symbols.byName name)
     unfolding searches.resolveSeats model.resolve
     resolve-is r l =
         let m : n - 1 ≡ length (S .program ∷ S .libs) = omega arith in
@@ -100,7 +100,7 @@ module _ (at : ℕ) (arena table name : List ℕ) where
           seat-is 0 (S .host) (seatAt table 0) (h 0 (omega arith)),
         )
 
-    pub resolve-copy-is : scopedOf (resolveCopySeats at arena table n name (gnuHash name) (elfHash name)) ≡ model.resolveCopy S name
+    pub resolve-copy-is : scopedOf (resolveCopySeats at arena table n name (gnuHash name) (elfHash name)) ≡ model.resolveCopy S (symbols.byName name)
     unfolding searches.resolveCopySeats model.resolveCopy
     resolve-copy-is =
         let m : n - 2 ≡ length (S .libs) = omega arith in

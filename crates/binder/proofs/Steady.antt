@@ -13,6 +13,7 @@ use Rattle.object.specs.Record.{isTableOf}
 use Rattle.object.specs.Invariant.{SameReadings}
 use Rattle.object.specs.Placed.{objectSpan}
 use Rattle.object.specs.declared.hash_tables.Definition.{Definition}
+use Rattle.model.specs.Symbols.{byName}
 use Rattle.binder.specs.Instance.{File, fileImage, fileRecord, symOf, objectAt}
 use Rattle.binder.specs.Setting.{Setting}
 use Rattle.binder.specs.Verdict.{passed, noFile, copyOk}
@@ -86,11 +87,11 @@ module _ (setting : Setting) (size : ℕ) (table : List ℕ) (h p : File) (fs : 
   abbrev pub Searches : Type 0
   Searches =
       LoadedSet → (a : List ℕ) → Steady a → (k : ℕ) → k < count set → (name : List ℕ)
-      → scopedOf (soughtFor address table (count set) (turnOf address table k) a name) ≡ resolve set k name
+      → scopedOf (soughtFor address table (count set) (turnOf address table k) a name) ≡ resolve set k (byName name)
 
   abbrev pub CopySearches : Type 0
   CopySearches =
-      LoadedSet → (a : List ℕ) → Steady a → (name : List ℕ) → scopedOf (soughtForCopy address table (count set) a name) ≡ resolveCopy set name
+      LoadedSet → (a : List ℕ) → Steady a → (name : List ℕ) → scopedOf (soughtForCopy address table (count set) a name) ≡ resolveCopy set (byName name)
 
   -- a range in a writable segment ends inside the span
   abbrev pub WritableInside : Type 0

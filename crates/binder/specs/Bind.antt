@@ -8,7 +8,7 @@ use lib.Dec.{eqb, leb, ltb}
 use lib.ListN.{length, drop, replicate}
 use Rattle.words.specs.Choice.{pick, both, either}
 use Rattle.words.specs.Memory.{tab}
-use Rattle.model.specs.Symbols.{absent, answer}
+use Rattle.model.specs.Symbols.{byName, absent, answer}
 use Rattle.model.specs.Symbols as symbols
 use Rattle.model.specs.Objects.{Objs}
 use Rattle.model.specs.Scope.{resolve}

@@ -6,7 +6,7 @@ use mathlib.Core.List.{List, [], _∷_, _++_, map}
 use Prim.Native.Nat.{ℕ, _+_}
 use lib.ListN.{length}
 use Rattle.words.specs.Choice.{pick}
-use Rattle.model.specs.Symbols.{Name, Sym, Found, none, hit}
+use Rattle.model.specs.Symbols.{Wanted, byName, Sym, Found, none, hit}
 use Rattle.model.specs.Objects.{Entry, fixed, symbol, copy, pass, Obj}
 use Rattle.object.specs.declared.relocate.Rela.{Rela}
 use Rattle.object.specs.declared.hash_tables.Definition.{Definition}
@@ -54,6 +54,10 @@ namedWords image r = relrWords entries.none (relrsFrom image (r .relr) 0 (r .rel
 unfoldable pub relasOf : List ℕ → Record → List Rela
 relasOf image r = relasFrom image (r .rela) 0 (r .relas) ++ relasFrom image (r .plt) 0 (r .plts)
 
+-- what an entry with that symbol searches for
+abbrev pub wantedBy : List ℕ → Record → ℕ → Wanted
+wantedBy image r index = byName (symbolName image (r .symbols) (r .strings) index)
+
 -- what an entry is, by the row of its type
 unfoldable pub entryBy : List ℕ → Record → ℕ → Rela → Row → Entry
 entryBy image r base e ignored = pass
@@ -61,9 +65,9 @@ entryBy image r base e passedOver = pass
 entryBy image r base e turnedAway = pass
 entryBy image r base e (writes noSearch f) = fixed (e .place) (f .width) (f .value 0 (e .addend) base (base + e .place))
 entryBy image r base e (writes inScope f) =
-    symbol (e .place) (f .width) (symbolName image (r .symbols) (r .strings) (e .symbol)) (λ S. f .value S (e .addend) base (base + e .place))
+    symbol (e .place) (f .width) (wantedBy image r (e .symbol)) (λ S. f .value S (e .addend) base (base + e .place))
 entryBy image r base e copies =
-    copy (e .place) (symbolName image (r .symbols) (r .strings) (e .symbol)) (symbolAt image (r .symbols) (e .symbol) .size)
+    copy (e .place) (wantedBy image r (e .symbol)) (symbolAt image (r .symbols) (e .symbol) .size)
 
 abbrev pub entryOf : List ℕ → Record → ℕ → Rela → Entry
 entryOf image r base e = entryBy image r base e (rowOf (e .rtype))
@@ -76,7 +80,7 @@ objectAt setting f off =
       span = objectSpan (f .host) (f .bytes);
       base = setting .address + off;
       image = objectBytes (f .host) (f .bytes);
-      find = λ name. definitionFound (answerIn (fileImage f) (viewOf (fileRecord f)) name);
+      find = λ wanted. definitionFound (answerIn (fileImage f) (viewOf (fileRecord f)) (wanted .name));
       words = pick (f .host) [] (placesOf (namedWords (fileImage f) (fileRecord f)));
       entries = pick (f .host) [] (map (entryOf (fileImage f) (fileRecord f) (setting .address + off)) (relasOf (fileImage f) (fileRecord f)));
     }

@@ -10,11 +10,11 @@ use Rattle.words.specs.Choice.{pick, both, some}
 use Rattle.model.specs.Symbols.{Answer, absent, answer}
 use Rattle.model.specs.Objects.{Objs}
 use Rattle.model.specs.Scope.{resolve, resolveCopy}
-use Rattle.object.specs.Symbol.{symbolAt, symbolName, bindingOf}
+use Rattle.object.specs.Symbol.{symbolAt, bindingOf}
 use Rattle.object.specs.RelocationTypes.{Row, noSearch, inScope, ignored, passedOver, turnedAway, copies, writes, rowOf}
 use Rattle.object.specs.Record.{Record}
 use Rattle.object.specs.declared.relocate.Rela.{Rela}
-use Rattle.binder.specs.Instance.{File, fileImage, fileRecord, relasOf}
+use Rattle.binder.specs.Instance.{File, fileImage, fileRecord, relasOf, wantedBy}
 use Rattle.binder.specs.Verdict.{noFile}
 
 -- a word: the top four bits are the kind, the low 28 a number
@@ -35,8 +35,8 @@ undefinedBy S k image r e ignored = false
 undefinedBy S k image r e passedOver = false
 undefinedBy S k image r e turnedAway = false
 undefinedBy S k image r e (writes noSearch f) = false
-undefinedBy S k image r e (writes inScope f) = unresolved image r e (resolve S k (symbolName image (r .symbols) (r .strings) (e .symbol)))
-undefinedBy S k image r e copies = unresolved image r e (resolveCopy S (symbolName image (r .symbols) (r .strings) (e .symbol)))
+undefinedBy S k image r e (writes inScope f) = unresolved image r e (resolve S k (wantedBy image r (e .symbol)))
+undefinedBy S k image r e copies = unresolved image r e (resolveCopy S (wantedBy image r (e .symbol)))
 
 abbrev pub isUndefined : Objs → ℕ → List ℕ → Record → Rela → Bool
 isUndefined S k image r e = undefinedBy S k image r e (rowOf (e .rtype))

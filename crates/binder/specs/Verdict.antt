@@ -6,7 +6,7 @@ use Prim.Native.Nat.{ℕ, zero, suc, _+_, _-_, min}
 use lib.Dec.{eqb, leb}
 use lib.ListN.{getD}
 use Rattle.words.specs.Choice.{pick, both, either}
-use Rattle.model.specs.Symbols.{Name, Sym, Answer, absent, answer}
+use Rattle.model.specs.Symbols.{Sym, Answer, absent, answer}
 use Rattle.model.specs.Objects.{Objs, obj}
 use Rattle.model.specs.Scope.{resolve, resolveCopy}
 use Rattle.object.specs.Refusal.{require}
@@ -14,13 +14,13 @@ use Rattle.object.specs.TableBytes.{inWritable}
 use Rattle.object.specs.Symbol.{bindingOf}
 use Rattle.object.specs.RelocationTypes.{Row, noSearch, inScope, ignored, passedOver, turnedAway, copies, writes, rowOf}
 use Rattle.object.specs.Entries.{Word, place, nowhere}
-use Rattle.object.specs.Record.{Record, checkedSymbol, nameOf}
+use Rattle.object.specs.Record.{Record, checkedSymbol}
 use Rattle.object.specs.Loaded.{objectRefusal}
 use Rattle.object.specs.declared.symbol.Symbol.{Symbol}
 use Rattle.object.specs.declared.relocate.Rela.{Rela}
 use Rattle.object.specs.declared.entry_symbol.CheckedSymbol.{CheckedSymbol}
 use Rattle.object.specs.declared.entry_symbol.CheckedSymbol.the-variants.{Refused, Checked}
-use Rattle.binder.specs.Instance.{File, fileImage, fileRecord, namedWords, relasOf}
+use Rattle.binder.specs.Instance.{File, fileImage, fileRecord, namedWords, relasOf, wantedBy}
 
 -- a refusal with its object, or none
 pub data Verdict : Type 0 where
@@ -82,7 +82,7 @@ refusalBy S k image r e turnedAway = 16
 refusalBy S k image r e (writes noSearch f) = writtenRefusal r (e .place) (f .width)
 refusalBy S k image r e (writes inScope f) = symbolThen (checkedSymbol image r (e .symbol)) (λ y. writtenRefusal r (e .place) (f .width))
 refusalBy S k image r e copies =
-    symbolThen (checkedSymbol image r (e .symbol)) (λ y. copyRefusal S k r (e .place) (y .size) (resolveCopy S (nameOf image r y)))
+    symbolThen (checkedSymbol image r (e .symbol)) (λ y. copyRefusal S k r (e .place) (y .size) (resolveCopy S (wantedBy image r (e .symbol))))
 
 abbrev pub entryRefusal : Objs → ℕ → List ℕ → Record → Rela → ℕ
 entryRefusal S k image r e = refusalBy S k image r e (rowOf (e .rtype))

@@ -8,7 +8,7 @@ use borrow.Author.Tests.{ltb-true, lt-ltb}
 use lib.Dec.{ltb}
 use lib.ListN.{length, length-append, length-map}
 use Rattle.words.specs.Memory.{tab}
-use Rattle.model.specs.Symbols.{Sym, absent, answer}
+use Rattle.model.specs.Symbols.{byName, Sym, absent, answer}
 use Rattle.model.specs.Symbols as symbols
 use Rattle.model.specs.Scope.{resolve}
 use Rattle.model.specs.Relocation.{placed}

@@ -15,7 +15,7 @@ use Rattle.words.proofs.Slices.{mem-tab}
 use Rattle.words.proofs.Words.{leAt-same}
 use Rattle.model.specs.Objects as objects
 use Rattle.model.specs.Objects.{Obj, Objs}
-use Rattle.model.specs.Symbols.{Sym, absent, answer}
+use Rattle.model.specs.Symbols.{byName, Sym, absent, answer}
 use Rattle.model.specs.Symbols as symbols
 use Rattle.model.specs.Scope.{scopeAnswer, protectedOf, scan, resolve}
 use Rattle.model.specs.Order.{visit, orderOf}
@@ -101,7 +101,7 @@ objectOf host bs off span image r es =
       span = span;
       base = 0x10000000 + off;
       image = objectBytes host bs;
-      find = λ name. definitionFound (answerIn image (viewOf r) name);
+      find = λ wanted. definitionFound (answerIn image (viewOf r) (wanted .name));
       words = [];
       entries = es;
     }
@@ -112,7 +112,7 @@ hostObj = objectOf true hostFile 0 0x1000 hostImage hostRecord []
 abbrev programObj : Obj
 programObj =
     objectOf false programFile 0x1000 0x2000 programImage programRecord
-    (objects.symbol 0x1000 8 (97 ∷ []) (λ a. a) ∷ (objects.symbol 0x1008 8 (98 ∷ []) (λ a. a) ∷ []))
+    (objects.symbol 0x1000 8 (byName (97 ∷ [])) (λ a. a) ∷ (objects.symbol 0x1008 8 (byName (98 ∷ [])) (λ a. a) ∷ []))
 
 abbrev libraryObj : ℕ → ℕ → Obj
 libraryObj c off = objectOf false (libraryFile c) off 0x1000 (libraryImage c) libraryRecord []
@@ -230,10 +230,10 @@ abbrev found : Sym
 found = record { index = 1; value = 0x18; size = 8; protected = false; absolute = false }
 
 record Lookups : Type 0 where
-  a-in-S : resolve S 1 (97 ∷ []) ≡ answer 2 found 0x10003018
-  a-in-T : resolve T 1 (97 ∷ []) ≡ answer 2 found 0x10003018
-  b-in-S : resolve S 1 (98 ∷ []) ≡ absent
-  b-in-T : resolve T 1 (98 ∷ []) ≡ answer 3 found 0x10004018
+  a-in-S : resolve S 1 (byName (97 ∷ [])) ≡ answer 2 found 0x10003018
+  a-in-T : resolve T 1 (byName (97 ∷ [])) ≡ answer 2 found 0x10003018
+  b-in-S : resolve S 1 (byName (98 ∷ [])) ≡ absent
+  b-in-T : resolve T 1 (byName (98 ∷ [])) ≡ answer 3 found 0x10004018
 
 look : Lookups
 unfolding resolve scan scopeAnswer protectedOf symbols.address wordBytes tab mem byteOf leAt untilZero sameBytes hashBy elfHash gnuHash walk walkFrom
@@ -243,7 +243,7 @@ look = record { a-in-S = refl; a-in-T = refl; b-in-S = refl; b-in-T = refl }
 -- ---- reports
 
 program-words :
-    (A : Objs) (t : Bool) → isAbsent (resolve A 1 (97 ∷ [])) ≡ false → isAbsent (resolve A 1 (98 ∷ [])) ≡ t
+    (A : Objs) (t : Bool) → isAbsent (resolve A 1 (byName (97 ∷ []))) ≡ false → isAbsent (resolve A 1 (byName (98 ∷ []))) ≡ t
     → objectWords A 1 (file false programFile) ≡ 0x50000001 ∷ pick t (0x60000001 ∷ []) []
 unfolding objectWords entryReport undefinedBy wordBytes tab mem byteOf leAt untilZero relasOf relasFrom relaAt rowOf symbolFrom
 program-words A true a b = rw (program-reads .image-is, program-reads .record-is, a, b)
@@ -312,7 +312,7 @@ excepted : (i : ℕ) → In 0x2008 8 i → Excepted S i
 excepted i w =
     named (
       1,
-      objects.symbol 0x1008 8 (98 ∷ []) (λ a. a),
+      objects.symbol 0x1008 8 (byName (98 ∷ [])) (λ a. a),
       omega arith,
       omega arith,
       List·Memᴰ·tail (List·Memᴰ·head refl),

@@ -35,7 +35,7 @@ use Rattle.object.specs.declared.relocate.Rela.{Rela}
 use Rattle.object.specs.RelocationTypes.{Row, noSearch, inScope, ignored, passedOver, turnedAway, copies, writes, rowOf}
 use Rattle.object.specs.declared.entry_symbol.CheckedSymbol.the-variants.{Refused, Checked}
 use Rattle.sheet.specs.Sheet.{Input, noInput, named, twinFrom, twinOf}
-use Rattle.binder.specs.Instance.{File, fileImage, fileRecord, namedWords, relasOf}
+use Rattle.binder.specs.Instance.{File, fileImage, fileRecord, namedWords, relasOf, wantedBy}
 use Rattle.binder.specs.Verdict.{
   Verdict,
   passed,
@@ -171,8 +171,8 @@ entry-range S k image r e (writes noSearch f) = written-range r (e .place) (f .w
 entry-range S k image r e (writes inScope f) =
     symbol-range image r (e .symbol) (λ y. writtenRefusal r (e .place) (f .width)) (λ y. written-range r (e .place) (f .width))
 entry-range S k image r e copies =
-    symbol-range image r (e .symbol) (λ y. copyRefusal S k r (e .place) (y .size) (resolveCopy S (nameOf image r y)))
-    (λ y. copy-range S k r (e .place) (y .size) (resolveCopy S (nameOf image r y)))
+    symbol-range image r (e .symbol) (λ y. copyRefusal S k r (e .place) (y .size) (resolveCopy S (wantedBy image r (e .symbol))))
+    (λ y. copy-range S k r (e .place) (y .size) (resolveCopy S (wantedBy image r (e .symbol))))
 
 -- ---- verdicts: what holds of the number and the object, where there is a refusal
 

@@ -13,7 +13,7 @@ use Rattle.model.specs.Order.{has}
 use Rattle.model.specs.Objects.{Objs}
 use Rattle.model.specs.Scope.{resolve}
 use Rattle.model.specs.Symbols as symbols
-use Rattle.model.specs.Symbols.{absent, answer}
+use Rattle.model.specs.Symbols.{byName, absent, answer}
 use Rattle.model.proofs.OrderLaws.{clash}
 use Rattle.sheet.specs.Sheet.{Input, sheetOk, setOf, arenaOk, twinOf}
 use Rattle.binder.specs.declared.Policy.{Policy}

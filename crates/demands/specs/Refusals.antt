@@ -8,6 +8,7 @@ use mathlib.Core.Logic.{_⊎_, _≢_}
 use mathlib.Core.Path.{_≡_}
 use Prim.Native.Nat.{ℕ, _≤_, _<_}
 use lib.ListN.{length, getD, take, replicate}
+use Rattle.model.specs.Symbols.{byName}
 use Rattle.model.specs.Order.{has}
 use Rattle.model.specs.Scope.{resolve}
 use Rattle.sheet.specs.Sheet.{Input, noInput, setOf}

@@ -10,7 +10,7 @@ use lib.ListN.{getD}
 use Rattle.words.specs.Choice.{pick}
 use Rattle.words.specs.Memory.{Mem, write}
 use Rattle.words.specs.Words.{leAt, byteOf}
-use Rattle.model.specs.Symbols.{Name, Sym, Found, none, hit, address, answer}
+use Rattle.model.specs.Symbols.{Wanted, byName, Sym, Found, none, hit, address, answer}
 use Rattle.model.specs.Objects.{Entry, fixed, symbol, copy, Obj, Objs}
 use Rattle.model.specs.Scope.{scopeAnswer, protectedOf, scan, resolve, resolveCopy}
 use Rattle.model.specs.Relocation.{
@@ -34,7 +34,7 @@ use Rattle.model.specs.Layout.{layout, objsOf}
 pub record File : Type 0 where
   pub span : ℕ
   pub image : Mem
-  pub find : Name → Found
+  pub find : Wanted → Found
   pub words : List ℕ
   pub entries : List Entry
 
@@ -50,20 +50,20 @@ make f off =
       entries = f .entries;
     }
 
-abbrev a : Name
-a = 97 ∷ []
+abbrev a : Wanted
+a = byName (97 ∷ [])
 
-abbrev c : Name
-c = 99 ∷ []
+abbrev c : Wanted
+c = byName (99 ∷ [])
 
-abbrev g : Name
-g = 103 ∷ []
+abbrev g : Wanted
+g = byName (103 ∷ [])
 
-abbrev h : Name
-h = 104 ∷ []
+abbrev h : Wanted
+h = byName (104 ∷ [])
 
-abbrev u : Name
-u = 117 ∷ []
+abbrev u : Wanted
+u = byName (117 ∷ [])
 
 abbrev symOf : Bool → ℕ → ℕ → Sym
 symOf absolute value size =
@@ -73,11 +73,11 @@ abbrev protectedAt : ℕ → Sym
 protectedAt value = record { index = 1; value = value; size = 8; protected = true; absolute = false }
 
 -- a symbol for the name of that one byte, else what is found besides
-abbrev with : ℕ → Sym → (Name → Found) → Name → Found
-with b s besides name = pick (eqb (getD name 0 0) b) (hit s) (besides name)
+abbrev with : ℕ → Sym → (Wanted → Found) → Wanted → Found
+with b s besides wanted = pick (eqb (getD (wanted .name) 0 0) b) (hit s) (besides wanted)
 
-abbrev nothing : Name → Found
-nothing name = none
+abbrev nothing : Wanted → Found
+nothing wanted = none
 
 -- at 0, defines a, g and h
 abbrev pub host : File

@@ -27,8 +27,8 @@ ClearCopy P to size (answer d s a) = Clear P to (min size (s .size))
 -- the entry of object k writes no byte of P
 abbrev pub ClearEntry : (ℕ → Type 0) → Objs → ℕ → Entry → Type 0
 ClearEntry P S k (fixed p w n) = Clear P ((obj S k) .offset + p) w
-ClearEntry P S k (symbol p w name f) = Clear P ((obj S k) .offset + p) w
-ClearEntry P S k (copy p name size) = ClearCopy P ((obj S k) .offset + p) size (resolveCopy S name)
+ClearEntry P S k (symbol p w wanted f) = Clear P ((obj S k) .offset + p) w
+ClearEntry P S k (copy p wanted size) = ClearCopy P ((obj S k) .offset + p) size (resolveCopy S wanted)
 ClearEntry P S k pass = Unit {0}
 
 -- bytes that nothing writes stay
@@ -55,9 +55,9 @@ module _ (P : ℕ → Type 0) where
       → effect S k e m i ≡ m i
   unfolding effect
   effect-still S k (fixed p n v) h m i w = write-out m ((obj S k) .offset + p) n _ i (h i w)
-  effect-still S k (symbol p n name f) h m i w = write-out m ((obj S k) .offset + p) n _ i (h i w)
-  effect-still S k (copy p name size) h m i w =
-      copied-still S ((obj S k) .offset + p) size (resolveCopy S name) h m i w
+  effect-still S k (symbol p n wanted f) h m i w = write-out m ((obj S k) .offset + p) n _ i (h i w)
+  effect-still S k (copy p wanted size) h m i w =
+      copied-still S ((obj S k) .offset + p) size (resolveCopy S wanted) h m i w
   effect-still S k pass h m i w = refl
 
   pub effects-still :
@@ -82,8 +82,8 @@ clear-copy S k p size (answer d s a) h = go (decLt 0 (min size (s .size)))
 
 clear-entry : (S : Objs) (k : ℕ) (e : Entry) → Inside S k e → ClearEntry (OutSpan (obj S k)) S k e
 clear-entry S k (fixed p w n) h = out-part _ _ p w h
-clear-entry S k (symbol p w name f) h = out-part _ _ p w h
-clear-entry S k (copy p name size) h = clear-copy S k p size (resolveCopy S name) h
+clear-entry S k (symbol p w wanted f) h = out-part _ _ p w h
+clear-entry S k (copy p wanted size) h = clear-copy S k p size (resolveCopy S wanted) h
 clear-entry S k pass h = tt
 
 pub words-frame :

@@ -6,7 +6,7 @@ use mathlib.Core.Logic.{_⊎_, _≢_}
 use mathlib.Core.List.{List, [], _∷_, _++_, List·Memᴰ}
 use Prim.Native.Nat.{ℕ, _+_, _≤_, _<_, min}
 use Rattle.words.specs.Memory.{Mem, In}
-use Rattle.model.specs.Symbols.{Name, Sym, Answer, absent, answer}
+use Rattle.model.specs.Symbols.{Wanted, Sym, Answer, absent, answer}
 use Rattle.model.specs.Objects.{Entry, fixed, symbol, copy, pass, Obj, Objs, count, obj, InSpan}
 use Rattle.model.specs.Scope.{resolve, resolveCopy}
 use Rattle.model.specs.Relocation.{bound}
@@ -19,8 +19,8 @@ longer S added = record { host = S .host; program = S .program; libs = S .libs +
 -- the entry is no COPY entry
 abbrev pub NotCopy : Entry → Type 0
 NotCopy (fixed p w n) = Unit {0}
-NotCopy (symbol p w name f) = Unit {0}
-NotCopy (copy p name size) = ⊥
+NotCopy (symbol p w wanted f) = Unit {0}
+NotCopy (copy p wanted size) = ⊥
 NotCopy pass = Unit {0}
 
 -- "whose only COPY entries are the program's": no library, numbered from 2, has one
@@ -37,9 +37,9 @@ pub data HostOrNowhere : Answer → Type 0 where
 -- Document 01: "An entry that makes no search is neither bound nor found nowhere".
 abbrev pub Named : Objs → ℕ → Entry → ℕ → Type 0
 Named S k (fixed p w n) i = ⊥
-Named S k (symbol p w name f) i = HostOrNowhere (resolve S k name) × In ((obj S k) .offset + p) w i
-Named S k (copy p name size) i =
-    HostOrNowhere (resolveCopy S name) × In ((obj S k) .offset + p) size i × InSpan (obj S k) i
+Named S k (symbol p w wanted f) i = HostOrNowhere (resolve S k wanted) × In ((obj S k) .offset + p) w i
+Named S k (copy p wanted size) i =
+    HostOrNowhere (resolveCopy S wanted) × In ((obj S k) .offset + p) size i × InSpan (obj S k) i
 Named S k pass i = ⊥
 
 -- "bytes named by entries that S bound to the host or found nowhere"; entries are those of program and libraries, numbered from 1
@@ -55,8 +55,8 @@ CopiesFrom S to size (answer d s a) i j =
 -- document 01: "A copy of a byte is a byte that a COPY entry of the program, as S binds it, writes from that byte"
 abbrev pub Copies : Objs → Entry → ℕ → ℕ → Type 0
 Copies S (fixed p w n) i j = ⊥
-Copies S (symbol p w name f) i j = ⊥
-Copies S (copy p name size) i j = CopiesFrom S ((S .program) .offset + p) size (resolveCopy S name) i j
+Copies S (symbol p w wanted f) i j = ⊥
+Copies S (copy p wanted size) i j = CopiesFrom S ((S .program) .offset + p) size (resolveCopy S wanted) i j
 Copies S pass i j = ⊥
 
 -- "save bytes named by entries that S bound to the host or found nowhere, and copies of those bytes"; nothing else
@@ -69,12 +69,12 @@ pub record Kept (S T : Objs) (arena arena′ : Mem) : Type 0 where
   -- "every name that S answers from its program or a library, for any object of S as requester, has the same answer in T, the same
   -- object, symbol and address"; the requester is `r`, and an answer from program or library is one of an object other than 0
   pub names :
-      (r : ℕ) → r < count S → (name : Name) (k : ℕ) (s : Sym) (a : ℕ) → resolve S r name ≡ answer k s a → k ≢ 0
-      → resolve T r name ≡ answer k s a
+      (r : ℕ) → r < count S → (wanted : Wanted) (k : ℕ) (s : Sym) (a : ℕ) → resolve S r wanted ≡ answer k s a → k ≢ 0
+      → resolve T r wanted ≡ answer k s a
   -- the same in COPY's scope, which is one for all requesters
   pub copy-names :
-      (name : Name) (k : ℕ) (s : Sym) (a : ℕ) → resolveCopy S name ≡ answer k s a → k ≢ 0
-      → resolveCopy T name ≡ answer k s a
+      (wanted : Wanted) (k : ℕ) (s : Sym) (a : ℕ) → resolveCopy S wanted ≡ answer k s a → k ≢ 0
+      → resolveCopy T wanted ≡ answer k s a
   -- "and every byte of S's objects, the host's too, is equal in both bound arenas, save" the excepted ones
   pub bytes : (k : ℕ) → k < count S → (i : ℕ) → InSpan (obj S k) i → Excepted S i ⊎ (arena i ≡ arena′ i)
 

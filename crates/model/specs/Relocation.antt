@@ -40,8 +40,8 @@ copied S to size (answer d s a) m = write m to (min size (s .size)) (λ t. m ((o
 -- what an entry of object `k` does
 unfoldable pub effect : Objs → ℕ → Entry → Mem → Mem
 effect S k (fixed p w n) m = write m ((obj S k) .offset + p) w (byteOf n)
-effect S k (symbol p w name f) m = write m ((obj S k) .offset + p) w (byteOf (f (addressOr0 (resolve S k name))))
-effect S k (copy p name size) m = copied S ((obj S k) .offset + p) size (resolveCopy S name) m
+effect S k (symbol p w wanted f) m = write m ((obj S k) .offset + p) w (byteOf (f (addressOr0 (resolve S k wanted))))
+effect S k (copy p wanted size) m = copied S ((obj S k) .offset + p) size (resolveCopy S wanted) m
 effect S k pass m = m
 
 -- the entries one after another

@@ -21,8 +21,8 @@ InsideCopy S k p size (answer d s a) =
 -- refusal 17 of an entry of object `k`: the bytes written lie in that object
 abbrev pub Inside : Objs → ℕ → Entry → Type 0
 Inside S k (fixed p w n) = p + w ≤ (obj S k) .span
-Inside S k (symbol p w name f) = p + w ≤ (obj S k) .span
-Inside S k (copy p name size) = InsideCopy S k p size (resolveCopy S name)
+Inside S k (symbol p w wanted f) = p + w ≤ (obj S k) .span
+Inside S k (copy p wanted size) = InsideCopy S k p size (resolveCopy S wanted)
 Inside S k pass = Unit {0}
 
 -- what the refusals leave of a set: spans one after another, and every write and every COPY's source inside its object

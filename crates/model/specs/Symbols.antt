@@ -6,9 +6,12 @@ use Prim.Native.Nat.{ℕ}
 use Rattle.words.specs.Choice.{pick}
 use Rattle.words.specs.Words.{sum64}
 
--- the bytes before the zero byte
-abbrev pub Name : Type 0
-Name = List ℕ
+-- what a search is for: a name, the bytes before the zero byte
+pub record Wanted : Type 0 where
+  pub name : List ℕ
+
+abbrev pub byName : List ℕ → Wanted
+byName name = record { name = name }
 
 -- an exported symbol: its index in the symbol table, st_value, st_size, and whether it is protected (visibility 3), absolute (section 0xFFF1)
 pub record Sym : Type 0 where

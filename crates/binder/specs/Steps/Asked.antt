@@ -5,6 +5,7 @@ use Prim.Native.Nat.{ℕ}
 use lib.Dec.{ltb}
 use lib.ListN.{length}
 use Rattle.words.specs.Memory.{tab}
+use Rattle.model.specs.Symbols.{byName}
 use Rattle.model.specs.Scope.{resolve}
 use Rattle.model.specs.Relocation.{placed}
 use Rattle.sheet.specs.Sheet.{Input}

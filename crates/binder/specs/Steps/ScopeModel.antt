@@ -27,7 +27,7 @@ scopedOf (Found k d a) = model.answer k (symOf d) a
 pub record SeatOf (address : ℕ) (arena : List ℕ) (o : Obj) (s : Seat) : Type 0 where
   pub base : o .base ≡ address + s .offset
   pub small : address + s .offset < 2 ^ 64
-  pub find : (name : List ℕ) → o .find name ≡ definitionFound (answerAt arena s name (gnuHash name) (elfHash name))
+  pub find : (name : List ℕ) → o .find (model.byName name) ≡ definitionFound (answerAt arena s name (gnuHash name) (elfHash name))
 
 -- the table has a seat for each object of the set
 abbrev pub SeatedFor : ℕ → List ℕ → List ℕ → Objs → Type 0
