@@ -504,7 +504,7 @@ module _ (setting : Setting) (size : ℕ) (table : List ℕ) (h pr : File) (fs :
             (copy-by (resolveCopy S sought) (soughtForCopy address table (count S) a (nameOf (imageIn a t) r y))
             (ap (λ (x : List ℕ). scopedOf (soughtForCopy address table (count S) a x)) (name-same (e .symbol) ok same)
             ∙ copy-searches setting size table h pr fs L a steady name)
-            (λ o z v q. resolveCopy-range S name o z v q .0)))
+            (λ o z v q. resolveCopy-range S sought o z v q .0)))
 
         -- ---- any entry
 

@@ -57,7 +57,7 @@ module _ (setting : Setting) (os : List Input) (size requester : ℕ) (name : Li
   pub ask-found :
       (r : Met) → metBy r ≡ setVerdict setting os size → r ≡ Passed → requester < length os
       → askOf setting os size requester name
-      ≡ replied (replyOf (resolve (objectsOf setting (filesOf os)) requester name)) (tab size (placed (objectsOf setting (filesOf os))))
+      ≡ replied (replyOf (resolve (objectsOf setting (filesOf os)) requester (byName name))) (tab size (placed (objectsOf setting (filesOf os))))
   unfolding askOf repliedOf unless
   ask-found r e z l = rw (sym e ∙ ap metBy z, lt-ltb requester (length os) l)
 
@@ -74,7 +74,7 @@ asked setting [] count arena arena′ table requester name r many made z l len x
 asked setting (h ∷ []) count arena arena′ table requester name r many made z l len x e =
     absurd (omega (arith, passes setting (h ∷ []) arena arena′ table r made z .two))
 asked setting (h ∷ (p ∷ ls)) count arena arena′ table requester name r many made z l len x e =
-    rw (e, answer) (ap (replied (replyOf (resolve S requester name))) bytes)
+    rw (e, answer) (ap (replied (replyOf (resolve S requester (byName name)))) bytes)
     ∙ sym (ask-found setting (h ∷ (p ∷ ls)) (length arena) requester name r (made .met) z (omega (arith, many)) ∙ same)
   where
     hf : File
@@ -90,9 +90,9 @@ asked setting (h ∷ (p ∷ ls)) count arena arena′ table requester name r man
     S = objsOf (objectAt setting) hf pf fs
 
     same :
-        replied (replyOf (resolve (objectsOf setting (filesOf (h ∷ (p ∷ ls)))) requester name))
+        replied (replyOf (resolve (objectsOf setting (filesOf (h ∷ (p ∷ ls)))) requester (byName name)))
         (tab (length arena) (placed (objectsOf setting (filesOf (h ∷ (p ∷ ls))))))
-        ≡ replied (replyOf (resolve S requester name)) (tab (length arena) (placed S))
+        ≡ replied (replyOf (resolve S requester (byName name))) (tab (length arena) (placed S))
     same = refl
 
     passed-it : Ready setting (h ∷ (p ∷ ls)) (length arena)
@@ -104,7 +104,7 @@ asked setting (h ∷ (p ∷ ls)) count arena arena′ table requester name r man
         ∙ (ap (λ (n : ℕ). tab n (mem arena′)) len
         ∙ ap (tab (length arena)) (made .arena z ∙ sym (placed-is setting hf pf fs)))
 
-    answer : scopedOf (resolveSeats (setting .address) arena′ table count requester name (gnuHash name) (elfHash name)) ≡ resolve S requester name
+    answer : scopedOf (resolveSeats (setting .address) arena′ table count requester name (gnuHash name) (elfHash name)) ≡ resolve S requester (byName name)
     answer =
         let n : length fs ≡ length ls = length-map ls (λ (o : Input). record { host = false; bytes = o .file }) in
         let c : count ≡ objects.count S = omega (arith, count-is setting (length arena) hf pf fs, many) in

@@ -110,5 +110,5 @@ unfoldable pub queryOf : Setting → List ℕ → List ℕ → ℕ → ℕ → L
 queryOf setting sheet bytes size requester name =
     repliedOf size
     (first (prepareVerdict setting sheet bytes size) (unless (ltb requester (length (setOf sheet bytes))) 13 0))
-    (replyOf (resolve (objectsOf setting (filesOf (setOf sheet bytes))) requester name))
+    (replyOf (resolve (objectsOf setting (filesOf (setOf sheet bytes))) requester (byName name)))
     (tab size (placed (objectsOf setting (filesOf (setOf sheet bytes)))))

@@ -47,8 +47,8 @@ found-answer (answer j s b) k i a e = (s, cc, cc)
 -- of any two sets of which the second is the first and one object more
 kept :
     (setting : Setting) (os os′ : List Input) → Longer os os′ → (r : ℕ) → r < length os → (name : List ℕ) (k : ℕ) (s : Sym) (a : ℕ)
-    → resolve (objectsOf setting (filesOf os)) r name ≡ answer k s a → k ≢ 0
-    → (resolve (objectsOf setting (filesOf os′)) r name ≡ answer k s a) × (r < length os′)
+    → resolve (objectsOf setting (filesOf os)) r (byName name) ≡ answer k s a → k ≢ 0
+    → (resolve (objectsOf setting (filesOf os′)) r (byName name) ≡ answer k s a) × (r < length os′)
 unfolding objectsOf
 kept setting os os′ l r small name k s a e pos =
     let fs : List File = map fileOf (l .libs) in
@@ -60,7 +60,7 @@ kept setting os os′ l r small name k s a e pos =
     let n′ : length os′ ≡ length fs + 3 =
     ap length (l .longer) ∙ omega (arith, length-map (l .libs) fileOf, length-append (l .libs) (l .added ∷ [])) in (
       rw (files′, objs-longer (objectAt setting) (hostFile (l .host)) (fileOf (l .program)) fs (fileOf (l .added)))
-          (resolve-kept _ _ r (omega (arith, count-is setting 0 (hostFile (l .host)) (fileOf (l .program)) fs)) name k s a (rw files at e) pos),
+          (resolve-kept _ _ r (omega (arith, count-is setting 0 (hostFile (l .host)) (fileOf (l .program)) fs)) (byName name) k s a (rw files at e) pos),
       omega arith,
     )
 
@@ -77,7 +77,7 @@ loaded setting sheet bytes size policy words arena report e =
 pub asked :
     (setting : Setting) (sheet bytes : List ℕ) (size requester : ℕ) (name : List ℕ) → PassesLoading setting sheet bytes size → requester < length (setOf sheet bytes)
     → queryOf setting sheet bytes size requester name
-    ≡ replied (replyOf (resolve (setObjects setting sheet bytes) requester name)) (tab size (placed (setObjects setting sheet bytes)))
+    ≡ replied (replyOf (resolve (setObjects setting sheet bytes) requester (byName name))) (tab size (placed (setObjects setting sheet bytes)))
 unfolding queryOf repliedOf unless
 asked setting sheet bytes size requester name v l = rw (v, lt-ltb requester (length (setOf sheet bytes)) l)
 
@@ -94,7 +94,7 @@ same setting sheet bytes size requester name k i a arena e pos f n added size′
     let q = first-passed (prepareVerdict setting sheet bytes size) (unless (ltb requester (length os)) 13 0) (p .0) in
     let ok = prepared sheet bytes setting size (q .0) .sheet-ok in
     let l = ltb-true requester (length os) (unless-passed (ltb requester (length os)) 13 0 (q .1)) in
-    let x = found-answer (resolve (setObjects setting sheet bytes) requester name) k i a (p .1) in
+    let x = found-answer (resolve (setObjects setting sheet bytes) requester (byName name)) k i a (p .1) in
     let t = kept setting os (setOf (sheet ++ (f ∷ (n ∷ []))) (bytes ++ added)) (sheet-longer sheet bytes f n added ok) requester l name k (x .0) a
     (x .1) pos in
     asked setting (sheet ++ (f ∷ (n ∷ []))) (bytes ++ added) size′ requester name v (t .1) ∙ rw (t .0, x .2)

@@ -288,7 +288,7 @@ T-bound = bind-passed longerSheet longerBytes 0x5000 longerInputs (2 ∷ 3 ∷ 1
 
 query-passed :
     (sheet bytes : List ℕ) (size : ℕ) (os : List Input) (A : Objs) (name : List ℕ) (x : symbols.Answer) → setOf sheet bytes ≡ os
-    → prepareVerdict setting sheet bytes size ≡ passed → objectsOf setting (filesOf os) ≡ A → 1 < length os → resolve A 1 name ≡ x
+    → prepareVerdict setting sheet bytes size ≡ passed → objectsOf setting (filesOf os) ≡ A → 1 < length os → resolve A 1 (byName name) ≡ x
     → queryOf setting sheet bytes size 1 name ≡ replied (replyOf x) (tab size (placed A))
 query-passed sheet bytes size os A name x s v o l e = asked setting sheet bytes size 1 name v (rw s l) ∙ rw (s, o, e)
 

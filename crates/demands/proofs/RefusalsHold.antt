@@ -210,7 +210,7 @@ unfolding queryOf
 query-refusals setting sheet bytes size requester name n k arena e =
     let o = refused-reply (Right QueryNumber (length (setOf sheet bytes))) size _ _ _ n k arena
     (query-right setting sheet bytes size requester)
-    (no-refusal (resolve (objectsIn setting (setOf sheet bytes)) requester name)) e in
+    (no-refusal (resolve (objectsIn setting (setOf sheet bytes)) requester (byName name))) e in
     record { number = o .0 .0; object = o .0 .1; arena-zeros = o .1 }
 
 -- ---- every call

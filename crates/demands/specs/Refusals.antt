@@ -84,7 +84,7 @@ pub record Answered : Type 0 where
       (setting : Setting) (sheet bytes : List ℕ) (size requester : ℕ) (name : List ℕ)
       → ((arena : List ℕ)
       × (queryOf setting sheet bytes size requester name
-      ≡ replied (replyOf (resolve (setObjects setting sheet bytes) requester name)) arena))
+      ≡ replied (replyOf (resolve (setObjects setting sheet bytes) requester (byName name))) arena))
       ⊎ ((n k : ℕ) × (queryOf setting sheet bytes size requester name ≡ replied (replies.the-variants.Refused n k) (replicate size 0)))
 
 -- ---- the host's part of the arena

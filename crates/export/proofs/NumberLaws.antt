@@ -131,7 +131,7 @@ zero-tells = (
       of-outcome size words _ _ _ arena report n k
       (either-one (prepareVerdict setting sheet bytes size) _ (of-prepare setting sheet bytes size) (of-relocate _ _ _ policy words)) e,
   λ setting sheet bytes size requester name n k arena e.
-      of-replied size _ (resolve (objectsOf setting (filesOf (setOf sheet bytes))) requester name) _ arena n k
+      of-replied size _ (resolve (objectsOf setting (filesOf (setOf sheet bytes))) requester (symbols.byName name)) _ arena n k
       (either-one (prepareVerdict setting sheet bytes size) (unless (ltb requester (length (setOf sheet bytes))) 13 0) (of-prepare setting sheet bytes size)
       (of-test (ltb requester (length (setOf sheet bytes))) 13 0 (omega arith))) e,
 )

@@ -18,4 +18,4 @@ use Rattle.binder.specs.Steps.Prepared.{setVerdict}
 unfoldable pub askOf : Setting → List Input → ℕ → ℕ → List ℕ → Replied
 askOf setting os size requester name =
     repliedOf size (first (setVerdict setting os size) (unless (ltb requester (length os)) 13 0))
-    (replyOf (resolve (objectsOf setting (filesOf os)) requester name)) (tab size (placed (objectsOf setting (filesOf os))))
+    (replyOf (resolve (objectsOf setting (filesOf os)) requester (byName name))) (tab size (placed (objectsOf setting (filesOf os))))
