@@ -28,7 +28,7 @@ use Rattle.object.specs.RelocationTypes.{Calculation, Row, noSearch, inScope, i
 use Rattle.object.specs.declared.entry_symbol.CheckedSymbol.{CheckedSymbol}
 use Rattle.object.specs.declared.entry_symbol.CheckedSymbol.the-variants.{Refused, Checked}
 use Rattle.object.specs.declared.hash_tables.Definition.{Definition}
-use Rattle.binder.specs.Instance.{File, fileImage, fileRecord, symOf, entryBy}
+use Rattle.binder.specs.Instance.{File, fileImage, fileRecord, symOf, entryBy, wantedBy}
 use Rattle.binder.specs.Setting.{Setting}
 use Rattle.binder.specs.Verdict.{Verdict, passed, verdict, writtenRefusal, copyOk, copyRefusal, symbolThen, refusalBy}
 use Rattle.binder.specs.Report.{reportWord, unresolved, undefinedBy, isPassed}

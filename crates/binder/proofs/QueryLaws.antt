@@ -19,6 +19,7 @@ use Rattle.object.specs.Record.{viewOf}
 use Rattle.object.specs.Loaded.{objectRefusal}
 use Rattle.object.specs.HashTable.{answerIn}
 use Rattle.binder.specs.Setting.{Setting}
+use Rattle.model.specs.Symbols.{byName}
 use Rattle.binder.specs.Instance.{File, fileImage, fileRecord, definitionFound, objectAt}
 use Rattle.binder.specs.Verdict.{passed, verdict, noFile}
 use Rattle.scope.specs.Steps.Seats.{seatAt}
