@@ -50,7 +50,7 @@ pub record RelativeWritten (base at low high i : ℕ) (x y : List ℕ) : Type 0 
 unfoldable pub RelativesWritten : ℕ → ℕ → ℕ → ℕ → ℕ → ℕ → List ℕ → List ℕ → Type 0
 RelativesWritten base at low high i zero x y = y ≡ x
 RelativesWritten base at low high i (suc m) x y =
-    (z : List ℕ) × (RelativesWritten base at low high i m x z × RelativeWritten base at low high (i + m) z y)
+    (z : List ℕ) × RelativesWritten base at low high i m x z × RelativeWritten base at low high (i + m) z y
 
 -- of the table of `n` entries at `at`, what is left from entry `i` on over the arena `a` is what is left from entry `j` on over `b`, for an
 -- object in which low .. high is writable, and where no refusal was met
