@@ -17,7 +17,7 @@ use Rattle.binder.specs.Instance.{File, fileImage, fileRecord, placesOf,
 use Rattle.binder.specs.Setting.{Setting}
 use Rattle.binder.specs.Verdict.{Verdict, first, entriesVerdict, objectVerdict}
 use Rattle.binder.specs.Report.{reportWord, entryReport, objectWords, hasUndefined}
-use Rattle.binder.specs.Steps.Relocating.{left, Noted, noted, Summed, summed, refusedBy, keeps, reportSum, noteOf, far, cutTo32, addRelrs, turnOf, imageIn, againRefusal, runTables, thenTables, runObject, runAt}
+use Rattle.binder.specs.Steps.Relocating.{left, Noted, noted, Summed, summed, refusedBy, keeps, reportSum, noteOf, runRelrs, turnOf, imageIn, againRefusal, runTables, thenTables, runObject, runAt}
 use Rattle.binder.specs.declared.turn.Turn.{Turn}
 use Rattle.binder.specs.declared.report.Progress.{Progress}
 use Rattle.binder.proofs.Steady.{set, fileAt, LoadedSet, PlacedAt, Steady}
@@ -132,10 +132,10 @@ module _ (setting : Setting) (size : ℕ) (table : List ℕ) (h pr : File) (fs :
         5 * 2 ^ 28 + k < 2 ^ 32 → Ran size n (objectVerdict S k f) Turned (runObject address table (count S) t r p a report)
     unfolding runObject
     object-ran small =
-        go (addRelrs t r (cutTo32 (r .relrs)) 0 far a) refl
+        go (runRelrs t r a) refl
       where
         go :
-            (x : Summed) → x ≡ addRelrs t r (cutTo32 (r .relrs)) 0 far a
+            (x : Summed) → x ≡ runRelrs t r a
             → Ran size n (objectVerdict S k f) Turned (thenTables address table (count S) t r x (noteOf (reportSum 5 k) (keeps 0 0 p) report))
         go (summed z b) e =
             after-relr z b (noteOf (reportSum 5 k) (keeps 0 0 p) report) (relr-is setting size table h pr fs L k lo hi a s z b e)

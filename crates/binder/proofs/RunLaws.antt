@@ -28,7 +28,7 @@ use Rattle.sheet.specs.Sheet.{Input, noInput}
 use Rattle.binder.specs.declared.report.Progress.{Progress}
 use Rattle.scope.specs.declared.scope.Scoped.{Scoped}
 use Rattle.binder.specs.declared.turn.Turn.{Turn}
-use Rattle.binder.specs.Steps.Relocating.{Left, left, noted, summed, unlessRefused, refusedBy, imageIn, turnOf, againRefusal, againRecord, symbolRefusal, soughtFor, soughtForCopy, keeps, writtenBytes, writeFound, copyOf, answeredOf, symbolicOf, copyingOf, runAction, runTable, far, cutTo32, reportSum, noteOf, addRelrs, runTables, runObject, runAt, runOrder}
+use Rattle.binder.specs.Steps.Relocating.{Left, left, noted, summed, unlessRefused, refusedBy, imageIn, turnOf, againRefusal, againRecord, symbolRefusal, soughtFor, soughtForCopy, keeps, writtenBytes, writeFound, copyOf, answeredOf, symbolicOf, copyingOf, runAction, runTable, cutTo32, reportSum, noteOf, runRelrs, runTables, runObject, runAt, runOrder}
 
 -- ---- the entries of a symbol
 
@@ -106,7 +106,7 @@ module _ (address : ℕ) (table : List ℕ) (count : ℕ) (t : Turn) (r : Record
     tables-go h hm next = rw (← hn, ← run, eq-eqb _ _ h, ← hm) next
 
   -- the report word and RELR, then the tables
-  module _ {w z : ℕ} {fresh : Progress} (hf : fresh ≡ keeps 0 0 p) (hw : w ≡ reportSum 5 (t .number)) (hq : noted q marks ≡ noteOf w fresh report) (hz : summed z b ≡ addRelrs t r (cutTo32 (r .relrs)) 0 far a) where
+  module _ {w z : ℕ} {fresh : Progress} (hf : fresh ≡ keeps 0 0 p) (hw : w ≡ reportSum 5 (t .number)) (hq : noted q marks ≡ noteOf w fresh report) (hz : summed z b ≡ runRelrs t r a) where
     pub relr-stops : {q′ : Progress} → (z ≡ 0 → ⊥) → q′ ≡ refusedBy t z q → left q′ b marks ≡ runObject address table count t r p a report
     unfolding runObject
     relr-stops h hr = rw (hr, ← hf, ← hw, ← hq, ← hz, ne-eqb _ _ h)

@@ -1,7 +1,7 @@
 // Relocation: port of strategies/relocate.rs. The objects one after another: RELR, RELA, PLT; refusals 14 to 18, entry by entry.
 ghost use mathlib.Core.Path.{_≡_};
 ghost use mathlib.Core.Bool.{true};
-ghost use Prim.Native.Nat.{_+_, _*_, _≤_};
+ghost use Prim.Native.Nat.{_+_, _-_, _*_, _≤_};
 ghost use lib.Dec.{eqb};
 ghost use lib.ListN.{length, take};
 ghost use Rattle.words.specs.Choice.{pick};
@@ -15,7 +15,7 @@ ghost use Rattle.object.specs.Steps.WritableRange.{WritableRange};
 ghost use Rattle.sheet.specs.Steps.Parts.{inputsIn};
 ghost use Rattle.scope.specs.Steps.Seats.{Filtered};
 ghost use Rattle.binder.specs.Steps.Relocating.{left, wrote, started, imageIn, fixedOf, symbolRefusal, writeFound, soughtFor, soughtForCopy, symbolicOf, copyingOf, runAction, runTable, runTables, runObject, runAt, runOrder};
-ghost use Rattle.binder.specs.Steps.RunSteps.{InReach, EntriesPassed, SymbolsOf, EntryRead, addressIn, SymbolsPassed};
+ghost use Rattle.binder.specs.Steps.RunSteps.{InReach, RelativesWritten, EntriesPassed, SymbolsOf, EntryRead, addressIn, SymbolsPassed};
 ghost use Rattle.binder.specs.declared.relocate.Address.the-variants.{At};
 use crate::order::Order;
 use crate::report::Progress;
@@ -243,10 +243,45 @@ fn in_reach(len: usize, t: Turn, at: usize, n: u32, high: usize) -> bool
     n as usize <= (t.span - at) / 24
 }
 
-// As many entries that are Relative as follow one another from entry `start` on, below `n`, with places in low .. high, which is in a writable
-// segment: base + addend. The first entry that is not of this kind. The entries are read where the table is inside the span, and nothing is
-// done elsewhere.
+// As many entries that are Relative as follow one another from entry `start` on, below `n`, with places in low .. high: base + addend. The
+// first entry that is not of this kind. The table and low .. high lie in the part.
 fn relatives(
+    part: &mut [u8],
+    base: u64,
+    at: usize,
+    start: u32,
+    n: u32,
+    low: usize,
+    high: usize,
+) -> u32
+    requires { ⌜ (start ≤ n) × (at + 24 * n ≤ length (now part)) × (8 ≤ high) × (high ≤ length (now part)) ⌝ }
+    ensures { λ r. ⌜ (start ≤ r) × (r ≤ n) × RelativesWritten base at low high start (r - start) (now (part .entry)) (now (part .exit)) ⌝ }
+{
+    let last = high - 8;
+    let mut i = start;
+    let mut k = at + 24 * (start as usize);
+    while i < n {
+        if !is_relative(words::bytes::u32_in(part, k + 8)) {
+            return i;
+        }
+        let place = words::bytes::u64_in(part, k) as usize;
+        if place < low {
+            return i;
+        }
+        if last < place {
+            return i;
+        }
+        let v = words::bytes::sum_u64(base, words::bytes::u64_in(part, k + 16));
+        words::bytes::store_in(part, place, v);
+        k += 24;
+        i += 1;
+    }
+    i
+}
+
+// The same, of the object at its place in the arena, where low .. high is in a writable segment: its part is lent. Nothing is done where the
+// table is not inside the span.
+fn run_relatives(
     arena: &mut [u8],
     t: Turn,
     at: usize,
@@ -261,26 +296,8 @@ fn relatives(
     if !in_reach(arena.len(), t, at, n, high) {
         return start;
     }
-    let last = high - 8;
-    let mut i = start;
-    let mut k = t.offset + at + 24 * (start as usize);
-    while i < n {
-        if !is_relative(words::bytes::u32_in(arena, k + 8)) {
-            return i;
-        }
-        let place = words::bytes::u64_in(arena, k) as usize;
-        if place < low {
-            return i;
-        }
-        if last < place {
-            return i;
-        }
-        let v = words::bytes::sum_u64(t.base, words::bytes::u64_in(arena, k + 16));
-        words::bytes::store_in(arena, t.offset + place, v);
-        k += 24;
-        i += 1;
-    }
-    i
+    let off = t.offset;
+    relatives(&mut arena[off..], t.base, at, start, n, low, high)
 }
 
 // The symbols of an object: where they and their names are, and which of them need no further test of refusals 14 and 15.
@@ -412,7 +429,7 @@ fn address_of(
     }
 }
 
-// As `relatives`, for entries that are Symbolic whose symbols need no further test and are found: the address. The first entry that is not of
+// As `run_relatives`, for entries that are Symbolic whose symbols need no further test and are found: the address. The first entry that is not of
 // this kind, and the answer that is kept then.
 fn symbolics(
     arena: &mut [u8],
@@ -507,7 +524,7 @@ fn run_table(
     let mut i = 0u32;
     while i < n {
         let s = Run {
-            next: relatives(arena, t, at, i, n, w.low, w.high),
+            next: run_relatives(arena, t, at, i, n, w.low, w.high),
             last: q.last,
             address: q.address,
         };
@@ -595,7 +612,7 @@ fn run_object(
 {
     let z = crate::report::keep(p, 0, 0);
     let q = crate::report::note(report, z, std::num::wrapping_add_u32(0x5000_0000, t.number));
-    let number = crate::relr::add_relrs(arena, t, o);
+    let number = crate::relr::run_relrs(arena, t, o);
     if number != 0 {
         return crate::report::refused(q, t, number);
     }

@@ -3,7 +3,7 @@
 -- proofs/RelocatedIs joins the two. Assumes nothing.
 use mathlib.Core.Logic.{_⊎_}
 use mathlib.Core.Bool.{Bool, true, false, not}
-use mathlib.Core.List.{List, [], _∷_}
+use mathlib.Core.List.{List, [], _∷_, _++_}
 use Prim.Native.Nat.{ℕ, zero, suc, _+_, _-_, _*_, _/_, _%_, _^_, _≤_, min}
 use lib.Dec.{eqb, leb, ltb}
 use lib.ListN.{length, getD, set, take, drop}
@@ -92,6 +92,13 @@ unlessRefused next (left p a r) = pick (eqb (p .refusal) 0) (next (left p a r)) 
 abbrev pub imageIn : List ℕ → Turn → List ℕ
 imageIn a t = take (t .span) (drop (t .offset) a)
 
+-- the part that is lent to write in, from the object's offset to the arena's end; and the arena in which it became `x`
+abbrev pub partOf : Turn → List ℕ → List ℕ
+partOf t a = drop (t .offset) a
+
+unfoldable pub withPart : Turn → List ℕ → List ℕ → List ℕ
+withPart t a x = take (t .offset) a ++ x
+
 -- ---- the report
 
 -- a word of 32 bits
@@ -145,7 +152,7 @@ markUndefined k (noted p report) = noted (undefinedIn k p) report
 unfoldable pub unresolvedOf : Symbol → ℕ → ℕ → Progress → List ℕ → Noted
 unresolvedOf y k i p report = pick (eqb (bindingOf y) 2) (noted p report) (markUndefined k (noteOf (reportSum 6 i) p report))
 
--- ---- RELR
+-- ---- RELR, in the object's part of the arena
 
 -- a location that is no place of any object: before any address
 abbrev pub far : ℕ
@@ -155,44 +162,51 @@ far = 2 ^ 62
 abbrev pub cutTo32 : ℕ → ℕ
 cutTo32 n = min n (2 ^ 32 - 1)
 
--- the refusal, 0 for none, and the arena; the same with the location after an entry
+-- the refusal, 0 for none, and the part, or the arena; the same with the location after an entry
 pub data Summed : Type 0 where
-  summed : (refusal : ℕ) (arena : List ℕ) → Summed
+  summed : (refusal : ℕ) (bytes : List ℕ) → Summed
 
 pub data Shifted : Type 0 where
-  shifted : (m : Moved) (arena : List ℕ) → Shifted
+  shifted : (m : Moved) (part : List ℕ) → Shifted
 
 -- the word at `p` gains the base
-unfoldable pub wordAdded : Turn → ℕ → List ℕ → List ℕ
-wordAdded t p a = patch a (t .offset + p) 8 (byteOf (sum64 (leAt 8 (mem a) (t .offset + p)) (t .base)))
+unfoldable pub wordAdded : ℕ → ℕ → List ℕ → List ℕ
+wordAdded base p x = patch x p 8 (byteOf (sum64 (leAt 8 (mem x) p) base))
 
-module _ (t : Turn) (segments : List Segment) where
+module _ (base : ℕ) (segments : List Segment) where
   -- the words of the `n` lowest bits, the first of which is at `p`
   unfoldable pub addBits : ℕ → ℕ → ℕ → List ℕ → Summed
-  addBits zero p bits a = summed 0 a
-  addBits (suc n) p bits a =
+  addBits zero p bits x = summed 0 x
+  addBits (suc n) p bits x =
       pick (eqb (bits % 2) 1)
-      (pick (inWritable segments p 8) (addBits n (p + 8) (bits / 2) (wordAdded t p a)) (summed 17 a))
-      (addBits n (p + 8) (bits / 2) a)
+      (pick (inWritable segments p 8) (addBits n (p + 8) (bits / 2) (wordAdded base p x)) (summed 17 x))
+      (addBits n (p + 8) (bits / 2) x)
 
   abbrev pub bitsAdded : ℕ → Summed → Shifted
-  bitsAdded location (summed z a) = shifted (record { refusal = z; location = min (location + 504) far }) a
+  bitsAdded location (summed z x) = shifted (record { refusal = z; location = min (location + 504) far }) x
 
   -- an entry
   unfoldable pub addRelr : ℕ → Relr → List ℕ → Shifted
-  addRelr location (Address p) a =
-      pick (inWritable segments p 8) (shifted (record { refusal = 0; location = min (p + 8) far }) (wordAdded t p a))
-      (shifted (record { refusal = 17; location = location }) a)
-  addRelr location (Bitmap bits) a = bitsAdded location (addBits 63 location bits a)
+  addRelr location (Address p) x =
+      pick (inWritable segments p 8) (shifted (record { refusal = 0; location = min (p + 8) far }) (wordAdded base p x))
+      (shifted (record { refusal = 17; location = location }) x)
+  addRelr location (Bitmap bits) x = bitsAdded location (addBits 63 location bits x)
 
 abbrev pub thenRelr : (ℕ → List ℕ → Summed) → Shifted → Summed
-thenRelr next (shifted m a) = pick (eqb (m .refusal) 0) (next (m .location) a) (summed (m .refusal) a)
+thenRelr next (shifted m x) = pick (eqb (m .refusal) 0) (next (m .location) x) (summed (m .refusal) x)
 
 -- `n` entries from entry `i` on
 unfoldable pub addRelrs : Turn → Record → ℕ → ℕ → ℕ → List ℕ → Summed
-addRelrs t r zero i location a = summed 0 a
-addRelrs t r (suc n) i location a =
-    thenRelr (addRelrs t r n (i + 1)) (addRelr t (r .segments) location (relrOf (relrAt (imageIn a t) (r .relr) i)) a)
+addRelrs t r zero i location x = summed 0 x
+addRelrs t r (suc n) i location x =
+    thenRelr (addRelrs t r n (i + 1)) (addRelr (t .base) (r .segments) location (relrOf (relrAt (take (t .span) x) (r .relr) i)) x)
+
+-- all of them, in the arena
+abbrev pub summedIn : Turn → List ℕ → Summed → Summed
+summedIn t a (summed z x) = summed z (withPart t a x)
+
+unfoldable pub runRelrs : Turn → Record → List ℕ → Summed
+runRelrs t r a = summedIn t a (addRelrs t r (cutTo32 (r .relrs)) 0 far (partOf t a))
 
 -- ---- RELA and PLT
 
@@ -320,7 +334,7 @@ module _ (address : ℕ) (table : List ℕ) (count : ℕ) where
   -- the report word of the object, RELR, RELA, PLT; no answer is kept before, since a symbol's index is the object's own
   unfoldable pub runObject : Turn → Record → Progress → List ℕ → List ℕ → Left
   runObject t r p a report =
-      thenTables t r (addRelrs t r (cutTo32 (r .relrs)) 0 far a) (noteOf (reportSum 5 (t .number)) (keeps 0 0 p) report)
+      thenTables t r (runRelrs t r a) (noteOf (reportSum 5 (t .number)) (keeps 0 0 p) report)
 
   -- ---- the objects
 

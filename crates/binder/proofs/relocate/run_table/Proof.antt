@@ -40,7 +40,7 @@ passed :
 passed c =
     let a = c .before .before .before .before .before .before .before .before .before .before .before .before .before .before .before .before .before .args in
     let l = c .before .before .before .before .before .before .before .before .before .before .loop in
-    let f = c .before .before .before .before .before .before .before .relatives in
+    let f = c .before .before .before .before .before .before .before .run-relatives in
     let g = c .before .before .before .symbolics in
     rw (c .keep .ensures)
     (runs-passed (a .address) (now (a .table)) (a .count) (a .t) (heldBy (a .o)) (c .before .before .before .before .before .before .before .before .before .before .before .symbols-of .result) (a .at) (a .first) (a .n) (l .w .low) (l .w .high) (l .q) (l .arena) (f .last .0) (g .last .0) (l .report) (l .i) (f .result) (g .result) (f .ensures .2) (g .ensures .2) (rw (c .before .before .before .before .before .before .before .before .before .before .before .before .before .bounds-of .ensures .segments) at (l .inv .3)) (l .inv .4) (l .inv .5) (l .inv .6))
@@ -63,7 +63,7 @@ loop-again : tie.Need-loop-again Inv-loop μ-loop
 loop-again c =
     let a = c .before .before .before .before .before .before .before .before .before .before .before .before .before .before .before .before .before .before .before .before .before .before .before .before .before .before .before .before .before .before .before .before .args in
     let l = c .before .before .before .before .before .before .before .before .before .before .before .before .before .before .before .before .before .before .before .before .before .before .before .before .before .loop in
-    let f = c .before .before .before .before .before .before .before .before .before .before .before .before .before .before .before .before .before .before .before .before .before .before .relatives in
+    let f = c .before .before .before .before .before .before .before .before .before .before .before .before .before .before .before .before .before .before .before .before .before .before .run-relatives in
     let g = c .before .before .before .before .before .before .before .before .before .before .before .before .before .before .before .before .before .before .symbolics in
     let k = c .before .before .before .before .before .before .before .run-action in
     let x = passed (c .before .before .before .before .before .before .before .before .before .before .before .before .before .before .before) in (
@@ -93,21 +93,21 @@ run-table-spec =
     (λ c κs. search needs)
     (λ c. (refl, refl, omega arith, range-none _, λ h. absurd (omega arith), c .symbols-of .ensures, rw sub-zero))
     (λ c κs. c .before .before .loop .inv .2)
-    (λ c κs. (c .before .before .before .relatives .ensures .1, c .before .before .before .before .before .before .before .before .before .before .before .before .before .pre))
+    (λ c κs. (c .before .before .before .run-relatives .ensures .1, c .before .before .before .before .before .before .before .before .before .before .before .before .before .pre))
     (λ c κs. search needs)
-    (λ c. c .before .before .before .before .symbolics .kept .0 ∙ (c .before .before .before .before .before .before .before .before .relatives .kept .0 ∙ c .before .before .before .before .before .before .before .before .before .before .before .loop .inv .0))
+    (λ c. c .before .before .before .before .symbolics .kept .0 ∙ (c .before .before .before .before .before .before .before .before .run-relatives .kept .0 ∙ c .before .before .before .before .before .before .before .before .before .before .before .loop .inv .0))
     (λ c. c .before .before .before .before .before .before .before .before .before .before .before .loop .inv .1)
     returns
     (λ c κs. search needs)
     (λ c κs. search needs)
     (λ c κs. search needs)
     (λ c κs. c .before .before .before .before .before .before .before .before .before .before .before .before .before .before .before .before .before .before .before .before .before .before .before .before .pre)
-    (λ c. c .before .before .before .before .before .before .run-action .kept .0 ∙ (c .before .before .before .before .before .before .before .before .before .before .before .before .before .before .before .before .before .symbolics .kept .0 ∙ (c .before .before .before .before .before .before .before .before .before .before .before .before .before .before .before .before .before .before .before .before .before .relatives .kept .0 ∙ c .before .before .before .before .before .before .before .before .before .before .before .before .before .before .before .before .before .before .before .before .before .before .before .before .loop .inv .0)))
+    (λ c. c .before .before .before .before .before .before .run-action .kept .0 ∙ (c .before .before .before .before .before .before .before .before .before .before .before .before .before .before .before .before .before .symbolics .kept .0 ∙ (c .before .before .before .before .before .before .before .before .before .before .before .before .before .before .before .before .before .before .before .before .before .run-relatives .kept .0 ∙ c .before .before .before .before .before .before .before .before .before .before .before .before .before .before .before .before .before .before .before .before .before .before .before .before .loop .inv .0)))
     (λ c. c .before .before .before .before .before .before .run-action .kept .1 .0 ∙ c .before .before .before .before .before .before .before .before .before .before .before .before .before .before .before .before .before .before .before .before .before .before .before .before .loop .inv .1)
     returns-2
     (λ c κs. c .before .before .before .before .before .before .before .before .before .before .before .before .before .before .before .before .before .before .before .before .before .before .before .before .loop .inv .3)
     (λ c. omega (arith, c .before .before .before .before .before .before .before .before .before .before .before .before .before .before .if1 .left, c .before .before .before .before .before .before .before .before .before .before .before .before .before .before .before .before .before .before .before .before .before .before .before .before .before .before .before .before .before .before .before .before .fits .n))
-    (λ c. omega (arith, c .before .before .before .before .before .before .before .before .before .before .before .before .before .before .before .before .before .before .before .before .before .before .relatives .ensures .0, c .before .before .before .before .before .before .before .before .before .before .before .before .before .before .before .before .before .before .symbolics .ensures .0, c .before .before .before .before .before .before .before .before .before .before .before .before .before .before .if1 .left))
+    (λ c. omega (arith, c .before .before .before .before .before .before .before .before .before .before .before .before .before .before .before .before .before .before .before .before .before .before .run-relatives .ensures .0, c .before .before .before .before .before .before .before .before .before .before .before .before .before .before .before .before .before .before .symbolics .ensures .0, c .before .before .before .before .before .before .before .before .before .before .before .before .before .before .if1 .left))
     loop-again
     (λ c. c .before .loop .inv .0)
     (λ c. c .before .loop .inv .1)
