@@ -9,7 +9,7 @@ use borrow.Author.Tests.{lt-ltb, le-ltb, leb-true, leb-false}
 use lib.Dec.{leb, ltb}
 use lib.ListN.{length, getD, take, replicate, length-map}
 use Rattle.words.specs.Memory.{mem, tab}
-use Rattle.words.proofs.Slices.{tab-mem}
+use Rattle.words.proofs.Slices.{take-zeros, tab-mem}
 use Rattle.model.specs.Objects as objects
 use Rattle.model.specs.Relocation.{placed, bound}
 use Rattle.model.specs.Layout.{objsOf}
@@ -77,11 +77,6 @@ not-full n w =
     (λ (t : leb n w ≡ true). rw (t, le-ltb w n (leb-true n w t)))
     (λ (t : leb n w ≡ false). rw (t, lt-ltb w n (leb-false n w t)))
     (decide (leb n w))
-
-take-zeros : (n k : ℕ) → n ≤ k → take {A = ℕ} n (replicate k 0) ≡ replicate n 0
-take-zeros zero k l = refl
-take-zeros (suc n) zero l = absurd (omega arith)
-take-zeros (suc n) (suc k) l = ap (λ (xs : List ℕ). 0 ∷ xs) (take-zeros n k (omega arith))
 
 -- the words that fit are all there are
 fits-in : (n k : ℕ) (ws : List ℕ) → length ws ≤ n → n ≤ length ws + k → take n (ws ++ replicate k 0) ≡ ws ++ replicate (n - length ws) 0

@@ -16,17 +16,13 @@ use Rattle.words.specs.Choice.{pick}
 use Rattle.words.specs.Memory.{Mem, In, mem, write, patch}
 use Rattle.words.proofs.Memory.{Out, in-or-out, write-in, write-out}
 use Rattle.words.proofs.Choice.{both-true}
-use Rattle.words.proofs.Slices.{put-tail, mem-past, mem-patch, length-tab}
+use Rattle.words.proofs.Slices.{put-tail, mem-past, mem-patch}
 use Rattle.object.specs.declared.dynamic_fields.Read.{Read}
 use Rattle.object.specs.declared.hash_tables.View.{View}
-use Rattle.object.specs.declared.program_header.Dynamic.{Dynamic}
-use Rattle.object.specs.declared.program_header.Dynamic.the-variants.{Missing, At}
-use Rattle.object.specs.ProgramHeader.{dynamicOf}
-use Rattle.object.specs.Placed.{segmentsOf, objectSpan, objectBytes, objectImage}
-use Rattle.object.specs.Record as recordIs
+use Rattle.object.specs.Placed.{objectSpan, objectBytes}
 use Rattle.object.specs.Record.{Record, heldBy, viewOf}
 use Rattle.object.specs.Loaded.{objectRecord, objectRefusal, LoadedBy}
-use Rattle.object.proofs.LoadedLaws.{loaded-part}
+use Rattle.object.proofs.LoadedLaws.{loaded-part, record-span}
 use Rattle.sheet.specs.Sheet as sheets
 use Rattle.sheet.specs.Sheet.{Input, noInput, sheetOk, setOf, arenaOk, twinOf}
 use Rattle.sheet.specs.Steps.Parts.{inputsIn, Tabled}
@@ -67,15 +63,6 @@ pub files-length : (os : List Input) → length (filesOf os) ≡ length os
 unfolding filesOf
 files-length [] = refl
 files-length (o ∷ os) = ap suc (length-map os (λ (x : Input). record { host = false; bytes = x .file }))
-
--- the record of a file has the file's span
-record-span : (host : Bool) (file : List ℕ) → objectRecord host file .span ≡ objectSpan host file
-unfolding objectRecord recordIs.recordAt recordIs.recordIn
-record-span host file = go (dynamicOf file)
-  where
-    go : (d : Dynamic) → recordIs.recordAt (objectImage host file) (segmentsOf host file) d .span ≡ objectSpan host file
-    go Missing = length-tab (objectSpan host file) (objectBytes host file)
-    go (At at) = length-tab (objectSpan host file) (objectBytes host file)
 
 part-length : (a : List ℕ) (off : ℕ) → length (take (length a - off) (drop off a)) ≡ length a - off
 part-length a off = simp (length-take, length-drop) (omega arith)

@@ -37,6 +37,7 @@ use Rattle.object.specs.Loaded as loading
 use Rattle.object.specs.declared.program_header.Segment.{Segment}
 use Rattle.object.specs.declared.program_header.Dynamic.{Dynamic}
 use Rattle.object.specs.declared.program_header.Dynamic.the-variants.{Missing, At}
+use Rattle.object.proofs.LoadedLaws.{record-span}
 use Rattle.object.proofs.Ranges.{spares, seg-in, below-at, table-inside}
 use Rattle.object.proofs.RefusalLaws.{required, after-zero}
 use Rattle.object.proofs.ReadingsSame.{invariance}
@@ -84,15 +85,8 @@ table-few span ss at zero e = omega arith
 table-few span ss at (suc n) e =
     omega (arith, table-inside span ss (at + n) (below-at (λ k. isTable span ss (at + k)) (suc n) n e (omega arith)))
 
--- the span of the record
-record-span : (image : List ℕ) (ss : List Segment) (d : Dynamic) → records.recordAt image ss d .span ≡ length image
-unfolding records.recordAt records.recordIn
-record-span image ss Missing = refl
-record-span image ss (At at) = refl
-
 file-span : (f : File) → fileRecord f .span ≡ objectSpan (f .host) (f .bytes)
-unfolding loading.objectRecord
-file-span f = record-span (fileImage f) (segmentsOf (f .host) (f .bytes)) (dynamicOf (f .bytes)) ∙ length-tab (objectSpan (f .host) (f .bytes)) _
+file-span f = record-span (f .host) (f .bytes)
 
 -- ---- a file that was loaded
 

@@ -68,7 +68,7 @@ nextSymbol (SysV at n c) s w = w
 nextSymbol (Gnu at n first b shift) s w = s + 1
 
 -- how many symbols a walk has at most: one more than the chain count; in a GNU table one for each byte of the image, which has at most
--- 2^28 (proofs/WalkEnds: no walk of a table that is not refused is cut off)
+-- 2^28 (demands/specs/WalksEnd: no walk of a table that is not refused is cut off)
 abbrev pub fuel : List ℕ → HashTable → ℕ
 fuel image Without = 0
 fuel image (SysV at n c) = c + 1

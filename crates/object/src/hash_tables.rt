@@ -353,28 +353,19 @@ pub fn address_of(base: u64, d: Definition) -> u64
     words::bytes::sum_u64(base, d.value)
 }
 
-fn larger(a: u32, b: u32) -> u32
-    ensures { λ r. ⌜ r ≡ max a b ⌝ }
-{
-    if a < b {
-        return b;
-    }
-    a
-}
-
 // The largest word of the buckets.
 pub(crate) fn highest_bucket(image: &[u8], t: HashTable) -> usize
     ensures { λ r. ⌜ (r ≡ highest (now (image .entry)) t (bucketCount t)) × (r < 2 ^ 32) ⌝ }
 {
     // a bucket past the image's end has the word 0
     let n = words::bytes::smaller(bucket_count(t) as usize, image.len() / 4 + 1);
-    let mut best: u32 = 0;
+    let mut best = 0;
     let mut i = 0;
     while i < n {
-        best = larger(best, bucket_word(image, t, i));
+        best = words::bytes::larger(best, bucket_word(image, t, i) as usize);
         i += 1;
     }
-    best as usize
+    best
 }
 
 // The last symbol of the walk from the bucket word `word`.

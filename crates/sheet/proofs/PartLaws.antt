@@ -17,9 +17,6 @@ use Rattle.sheet.specs.declared.sheet.Part.{Part}
 use Rattle.sheet.specs.declared.sheet.Parts.{Parts}
 use Rattle.sheet.proofs.SheetLaws.{drop-next, pair-at, told}
 
-pub length-mapped : (X Y : Type 0) (f : X → Y) (l : List X) (n : ℕ) → length (map f l) ≡ n → length l ≡ n
-length-mapped X Y f l n e = sym (length-map l f) ∙ e
-
 -- ---- the table of a sheet
 
 -- the parts of a sheet, by running sums

@@ -5,11 +5,11 @@ use native.Mathlib.Omega.{arith}
 use borrow.Author.Needs.{needs}
 use denote.Ref.{now}
 use lib.ListN.{length, getD, take, length-take}
+use Rattle.words.proofs.Slices.{length-mapped}
 use Rattle.words.proofs.Choice.{both-false}
 use Rattle.object.specs.Steps.LastZero.{none-segment}
 use Rattle.object.specs.TableBytes.{isTable, tableBytes}
 use Rattle.object.proofs.LastZeroLaws.{RunAt, run-start, run-end, run-turn, bytes-yes, bytes-no, name-yes, name-no}
-use Rattle.object.proofs.ListTests.{length-mapped}
 use Rattle.object.proofs.table_bytes.both_in.Statement.{statement}
 use Rattle.object.proofs.table_bytes.both_in.Tie as tie
 

@@ -4,9 +4,9 @@ use Prim.Native.Nat.{_-_, _≤_}
 use native.Mathlib.Omega.{arith}
 use borrow.Author.Needs.{needs}
 use lib.ListN.{length, getD, length-take}
+use Rattle.words.proofs.Slices.{length-mapped}
 use Rattle.object.specs.Steps.LastZero.{none-segment}
 use Rattle.object.proofs.LastZeroLaws.{RestAt, rest-start, rest-turn, rest-end, nearer-within}
-use Rattle.object.proofs.ListTests.{length-mapped}
 use Rattle.object.proofs.table_bytes.run_from.Statement.{statement}
 use Rattle.object.proofs.table_bytes.run_from.Tie as tie
 

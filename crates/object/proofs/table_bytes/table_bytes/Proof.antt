@@ -5,9 +5,9 @@ use native.Mathlib.Omega.{arith}
 use borrow.Author.Needs.{needs}
 use borrow.Author.Tests.{not-true, not-false}
 use lib.ListN.{length, take, drop, length-take}
+use Rattle.words.proofs.Slices.{length-mapped}
 use Rattle.words.specs.Choice.{below, every}
 use Rattle.object.specs.TableBytes.{tableBytes, isTable}
-use Rattle.object.proofs.ListTests.{length-mapped}
 use Rattle.object.proofs.Ranges.{span-in, span-out, rest-end, rest-no, rest-on, spares}
 use Rattle.object.proofs.table_bytes.table_bytes.Statement.{statement}
 use Rattle.object.proofs.table_bytes.table_bytes.Tie as tie

@@ -7,9 +7,10 @@ use native.Mathlib.Omega.{arith}
 use borrow.Author.Needs.{needs}
 use lib.ListN.{length, take, drop, length-drop}
 use denote.Ref.{now}
+use Rattle.words.proofs.Slices.{length-mapped}
 use Rattle.sheet.specs.Steps.Parts.{inputsIn}
 use Rattle.sheet.specs.Sheet.{named, twinFrom, twinOf}
-use Rattle.sheet.proofs.PartLaws.{length-mapped, twin-is, twin-end, inputs-length}
+use Rattle.sheet.proofs.PartLaws.{twin-is, twin-end, inputs-length}
 use Rattle.sheet.proofs.sheet.twin.Statement.{statement}
 use Rattle.sheet.proofs.sheet.twin.Tie as tie
 

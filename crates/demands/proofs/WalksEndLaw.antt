@@ -1,8 +1,8 @@
 -- The walks of a table that is not refused end by themselves: more fuel gives the same list. So `walk` cuts off no walk of such a table.
 -- `walks-end` is the theorem. Assumes nothing.
-use mathlib.Core.Path.{_≡_, refl, ap}
+use mathlib.Core.Path.{_≡_, refl}
 use mathlib.Core.Bool.{Bool, true, false}
-use mathlib.Core.List.{List, [], _∷_}
+use mathlib.Core.List.{List, []}
 use Prim.Native.Nat.{ℕ, zero, suc, _+_, _-_, _*_, _^_, _≤_, _<_}
 use native.Mathlib.Nat.{not-suc-le-zero}
 use native.Mathlib.Omega.{arith}
@@ -13,29 +13,15 @@ use Rattle.words.specs.Choice.{pick, every}
 use Rattle.words.specs.Memory.{mem}
 use Rattle.words.specs.Words.{leAt}
 use Rattle.words.proofs.Choice.{both-true}
 use Rattle.object.specs.declared.hash_tables.HashTable.{HashTable}
 use Rattle.object.specs.declared.hash_tables.HashTable.the-variants.{Without, SysV, Gnu}
-use Rattle.object.specs.HashCheck.{bucketOk, lengthOk, chainOk, symbolOk, stepOk, tableOk}
-use Rattle.object.specs.HashTable.{bucketCount, bucketAt, chainAt, isLast, nextSymbol, fuel, walk, walkFrom, reached}
+use Rattle.object.specs.HashCheck.{bucketOk, lengthOk, chainOk, symbolOk, stepOk}
+use Rattle.object.specs.HashTable.{bucketAt, chainAt, isLast, fuel, walk, walkFrom}
 use Rattle.object.specs.TableBytes.{tableBytes}
-use Rattle.object.specs.WalksEnd.{WalksEnd}
 use Rattle.object.proofs.Ranges.{below-at}
 use Rattle.object.proofs.CheckLaws.{clauses, walk-clauses}
-
--- a walk that is shorter than its fuel has ended
-pub walk-ended : (m : List ℕ) (t : HashTable) (k n s : ℕ) → length (walk m t n s) < n → walk m t (n + k) s ≡ walk m t n s
-unfolding walk
-walk-ended m t k zero s h = absurd (not-suc-le-zero h)
-walk-ended m t k (suc n) s h =
-    let w = leAt 4 (mem m) (chainAt t s) in
-    let q : suc n + k ≡ suc (n + k) = omega arith in
-    rw q
-    (ap (λ (l : List ℕ). s ∷ l) (go (isLast t w) (walk m t n (nextSymbol t s w)) (walk m t (n + k) (nextSymbol t s w)) h
-    (λ h′. walk-ended m t k n (nextSymbol t s w) h′)))
-  where
-    go : (b : Bool) (l l′ : List ℕ) → suc (length (pick b [] l)) < suc n → (length l < n → l′ ≡ l) → pick b [] l′ ≡ pick b [] l
-    go true l l′ h ih = refl
-    go false l l′ h ih = ih (omega arith)
+use Rattle.object.proofs.WalkLengths.{walk-ended}
+use Rattle.demands.specs.WalksEnd.{WalksEnd}
 
 module _ (isT : ℕ → Bool) (m : List ℕ) (inside : (i : ℕ) → isT i ≡ true → i < length m) (symbols strings at n first b shift : ℕ) where
   -- the chain word of a symbol that passes lies in the image

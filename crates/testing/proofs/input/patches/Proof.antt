@@ -1,15 +1,16 @@
+-- `testing::input::patches` meets its contract. Assumes nothing.
 use Prim.Native.Nat.{_≤_}
+use borrow.Author.Needs.{needs}
 use lib.ListN.{length}
 use mathlib.Core.Path.{_≡_}
-use borrow.Author.Needs.{needs}
-use Rattle.object_cases.proofs.patches.Statement.{statement}
-use Rattle.object_cases.proofs.patches.Tie as tie
+use Rattle.testing.proofs.input.patches.Statement.{statement}
+use Rattle.testing.proofs.input.patches.Tie as tie
 
 abbrev Inv-loop : tie.InvT-loop
-Inv-loop file₀ input start count at₀ left₀ file at left = (left ≤ count) × (length file ≡ length file₀)
+Inv-loop bytes₀ input start count wide at₀ left₀ bytes at left = (left ≤ count) × (length bytes ≡ length bytes₀)
 
 abbrev μ-loop : tie.MeasureT-loop
-μ-loop file₀ input start count at₀ left₀ file at left = left
+μ-loop bytes₀ input start count wide at₀ left₀ bytes at left = left
 
 pub patches-spec : {M : Type 1} → statement M
 patches-spec =
