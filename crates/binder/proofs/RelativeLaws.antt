@@ -62,18 +62,18 @@ module _
     acts = sym (ap rowOf rtype-here ∙ acts-so)
 
     ran :
-        (address : ℕ) (table : List ℕ) (count : ℕ) (r : Record) (number : ℕ) (p : Progress) (report : List ℕ) → WritableRange (r .segments) low high
-        → left p b report ≡ runAction address table count t r number (relaAt (imageIn a t) at i) (rowBy Relative) p a report
+        (table : List ℕ) (r : Record) (number : ℕ) (p : Progress) (report : List ℕ) → WritableRange (r .segments) low high
+        → left p b report ≡ runAction table t r number (relaAt (imageIn a t) at i) (rowBy Relative) p a report
     unfolding runAction fixedOf
-    ran address table count r number p report wr =
+    ran table r number p report wr =
         let w : inWritable (r .segments) place 8 ≡ true = wr place 8 above below (omega arith) in
         rw (place-here, w, addend-here, written, sum-is)
 
     pub relative-turn :
         (start : ℕ) (a₀ : List ℕ) → EntriesPassed t at n low high start a₀ i a → EntriesPassed t at n low high start a₀ (i + 1) b
-    relative-turn start a₀ passed address table count r first p report wr fine =
-        let so-far = passed address table count r first p report wr fine in
-        let run = ran address table count r ((first + i) % 2 ^ 32) p report wr in (
-          entry-goes address table count t r at first n i p a report {b = b} {noted = report} some refl acts refl run (so-far .0) (fine (omega arith)),
-          kept-then t r a₀ a b (so-far .1) (entry-kept t r address table count ((first + i) % 2 ^ 32) (relaAt (imageIn a t) at i) p a report (rowBy Relative) p b report run),
+    relative-turn start a₀ passed table r first p report wr fine =
+        let so-far = passed table r first p report wr fine in
+        let run = ran table r ((first + i) % 2 ^ 32) p report wr in (
+          entry-goes table t r at first n i p a report {b = b} {noted = report} some refl acts refl run (so-far .0) (fine (omega arith)),
+          kept-then t r a₀ a b (so-far .1) (entry-kept t r table ((first + i) % 2 ^ 32) (relaAt (imageIn a t) at i) p a report (rowBy Relative) p b report run),
         )

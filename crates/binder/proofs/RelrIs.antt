@@ -152,7 +152,7 @@ module _ (address size : ℕ) (table : List ℕ) (h p : File) (fs : List File) w
     r = fileRecord (file k)
 
     abbrev t : Turn
-    t = turnOf address table k
+    t = turnOf table k
 
     -- ---- one word
 
@@ -352,7 +352,7 @@ module _ (address size : ℕ) (table : List ℕ) (h p : File) (fs : List File) w
 
   pub relr-is :
       LoadedSet → (k : ℕ) → 1 ≤ k → k < count S → (a : List ℕ) → Steady a → (z : ℕ) (a′ : List ℕ)
-      → summed z a′ ≡ addRelrs (turnOf address table k) (fileRecord (file k)) (cutTo32 (fileRecord (file k) .relrs)) 0 far a
+      → summed z a′ ≡ addRelrs (turnOf table k) (fileRecord (file k)) (cutTo32 (fileRecord (file k) .relrs)) 0 far a
       → RelrEnded k z a a′
   unfolding namedWords
   relr-is L k low member a s z a′ e =

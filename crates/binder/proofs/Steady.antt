@@ -54,7 +54,7 @@ module _ (address size : ℕ) (table : List ℕ) (h p : File) (fs : List File) w
     pub fits : (obj set k) .offset + objectSpan (fileAt k .host) (fileAt k .bytes) ≤ size
     pub seat : seatAt table k ≡ seatOf (fileAt k) ((obj set k) .offset)
     -- base = address + offset, without wrapping
-    pub base : turnOf address table k .base ≡ (obj set k) .base
+    pub base : turnOf table k .base ≡ (obj set k) .base
 
   -- a write to object `k` left the other objects' bytes
   pub record Written (a a′ : List ℕ) (k : ℕ) : Type 0 where
@@ -82,11 +82,11 @@ module _ (address size : ℕ) (table : List ℕ) (h p : File) (fs : List File) w
   abbrev pub Searches : Type 0
   Searches =
       LoadedSet → (a : List ℕ) → Steady a → (k : ℕ) → k < count set → (name : List ℕ)
-      → scopedOf (soughtFor address table (count set) (turnOf address table k) a name) ≡ resolve set k name
+      → scopedOf (soughtFor table (turnOf table k) a name) ≡ resolve set k name
 
   abbrev pub CopySearches : Type 0
   CopySearches =
-      LoadedSet → (a : List ℕ) → Steady a → (name : List ℕ) → scopedOf (soughtForCopy address table (count set) a name) ≡ resolveCopy set name
+      LoadedSet → (a : List ℕ) → Steady a → (name : List ℕ) → scopedOf (soughtForCopy table a name) ≡ resolveCopy set name
 
   -- a range in a writable segment ends inside the span
   abbrev pub WritableInside : Type 0
@@ -105,7 +105,7 @@ module _ (address size : ℕ) (table : List ℕ) (h p : File) (fs : List File) w
   abbrev pub CopyTests : Type 0
   CopyTests =
       LoadedSet → (k d : ℕ) → k < count set → d < count set → (q n : ℕ) → q + n ≤ objectSpan (fileAt k .host) (fileAt k .bytes)
-      → (x : Definition) → copyFits size (turnOf address table k) q (seatAt table d) x n ≡ copyOk set k q d (symOf x) n
+      → (x : Definition) → copyFits size (turnOf table k) q (seatAt table d) x n ≡ copyOk set k q d (symOf x) n
 
   -- the counted relocation entries of program and libraries are in the span
   abbrev pub Counts : Type 0
@@ -117,5 +117,5 @@ module _ (address size : ℕ) (table : List ℕ) (h p : File) (fs : List File) w
   abbrev pub Again : Type 0
   Again =
       LoadedSet → (a : List ℕ) (k : ℕ) → 1 ≤ k → k < count set → PlacedAt a k
-      → (againRefusal (imageIn a (turnOf address table k)) (fileAt k .bytes) ≡ 0)
-      × (againRecord (imageIn a (turnOf address table k)) (fileAt k .bytes) ≡ fileRecord (fileAt k))
+      → (againRefusal (imageIn a (turnOf table k)) (fileAt k .bytes) ≡ 0)
+      × (againRecord (imageIn a (turnOf table k)) (fileAt k .bytes) ≡ fileRecord (fileAt k))

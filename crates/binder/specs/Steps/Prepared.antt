@@ -14,7 +14,7 @@ use Rattle.sheet.specs.Sheet.{Input, arenaOk, twinOf}
 use Rattle.binder.specs.Instance.{File, fileRecord}
 use Rattle.binder.specs.Verdict.{Verdict, passed, refused, first, verdict}
 use Rattle.binder.specs.Bind.{filesOf, unless}
-use Rattle.scope.specs.Steps.Seats.{seatAt, Filtered}
+use Rattle.scope.specs.Steps.Seats.{seatAt, countIn, addressIn, FilteredBelow, Filtered}
 use Rattle.scope.specs.declared.seats.Seat.{Seat}
 use Rattle.binder.specs.declared.prepare.Met.{Met}
 use Rattle.binder.specs.declared.prepare.Met.the-variants.{Passed, Refused}
@@ -64,7 +64,7 @@ pub record LoadedFiles (files : List File) (before after seats : List ℕ) (r : 
   pub met : metBy r ≡ loadFrom (length before) 0 0 files
   pub arena : r ≡ Passed → mem after ≡ placeFiles files 0 (λ _. 0)
   pub table : r ≡ Passed → Seated seats 0 0 files
-  pub filtered : r ≡ Passed → Filtered seats (length files)
+  pub filtered : r ≡ Passed → FilteredBelow seats (length files)
 
 -- 1 to 12 of the objects that a table of parts names. A sheet that is not refused has two at least; a refused one is handed on as none.
 unfoldable pub setVerdict : List Input → ℕ → ℕ → Verdict
@@ -79,4 +79,6 @@ pub record Prepared (os : List Input) (address : ℕ) (before after seats : List
   pub met : metBy r ≡ setVerdict os (length before) address
   pub arena : r ≡ Passed → mem after ≡ placeFiles (filesOf os) 0 (λ _. 0)
   pub table : r ≡ Passed → Seated seats 0 0 (filesOf os)
-  pub filtered : r ≡ Passed → Filtered seats (length os)
+  pub filtered : r ≡ Passed → Filtered seats
+  pub count : r ≡ Passed → countIn seats ≡ length os
+  pub address : r ≡ Passed → addressIn seats ≡ address
