@@ -190,6 +190,8 @@ module _
           others = λ k l g. not-host k l (omega (arith, many));
           loads = passed-it .loads;
           seats = made .table z;
+          counted = made .counted z ∙ sym (many ∙ omega arith);
+          addressed = made .addressed z;
           end = passed-it .end;
           small = passed-it .small;
         }
@@ -213,15 +215,13 @@ module _
     -- 14 to 20: the objects were relocated in an order that has each once
     pub bound-in :
         (policy : Policy) (words : ℕ) (order : List ℕ) → OnceEach (objects.count made-set) order → (report : List ℕ) → report ≡ replicate words 0
-        → (a′ report′ : List ℕ) (m : Met) → Relocated (h ∷ (p ∷ ls)) (length ls + 2) table order a address policy report a′ report′ m
+        → (a′ report′ : List ℕ) (m : Met) → Relocated (h ∷ (p ∷ ls)) table order a policy report a′ report′ m
         → settledOf m a′ report′ ≡ bindIn (setVerdict (h ∷ (p ∷ ls)) size address) (filesOf (h ∷ (p ∷ ls))) order size address policy words
     unfolding filesOf bindIn objectsOf
     bound-in policy words order once report zeros a′ report′ m g =
         let n : length a ≡ size = kept ∙ len in
-        let run : left (g .progress) a′ report′ ≡ runOrder address table (objects.count made-set) (h ∷ (p ∷ ls)) order (left started a report) =
-        rw many (g .leaves) in
         let ended = relocated.relocated-is address size table (hostFile h) (fileOf p) fs loaded (h ∷ (p ∷ ls)) (λ k l. files-are k (omega (arith, many)))
-        order once words a report placed-arena n zeros (g .progress) a′ report′ run in
+        order once words a report placed-arena n zeros (g .progress) a′ report′ (g .leaves) in
         relocated-set address size table (hostFile h) (fileOf p) fs policy order words (g .progress) a′ report′ ended m (g .met)
         ∙ rw (passed-it .verdict-is)
 
@@ -237,7 +237,7 @@ pub bind-is :
     (os : List Input) (count : ℕ) (arena a table : List ℕ) (address : ℕ) (r : Met) → length os ≡ count → length a ≡ length arena
     → Prepared os address arena a table r → r ≡ Passed → (order : Order) → Arranged os count a table order
     → (policy : Policy) (report : List ℕ) → report ≡ replicate (length report) 0
-    → (a′ report′ : List ℕ) (m : Met) → Relocated os count table (take (order .count) (order .list)) a address policy report a′ report′ m
+    → (a′ report′ : List ℕ) (m : Met) → Relocated os table (take (order .count) (order .list)) a policy report a′ report′ m
     → BoundSet os (length arena) address policy (length report) a′ report′ m
 unfolding bindSet
 bind-is [] count arena a table address r many kept made z order o policy report zeros a′ report′ m g =
@@ -250,7 +250,7 @@ bind-is (h ∷ (p ∷ ls)) count arena a table address r many kept made z order 
     (subst (λ (n : ℕ). Arranged (h ∷ (p ∷ ls)) n a table order) c o) in
     bound-in address (length arena) table h p ls arena a r refl kept made z policy (length report) (take (order .count) (order .list))
     (in-order address (length arena) table h p ls arena a r refl kept made z (take (order .count) (order .list)) same) report zeros a′ report′ m
-    (subst (λ (n : ℕ). Relocated (h ∷ (p ∷ ls)) n table (take (order .count) (order .list)) a address policy report a′ report′ m) c g)
+    g
     ∙ ap
     (λ (l : List ℕ). bindIn (setVerdict (h ∷ (p ∷ ls)) (length arena) address) (filesOf (h ∷ (p ∷ ls))) l (length arena) address policy (length report))
     same

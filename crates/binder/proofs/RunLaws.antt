@@ -2,8 +2,8 @@
 -- and of an object; and what an object's turn comes to once its record is read again. Assumes nothing.
 use mathlib.Core.Bool.{Bool, true, false}
 use mathlib.Core.List.{List}
-use mathlib.Core.Path.{_≡_, sym, _∙_}
-use Prim.Native.Nat.{ℕ, suc, _+_, _-_, _%_, _^_, _≤_, _<_}
+use mathlib.Core.Path.{_≡_, sym, ap, _∙_}
+use Prim.Native.Nat.{ℕ, suc, _+_, _-_, _%_, _^_, _≤_, _<_, min}
 use native.Mathlib.Omega.{arith}
 use native.Mathlib.Numerals.{add-one}
 use borrow.Author.Tests.{eq-eqb, ne-eqb, le-leb, lt-leb}
@@ -26,9 +26,13 @@ use Rattle.object.specs.declared.dynamic_fields.Read.{Read}
 use Rattle.object.specs.declared.relocate.Rela.{Rela}
 use Rattle.sheet.specs.Sheet.{Input, noInput}
 use Rattle.binder.specs.declared.report.Progress.{Progress}
+use Rattle.object.specs.declared.hash_tables.Definition.{Definition}
+use Rattle.scope.specs.Steps.Seats.{seatAt}
+use Rattle.scope.specs.declared.seats.Seat.{Seat}
 use Rattle.scope.specs.declared.scope.Scoped.{Scoped}
+use Rattle.scope.specs.declared.scope.Scoped.the-variants.{Absent, Found}
 use Rattle.binder.specs.declared.turn.Turn.{Turn}
-use Rattle.binder.specs.Steps.Relocating.{Left, left, noted, summed, unlessRefused, refusedBy, imageIn, turnOf, againRefusal, againRecord, symbolRefusal, soughtFor, soughtForCopy, keeps, writtenBytes, writeFound, copyOf, answeredOf, symbolicOf, copyingOf, runAction, runTable, far, cutTo32, reportSum, noteOf, addRelrs, runTables, runObject, runAt, runOrder}
+use Rattle.binder.specs.Steps.Relocating.{Left, left, wrote, noted, withArena, withReport, unresolvedOf, copyBytes, summed, unlessRefused, refusedBy, imageIn, turnOf, againRefusal, againRecord, symbolRefusal, soughtFor, soughtForCopy, keeps, writtenBytes, writeFound, copyOf, answeredOf, symbolicOf, copyingOf, runAction, runTable, far, cutTo32, reportSum, noteOf, addRelrs, runTables, runObject, runAt, runOrder}
 
 -- ---- the entries of a symbol
 
@@ -61,6 +65,17 @@ module _ (table : List ℕ) (t : Turn) (r : Record) (e : Rela) (i : ℕ) (p : Pr
     pub copying-sought : {s : Scoped} {out : Left} → s ≡ soughtForCopy table a (nameOf (imageIn a t) r y) → out ≡ copyOf table t segments e i y s p a report → out ≡ copyingOf table t r e i (checkedSymbol (imageIn a t) r (e .symbol)) p a report
     unfolding copyingOf
     copying-sought hf run = rw (← hx, hy, ← hs, ← hf) run
+
+-- ---- COPY, by what was found
+
+module _ (table : List ℕ) (t : Turn) (segments : List Segment) (e : Rela) (i : ℕ) (y : Symbol) {s : Scoped} (p : Progress) (a report : List ℕ) where
+  pub copy-absent : {q : Progress} {marks : List ℕ} → s ≡ Absent → noted q marks ≡ unresolvedOf y (t .number) i p report → left q a marks ≡ copyOf table t segments e i y s p a report
+  unfolding copyOf
+  copy-absent is g = rw is (ap (withArena a) g)
+
+  pub copy-there : {q : Progress} {b : List ℕ} {n : ℕ} {at : Seat} (k : ℕ) (d : Definition) (x : ℕ) → s ≡ Found k d x → n ≡ min (y .size) (d .size) → at ≡ seatAt table k → wrote q b ≡ copyBytes t segments (e .place) at d n p a → left q b report ≡ copyOf table t segments e i y s p a report
+  unfolding copyOf
+  copy-there k d x is z l g = rw (is, ← z, ← l) (ap (withReport report) g)
 
 -- ---- the entries of a table
 
@@ -167,7 +182,7 @@ module _ (image file : List ℕ) (l : Loads) (loaded : SegmentsIn (loadsOf file)
     pub again-record : r .refusal ≡ 0 → heldBy (r .object) ≡ againRecord image file
     again-record z = rw (← found, ← loaded .list few-loads) (read .object z)
 
-module _ (address : ℕ) (table : List ℕ) (count k : ℕ) (file : List ℕ) (p : Progress) (a report : List ℕ) where
+module _ (table : List ℕ) (k : ℕ) (file : List ℕ) (p : Progress) (a report : List ℕ) where
   pub turn-stops : {t : Turn} {n : ℕ} → t ≡ turnOf table k → againRefusal (imageIn a t) file ≡ n → (n ≡ 0 → ⊥) → left (refusedBy t n p) a report ≡ runAt table k file p a report
   unfolding runAt
   turn-stops e h ne = rw (e, rw e at h, ne-eqb _ _ ne)

@@ -15,7 +15,7 @@ use Rattle.object.specs.Placed.{objectSpan}
 use Rattle.object.specs.declared.hash_tables.Definition.{Definition}
 use Rattle.binder.specs.Instance.{File, fileImage, fileRecord, symOf, objectAt}
 use Rattle.binder.specs.Verdict.{passed, noFile, copyOk}
-use Rattle.scope.specs.Steps.Seats.{seatAt}
+use Rattle.scope.specs.Steps.Seats.{seatAt, countIn, addressIn}
 use Rattle.binder.specs.Steps.Prepared.{loadFrom, seatOf, placeFiles, Seated}
 use Rattle.scope.specs.Steps.ScopeCode.{imageAt}
 use Rattle.binder.specs.Steps.ScopeModel.{scopedOf}
@@ -31,11 +31,13 @@ module _ (address size : ℕ) (table : List ℕ) (h p : File) (fs : List File) w
   abbrev pub set : Objs
   set = objsOf (objectAt address) h p fs
 
-  -- refusals 2 and 4 to 12 were passed, and the table has the seats
+  -- refusals 2 and 4 to 12 were passed, and the table has the seats, the count and the address
   pub record LoadedSet : Type 0 where
     pub others : (k : ℕ) → 1 ≤ k → k < count set → fileAt k .host ≡ false
     pub loads : loadFrom size 0 0 files ≡ passed
     pub seats : Seated table 0 0 files
+    pub counted : countIn table ≡ count set
+    pub addressed : addressIn table ≡ address
     pub end : address + size ≤ 2 ^ 63
     pub small : size ≤ 2 ^ 28
 

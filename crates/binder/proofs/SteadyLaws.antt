@@ -195,8 +195,9 @@ module _ (address size : ℕ) (table : List ℕ) (h p : File) (fs : List File) w
         fits = omega (arith, off, t .fits);
         seat = t .seat ∙ ap (seatOf (fileAt k)) (sym off);
         base =
-            ap (λ (x : Seat). (address + x .offset) % 2 ^ 64) (t .seat)
-            ∙ (mod-eq-of-lt (omega (arith, t .fits, s .end)) ∙ sym (ap (λ (o : Obj). o .base) (t .is)));
+            ap (λ (n : ℕ). (n + seatAt table k .offset) % 2 ^ 64) (s .addressed)
+            ∙ (ap (λ (x : Seat). (address + x .offset) % 2 ^ 64) (t .seat)
+            ∙ (mod-eq-of-lt (omega (arith, t .fits, s .end)) ∙ sym (ap (λ (o : Obj). o .base) (t .is))));
       }
     where
       t : Sits address size table (placeFiles (h ∷ (p ∷ fs)) 0 (λ _. 0)) k (fileAt k) (obj set k)
@@ -241,10 +242,10 @@ module _ (address size : ℕ) (table : List ℕ) (h p : File) (fs : List File) w
       (λ name. readings s a st k l .answers name _ _)
 
   pub searches : steady.Searches address size table h p fs
-  searches s a st k l name = resolve-is address a table name set (count set) refl (seated s a st) k l
+  searches s a st k l name = resolve-is address a table name set (s .addressed) (s .counted) (seated s a st) k l
 
   pub copy-searches : steady.CopySearches address size table h p fs
-  copy-searches s a st name = resolve-copy-is address a table name set (count set) refl (seated s a st)
+  copy-searches s a st name = resolve-copy-is address a table name set (s .addressed) (s .counted) (seated s a st)
 
   -- ---- a write
 

@@ -80,5 +80,5 @@ pub record Prepared (os : List Input) (address : ℕ) (before after seats : List
   pub arena : r ≡ Passed → mem after ≡ placeFiles (filesOf os) 0 (λ _. 0)
   pub table : r ≡ Passed → Seated seats 0 0 (filesOf os)
   pub filtered : r ≡ Passed → Filtered seats
-  pub count : r ≡ Passed → countIn seats ≡ length os
-  pub address : r ≡ Passed → addressIn seats ≡ address
+  pub counted : r ≡ Passed → countIn seats ≡ length os
+  pub addressed : r ≡ Passed → addressIn seats ≡ address

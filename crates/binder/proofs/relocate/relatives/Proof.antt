@@ -34,7 +34,7 @@ in-reach-requires c κs = search needs
 
 returns : tie.Need-returns Inv-loop μ-loop
 returns c =
-    (omega arith, c .before .before .before .pre, λ _ _ _ r _ _ _ _ _. (refl, kept-none _ r _))
+    (omega arith, c .before .before .before .pre, λ _ r _ _ _ _ _. (refl, kept-none _ r _))
 
 sub-last : tie.Need-sub-last Inv-loop μ-loop
 sub-last c =
@@ -54,7 +54,7 @@ add-k-2 c =
 
 loop-holds : tie.Need-loop-holds Inv-loop μ-loop
 loop-holds c =
-    let g = c .before .before .in-reach .ensures (not-false _ (c .before .if1 .left)) in (refl, omega arith, c .before .before .before .before .pre, refl, g, omega (arith, g .word), λ _ _ _ r _ _ _ _ _. (refl, kept-none _ r _))
+    let g = c .before .before .in-reach .ensures (not-false _ (c .before .if1 .left)) in (refl, omega arith, c .before .before .before .before .pre, refl, g, omega (arith, g .word), λ _ r _ _ _ _ _. (refl, kept-none _ r _))
 
 add-u32-in : tie.Need-add-u32-in Inv-loop μ-loop
 add-u32-in c =
