@@ -186,6 +186,8 @@ module _
           others = λ k l g. not-host k l (omega (arith, many));
           loads = passed-it .loads;
           seats = made .table z;
+          counted = made .counted z ∙ sym (many ∙ omega arith);
+          addressed = made .addressed z;
           end = passed-it .end;
           small = passed-it .small;
         }
@@ -209,15 +211,13 @@ module _
     -- 14 to 20: the objects were relocated in an order that has each once
     pub bound-in :
         (policy : Policy) (words : ℕ) (order : List ℕ) → OnceEach (objects.count made-set) order → (report : List ℕ) → report ≡ replicate words 0
-        → (a′ report′ : List ℕ) (m : Met) → Relocated (h ∷ (p ∷ ls)) (length ls + 2) table order a (setting .address) policy report a′ report′ m
+        → (a′ report′ : List ℕ) (m : Met) → Relocated (h ∷ (p ∷ ls)) table order a policy report a′ report′ m
         → settledOf m a′ report′ ≡ bindIn setting (setVerdict setting (h ∷ (p ∷ ls)) size) (filesOf (h ∷ (p ∷ ls))) order size policy words
     unfolding filesOf bindIn objectsOf
     bound-in policy words order once report zeros a′ report′ m g =
         let n : length a ≡ size = kept ∙ len in
-        let run : left (g .progress) a′ report′ ≡ runOrder (setting .address) table (objects.count made-set) (h ∷ (p ∷ ls)) order (left started a report) =
-        rw many (g .leaves) in
         let ended = relocated.relocated-is setting size table (hostFile h) (fileOf p) fs loaded (h ∷ (p ∷ ls)) (λ k l. files-are k (omega (arith, many)))
-        order once words a report placed-arena n zeros (g .progress) a′ report′ run in
+        order once words a report placed-arena n zeros (g .progress) a′ report′ (g .leaves) in
         relocated-set setting size table (hostFile h) (fileOf p) fs policy order words (g .progress) a′ report′ ended m (g .met)
         ∙ rw (passed-it .verdict-is)
 
@@ -233,7 +233,7 @@ pub bind-is :
     (setting : Setting) (os : List Input) (count : ℕ) (arena a table : List ℕ) (r : Met) → length os ≡ count → length a ≡ length arena
     → Prepared setting os arena a table r → r ≡ Passed → (order : Order) → Arranged os count a table order
     → (policy : Policy) (report : List ℕ) → report ≡ replicate (length report) 0
-    → (a′ report′ : List ℕ) (m : Met) → Relocated os count table (take (order .count) (order .list)) a (setting .address) policy report a′ report′ m
+    → (a′ report′ : List ℕ) (m : Met) → Relocated os table (take (order .count) (order .list)) a policy report a′ report′ m
     → BoundSet setting os (length arena) policy (length report) a′ report′ m
 unfolding bindSet
 bind-is setting [] count arena a table r many kept made z order o policy report zeros a′ report′ m g =
@@ -246,7 +246,7 @@ bind-is setting (h ∷ (p ∷ ls)) count arena a table r many kept made z order 
     (subst (λ (n : ℕ). Arranged (h ∷ (p ∷ ls)) n a table order) c o) in
     bound-in setting (length arena) table h p ls arena a r refl kept made z policy (length report) (take (order .count) (order .list))
     (in-order setting (length arena) table h p ls arena a r refl kept made z (take (order .count) (order .list)) same) report zeros a′ report′ m
-    (subst (λ (n : ℕ). Relocated (h ∷ (p ∷ ls)) n table (take (order .count) (order .list)) a (setting .address) policy report a′ report′ m) c g)
+    g
     ∙ ap
     (λ (l : List ℕ). bindIn setting (setVerdict setting (h ∷ (p ∷ ls)) (length arena)) (filesOf (h ∷ (p ∷ ls))) l (length arena) policy (length report))
     same

@@ -108,7 +108,7 @@ module _ (setting : Setting) (size : ℕ) (table : List ℕ) (h pr : File) (fs :
   module _ (L : LoadedSet setting size table h pr fs) (k : ℕ) (lo : 1 ≤ k) (hi : k < count (set setting size table h pr fs))
       (n : ℕ) (a₀ : List ℕ) where
     abbrev t : Turn
-    t = turnOf address table k
+    t = turnOf table k
 
     abbrev f : File
     f = fileAt setting size table h pr fs k
@@ -385,15 +385,15 @@ module _ (setting : Setting) (size : ℕ) (table : List ℕ) (h pr : File) (fs :
           symbolic-ran :
               Ran size n (verdict (symbolThen (checkedSymbol image r (e .symbol)) (λ y. writtenRefusal r (e .place) (f .width))) k)
               (After (resolve S k sought) (write m ((obj S k) .offset + e .place) (f .width) (writtenBytes t e f (addressOr0 (resolve S k sought)))))
-              (symbolicOf address table (count S) t r e f i (checkedSymbol (imageIn a t) r (e .symbol)) p a report)
+              (symbolicOf table t r e f i (checkedSymbol (imageIn a t) r (e .symbol)) p a report)
           unfolding symbolicOf answeredOf
           symbolic-ran =
               symbol-step (e .symbol) (λ y. writtenRefusal r (e .place) (f .width))
               (After (resolve S k sought) (write m ((obj S k) .offset + e .place) (f .width) (writtenBytes t e f (addressOr0 (resolve S k sought)))))
-              (λ c. symbolicOf address table (count S) t r e f i c p a report) (λ z. refl)
+              (λ c. symbolicOf table t r e f i c p a report) (λ z. refl)
               (λ ok same.
-              symbolic-by (soughtFor address table (count S) t a (nameOf (imageIn a t) r y))
-              (ap (λ (x : List ℕ). scopedOf (soughtFor address table (count S) t a x)) (name-same (e .symbol) ok same)
+              symbolic-by (soughtFor table t a (nameOf (imageIn a t) r y))
+              (ap (λ (x : List ℕ). scopedOf (soughtFor table t a x)) (name-same (e .symbol) ok same)
               ∙ searches setting size table h pr fs L a steady k hi name)
               (inWritable (r .segments) (e .place) (f .width)) refl)
 
@@ -494,15 +494,15 @@ module _ (setting : Setting) (size : ℕ) (table : List ℕ) (h pr : File) (fs :
             (symbolThen (checkedSymbol image r (e .symbol))
             (λ y. copyRefusal S k r (e .place) (y .size) (resolveCopy S sought))) k)
             (After (resolveCopy S sought) (copied S ((obj S k) .offset + e .place) (y .size) (resolveCopy S sought) m))
-            (copyingOf address table (count S) t r e i (checkedSymbol (imageIn a t) r (e .symbol)) p a report)
+            (copyingOf table t r e i (checkedSymbol (imageIn a t) r (e .symbol)) p a report)
         unfolding copyingOf
         copy-ran =
             symbol-step (e .symbol) (λ y. copyRefusal S k r (e .place) (y .size) (resolveCopy S sought))
             (After (resolveCopy S sought) (copied S ((obj S k) .offset + e .place) (y .size) (resolveCopy S sought) m))
-            (λ c. copyingOf address table (count S) t r e i c p a report) (λ z. refl)
+            (λ c. copyingOf table t r e i c p a report) (λ z. refl)
             (λ ok same.
-            (copy-by (resolveCopy S sought) (soughtForCopy address table (count S) a (nameOf (imageIn a t) r y))
-            (ap (λ (x : List ℕ). scopedOf (soughtForCopy address table (count S) a x)) (name-same (e .symbol) ok same)
+            (copy-by (resolveCopy S sought) (soughtForCopy table a (nameOf (imageIn a t) r y))
+            (ap (λ (x : List ℕ). scopedOf (soughtForCopy table a x)) (name-same (e .symbol) ok same)
             ∙ copy-searches setting size table h pr fs L a steady name)
             (λ o z v q. resolveCopy-range S sought o z v q .0)))
 
@@ -518,7 +518,7 @@ module _ (setting : Setting) (size : ℕ) (table : List ℕ) (h pr : File) (fs :
         EntryRan base x =
             Ran size n (verdict (refusalBy S k image r e x) k)
             (Doing (ws ++ wordsBy x) (earlier u (pick (undefinedBy S k image r e x) k 0)) (effect S k (entryBy image r base e x) m))
-            (runAction address table (count S) t r i e x p a report)
+            (runAction table t r i e x p a report)
 
         entry-by : (x : Row) → EntryRan (t .base) x
         unfolding refusalBy undefinedBy entryBy effect runAction fixedOf

@@ -88,7 +88,7 @@ module _ (t : Turn) (r : Record) where
     noted-keeps : (b : List ℕ) (x : Noted) → TablesKept t r a b → Keeps a (withArena b x)
     noted-keeps b (noted p report) k = k
 
-  module _ (address : ℕ) (table : List ℕ) (count : ℕ) (i : ℕ) (e : Rela) (p : Progress) (a report : List ℕ) where
+  module _ (table : List ℕ) (i : ℕ) (e : Rela) (p : Progress) (a report : List ℕ) where
     module _ (f : Calculation) where
       fixed-keeps : Keeps a (withReport report (fixedOf t (r .segments) e f p a))
       unfolding fixedOf
@@ -106,7 +106,7 @@ module _ (t : Turn) (r : Record) where
           (keepsWeak (e .symbol + 1) y (unresolvedOf y (t .number) i p report)) (kept-write a (e .place) (f .width) (writtenBytes t e f 0) w)
       found-keeps y (Found k d x) w = kept-write a (e .place) (f .width) (writtenBytes t e f x) w
 
-      symbolic-keeps : (c : CheckedSymbol) → Keeps a (symbolicOf address table count t r e f i c p a report)
+      symbolic-keeps : (c : CheckedSymbol) → Keeps a (symbolicOf table t r e f i c p a report)
       unfolding symbolicOf answeredOf
       symbolic-keeps (Refused n) = kept-none a
       symbolic-keeps (Checked y) = go (inWritable (r .segments) (e .place) (f .width)) refl (eqb (p .last) (e .symbol + 1))
@@ -115,10 +115,10 @@ module _ (t : Turn) (r : Record) where
               → Keeps a
               (pick b
               (pick c (left p (patch a (t .offset + e .place) (f .width) (writtenBytes t e f (p .address))) report)
-              (writeFound t e f i y (soughtFor address table count t a (nameOf (imageIn a t) r y)) p a report))
+              (writeFound t e f i y (soughtFor table t a (nameOf (imageIn a t) r y)) p a report))
               (left (refusedBy t 17 p) a report))
           go true w true = kept-write a (e .place) (f .width) (writtenBytes t e f (p .address)) w
-          go true w false = found-keeps y (soughtFor address table count t a (nameOf (imageIn a t) r y)) w
+          go true w false = found-keeps y (soughtFor table t a (nameOf (imageIn a t) r y)) w
           go false w c = kept-none a
 
     copied-keeps : (s : Seat) (d : Definition) (n : ℕ) → Keeps a (withReport report (copyBytes t (r .segments) (e .place) s d n p a))
@@ -142,12 +142,12 @@ module _ (t : Turn) (r : Record) where
     copy-keeps y Absent = noted-keeps a a (unresolvedOf y (t .number) i p report) (kept-none a)
     copy-keeps y (Found k d x) = copied-keeps (seatAt table k) d (min (y .size) (d .size))
 
-    copying-keeps : (c : CheckedSymbol) → Keeps a (copyingOf address table count t r e i c p a report)
+    copying-keeps : (c : CheckedSymbol) → Keeps a (copyingOf table t r e i c p a report)
     unfolding copyingOf
     copying-keeps (Refused n) = kept-none a
-    copying-keeps (Checked y) = copy-keeps y (soughtForCopy address table count a (nameOf (imageIn a t) r y))
+    copying-keeps (Checked y) = copy-keeps y (soughtForCopy table a (nameOf (imageIn a t) r y))
 
-    entry-keeps : (x : Row) → Keeps a (runAction address table count t r i e x p a report)
+    entry-keeps : (x : Row) → Keeps a (runAction table t r i e x p a report)
     unfolding runAction
     entry-keeps ignored = kept-none a
     entry-keeps passedOver = noted-keeps a a (noteOf (reportSum 7 i) p report) (kept-none a)
@@ -156,5 +156,5 @@ module _ (t : Turn) (r : Record) where
     entry-keeps (writes inScope f) = symbolic-keeps f (checkedSymbol (imageIn a t) r (e .symbol))
     entry-keeps copies = copying-keeps (checkedSymbol (imageIn a t) r (e .symbol))
 
-    pub entry-kept : (x : Row) (q : Progress) (b words : List ℕ) → left q b words ≡ runAction address table count t r i e x p a report → TablesKept t r a b
+    pub entry-kept : (x : Row) (q : Progress) (b words : List ℕ) → left q b words ≡ runAction table t r i e x p a report → TablesKept t r a b
     entry-kept x q b words h = subst (Keeps a) (sym h) (entry-keeps x)

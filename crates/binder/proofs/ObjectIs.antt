@@ -37,7 +37,7 @@ module _ (setting : Setting) (size : ℕ) (table : List ℕ) (h pr : File) (fs :
   S = set setting size table h pr fs
 
   abbrev t : Turn
-  t = turnOf address table k
+  t = turnOf table k
 
   abbrev f : File
   f = fileAt setting size table h pr fs k
@@ -99,13 +99,13 @@ module _ (setting : Setting) (size : ℕ) (table : List ℕ) (h pr : File) (fs :
 
     after-relr :
         (z : ℕ) (b : List ℕ) (q : Noted) → RelrEnded setting size table h pr fs k z a b → NotedGoing (ws ++ (reportWord 5 k ∷ [])) u n q
-        → KeptAs 0 0 q → Ran size n (objectVerdict S k f) Turned (thenTables address table (count S) t r (summed z b) q)
+        → KeptAs 0 0 q → Ran size n (objectVerdict S k f) Turned (thenTables table t r (summed z b) q)
     unfolding objectVerdict
     after-relr z b (noted p′ report′) w g′ none =
         subst
         (λ (v : Verdict).
         Ran size n (first v (entriesVerdict S k image r (relasOf image r))) Turned
-        (thenTables address table (count S) t r (summed z b) (noted p′ report′)))
+        (thenTables table t r (summed z b) (noted p′ report′)))
         (w .verdict-is)
         (⊎-elim
         (λ (c : eqb z 0 ≡ true).
@@ -113,7 +113,7 @@ module _ (setting : Setting) (size : ℕ) (table : List ℕ) (h pr : File) (fs :
         (ran-weaker size n (entriesVerdict S k image r (relasOf image r))
         (Entered setting size table h pr fs L k lo hi n a (ws ++ (reportWord 5 k ∷ [])) u (addWords (obj S k) (placesOf (namedWords image r)) (mem a))
         0 (relasOf image r))
-        Turned entered-turned (runTables address table (count S) t r (left p′ b report′))
+        Turned entered-turned (runTables table t r (left p′ b report′))
         (tables-ran setting size table h pr fs L k lo hi n a (ws ++ (reportWord 5 k ∷ [])) u
         (addWords (obj S k) (placesOf (namedWords image r)) (mem a)) p′ b report′
         record {
@@ -129,14 +129,14 @@ module _ (setting : Setting) (size : ℕ) (table : List ℕ) (h pr : File) (fs :
         (decide (eqb z 0)))
 
     pub object-ran :
-        5 * 2 ^ 28 + k < 2 ^ 32 → Ran size n (objectVerdict S k f) Turned (runObject address table (count S) t r p a report)
+        5 * 2 ^ 28 + k < 2 ^ 32 → Ran size n (objectVerdict S k f) Turned (runObject table t r p a report)
     unfolding runObject
     object-ran small =
         go (runRelrs t r a) refl
       where
         go :
             (x : Summed) → x ≡ runRelrs t r a
-            → Ran size n (objectVerdict S k f) Turned (thenTables address table (count S) t r x (noteOf (reportSum 5 k) (keeps 0 0 p) report))
+            → Ran size n (objectVerdict S k f) Turned (thenTables table t r x (noteOf (reportSum 5 k) (keeps 0 0 p) report))
         go (summed z b) e =
             after-relr z b (noteOf (reportSum 5 k) (keeps 0 0 p) report) (relr-is setting size table h pr fs L k lo hi a s z b e)
             (word-going ws u n (keeps 0 0 p) report (keeps-going ws u n 0 0 p report g) 5 k small) (note-kept (reportSum 5 k) (keeps 0 0 p) report)
@@ -144,7 +144,7 @@ module _ (setting : Setting) (size : ℕ) (table : List ℕ) (h pr : File) (fs :
     -- with the record that is read again
     pub turn-ran :
         5 * 2 ^ 28 + k < 2 ^ 32 → PlacedAt setting size table h pr fs a k
-        → Ran size n (objectVerdict S k f) Turned (runAt address table (count S) k (f .bytes) p a report)
+        → Ran size n (objectVerdict S k f) Turned (runAt table k (f .bytes) p a report)
     unfolding runAt
     turn-ran small placed =
         let x = again setting size table h pr fs L a k lo hi placed in

@@ -32,7 +32,7 @@ use Rattle.binder.specs.Setting.{Setting}
 use Rattle.binder.specs.Instance.{File, fileRecord}
 use Rattle.binder.specs.Verdict.{passed, refused, first, verdict, noFile}
 use Rattle.binder.specs.Bind.{filesOf, unless, prepareVerdict}
-use Rattle.scope.specs.Steps.Seats.{seatAt, Filtered}
+use Rattle.scope.specs.Steps.Seats.{seatAt, countIn, addressIn, FilteredBelow, Filtered}
 use Rattle.binder.specs.Steps.Prepared.{loadFrom, metBy, seatOf, placeFiles, Seated, SeatedAt, LoadedAt, LoadedFiles, setVerdict, Prepared}
 use Rattle.scope.specs.declared.seats.Seat.{Seat}
 use Rattle.binder.specs.declared.prepare.Met.{Met}
@@ -151,7 +151,7 @@ pub record Loading (os : List Input) (a₀ a table : List ℕ) (off k : ℕ) : T
   pub placed : placeFiles (filesOf os) 0 (λ _. 0) ≡ placeFiles (drop k (filesOf os)) off (below off (mem a))
   pub seated :
       (t : List ℕ) → ((j : ℕ) → j < k → seatAt t j ≡ seatAt table j) → Seated t k off (drop k (filesOf os)) → Seated t 0 0 (filesOf os)
-  pub filtered : Filtered table k
+  pub filtered : FilteredBelow table k
 
 pub load-begin : (os : List Input) (a table : List ℕ) → Loading os a a table 0 0
 load-begin os a table =
@@ -201,7 +201,7 @@ module _ (os : List Input) (a₀ a table : List ℕ) (off k : ℕ) (h : Loading 
 
       pub load-turn :
           (s : Seat) → p ≡ loads.the-variants.At s → length a′ ≡ length a → (t : List ℕ) → seatAt t k ≡ s
-          → ((j : ℕ) → (j ≡ k → ⊥) → seatAt t j ≡ seatAt table j) → (Filtered table k → Filtered t (k + 1))
+          → ((j : ℕ) → (j ≡ k → ⊥) → seatAt t j ≡ seatAt table j) → (FilteredBelow table k → FilteredBelow t (k + 1))
           → Loading os a₀ a′ t (off + s .span) (k + 1)
       unfolding loadFrom verdict placeFiles Seated
       load-turn s e len t here others filters =
@@ -238,6 +238,17 @@ module _ (os : List Input) (a₀ a table : List ℕ) (off k : ℕ) (h : Loading 
 
 -- ---- preparing: refusals 1 to 3, then loading
 
+-- a table with the same seats
+seated-same :
+    (t t′ : List ℕ) (k off : ℕ) (fs : List File) → ((j : ℕ) → j < k + length fs → seatAt t′ j ≡ seatAt t j)
+    → Seated t k off fs → Seated t′ k off fs
+unfolding Seated
+seated-same t t′ k off [] same s = tt
+seated-same t t′ k off (f ∷ fs) same s = (
+  same k (omega arith) ∙ s .0,
+  seated-same t t′ (k + 1) (off + objectSpan (f .host) (f .bytes)) fs (λ j l. same j (omega arith)) (s .1),
+)
+
 module _ (setting : Setting) (os : List Input) (arena : List ℕ) where
   -- a refusal before anything is loaded
   refuses :
@@ -248,6 +259,8 @@ module _ (setting : Setting) (os : List Input) (arena : List ℕ) where
         arena = λ z. refused-not n k (ap metBy z);
         table = λ z. refused-not n k (ap metBy z);
         filtered = λ z. refused-not n k (ap metBy z);
+        counted = λ z. refused-not n k (ap metBy z);
+        addressed = λ z. refused-not n k (ap metBy z);
       }
 
   pub prepare-one : length os < 2 → (arena′ table : List ℕ) → Prepared setting os arena arena′ table (Refused 1 0)
@@ -264,16 +277,21 @@ module _ (setting : Setting) (os : List Input) (arena : List ℕ) where
       unfolding setVerdict unless
       prepare-three t e ne = refuses 3 t (rw (le-leb 2 (length os) two, ok, ← e, ne-eqb t 0 ne))
 
+      -- the table `t` with the set's count and the address is `t′`
       pub prepare-loads :
-          twinOf os ≡ 0 → (arena′ table : List ℕ) (r : Met) → LoadedFiles (filesOf os) arena arena′ table r
-          → Prepared setting os arena arena′ table r
+          twinOf os ≡ 0 → (arena′ t t′ : List ℕ) (r : Met) → LoadedFiles (filesOf os) arena arena′ t r → length os ≤ 64
+          → countIn t′ ≡ length os → addressIn t′ ≡ setting .address → ((k : ℕ) → k < 64 → seatAt t′ k ≡ seatAt t k)
+          → (FilteredBelow t (length os) → Filtered t′)
+          → Prepared setting os arena arena′ t′ r
       unfolding setVerdict unless
-      prepare-loads none arena′ table r h =
+      prepare-loads none arena′ t t′ r h few count-is address-is same filters =
           record {
             met = h .met ∙ rw (le-leb 2 (length os) two, ok, eq-eqb (twinOf os) 0 none);
             arena = h .arena;
-            table = h .table;
-            filtered = λ z k l. h .filtered z k (omega (arith, files-length os));
+            table = λ z. seated-same t t′ 0 0 (filesOf os) (λ k l. same k (omega (arith, files-length os))) (h .table z);
+            filtered = λ z. filters (λ k l. h .filtered z k (omega (arith, files-length os)));
+            counted = λ z. count-is;
+            addressed = λ z. address-is;
           }
 
 -- a set that passed
@@ -304,12 +322,6 @@ pub passes :
     (setting : Setting) (os : List Input) (arena arena′ table : List ℕ) (r : Met) → Prepared setting os arena arena′ table r → r ≡ Passed
     → Ready setting os (length arena)
 passes setting os arena arena′ table r made z = ready setting os (length arena) (sym (made .met) ∙ ap metBy z)
-
--- the words of every filter of a set that was prepared
-pub all-filtered :
-    (setting : Setting) (os : List Input) (count : ℕ) (arena arena′ table : List ℕ) (r : Met) → Prepared setting os arena arena′ table r → r ≡ Passed
-    → length os ≡ count → Filtered table count
-all-filtered setting os count arena arena′ table r made z many = λ k l. made .filtered z k (omega (arith, many))
 
 -- a table of parts names as many objects as it counts
 pub many-parts : {sheet : List ℕ} {n : ℕ} {p : Parts} → Tabled sheet n p → (bytes : List ℕ) → length (inputsIn bytes p) ≡ p .count

@@ -66,7 +66,7 @@ pub asked :
     (setting : Setting) (os : List Input) (count : ℕ) (arena arena′ table : List ℕ) (requester : ℕ) (name : List ℕ) (r : Met)
     → length os ≡ count → Prepared setting os arena arena′ table r → r ≡ Passed → requester < count
     → length arena′ ≡ length arena
-    → (x : Reply) → x ≡ replyOf (scopedOf (resolveSeats (setting .address) arena′ table count requester name (gnuHash name) (elfHash name)))
+    → (x : Reply) → x ≡ replyOf (scopedOf (resolveSeats arena′ table requester name (gnuHash name) (elfHash name)))
     → replied x arena′ ≡ askOf setting os (length arena) requester name
 unfolding filesOf objectsOf
 asked setting [] count arena arena′ table requester name r many made z l len x e =
@@ -104,14 +104,14 @@ asked setting (h ∷ (p ∷ ls)) count arena arena′ table requester name r man
         ∙ (ap (λ (n : ℕ). tab n (mem arena′)) len
         ∙ ap (tab (length arena)) (made .arena z ∙ sym (placed-is setting hf pf fs)))
 
-    answer : scopedOf (resolveSeats (setting .address) arena′ table count requester name (gnuHash name) (elfHash name)) ≡ resolve S requester (byName name)
+    answer : scopedOf (resolveSeats arena′ table requester name (gnuHash name) (elfHash name)) ≡ resolve S requester (byName name)
     answer =
         let n : length fs ≡ length ls = length-map ls (λ (o : Input). record { host = false; bytes = o .file }) in
-        let c : count ≡ objects.count S = omega (arith, count-is setting (length arena) hf pf fs, many) in
-        resolve-is (setting .address) arena′ table name S count c
+        let c : objects.count S ≡ length (h ∷ (p ∷ ls)) = omega (arith, count-is setting (length arena) hf pf fs) in
+        resolve-is (setting .address) arena′ table name S (made .addressed z) (made .counted z ∙ sym c)
         (seated-for setting (length arena) table hf pf fs arena′ (λ _. 0) len (omega (arith, passed-it .end)) (passed-it .loads) (made .table z)
         (made .arena z))
-        requester l
+        requester (omega (arith, c, many))
 
 -- ---- the objects of a sheet
 

@@ -104,22 +104,22 @@ module _ (t : Turn) (at n low high : ℕ) (table-in : at + 24 * n ≤ t .span) w
           ∙ with-patch t a fits (relaAt (partOf t a) at i .place) 8 (byteOf (sum64 (t .base) (relaAt (partOf t a) at i .addend)))
 
       ran :
-          (address : ℕ) (table : List ℕ) (count : ℕ) (r : Record) (number : ℕ) (p : Progress) (report : List ℕ) → WritableRange (r .segments) low high
-          → left p (withPart t a y) report ≡ runAction address table count t r number (relaAt (imageIn a t) at i) (rowBy Relative) p a report
+          (table : List ℕ) (r : Record) (number : ℕ) (p : Progress) (report : List ℕ) → WritableRange (r .segments) low high
+          → left p (withPart t a y) report ≡ runAction table t r number (relaAt (imageIn a t) at i) (rowBy Relative) p a report
       unfolding runAction fixedOf
-      ran address table count r number p report wr =
+      ran table r number p report wr =
           let w : inWritable (r .segments) (relaAt (partOf t a) at i .place) 8 ≡ true
           = wr (relaAt (partOf t a) at i .place) 8 (one .above) (one .below) (omega arith) in
           rw (here, w, written)
 
       relative-turn :
           (start : ℕ) (a₀ : List ℕ) → EntriesPassed t at n low high start a₀ i a → EntriesPassed t at n low high start a₀ (i + 1) (withPart t a y)
-      relative-turn start a₀ passed address table count r first p report wr fine =
+      relative-turn start a₀ passed table r first p report wr fine =
           let b = withPart t a y in
-          let so-far = passed address table count r first p report wr fine in
-          let run = ran address table count r ((first + i) % 2 ^ 32) p report wr in (
-            entry-goes address table count t r at first n i p a report {b = b} {noted = report} some refl acts refl run (so-far .0) (fine (omega (arith, one .below))),
-            kept-then t r a₀ a b (so-far .1) (entry-kept t r address table count ((first + i) % 2 ^ 32) (relaAt (imageIn a t) at i) p a report (rowBy Relative) p b report run),
+          let so-far = passed table r first p report wr fine in
+          let run = ran table r ((first + i) % 2 ^ 32) p report wr in (
+            entry-goes table t r at first n i p a report {b = b} {noted = report} some refl acts refl run (so-far .0) (fine (omega (arith, one .below))),
+            kept-then t r a₀ a b (so-far .1) (entry-kept t r table ((first + i) % 2 ^ 32) (relaAt (imageIn a t) at i) p a report (rowBy Relative) p b report run),
           )
 
   -- `m` of them from entry `i` on
@@ -131,7 +131,7 @@ module _ (t : Turn) (at n low high : ℕ) (table-in : at + 24 * n ≤ t .span) w
     run-passed zero y few none =
         let same : withPart t a y ≡ a = ap (withPart t a) none ∙ with-same t a in
         let z : i + 0 ≡ i = omega arith in
-        rw (same, z) (λ address table count r first p report wr fine. (refl, kept-none t r a))
+        rw (same, z) (λ table r first p report wr fine. (refl, kept-none t r a))
     run-passed (suc m) y few (z, done, one) =
         let e : i + suc m ≡ i + m + 1 = omega arith in
         let step : RelativeWritten (t .base) at low high (i + m) (partOf t (withPart t a z)) y = rw (part-with t a fits z) one in

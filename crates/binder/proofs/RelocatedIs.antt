@@ -111,7 +111,7 @@ module _ (setting : Setting) (size : ℕ) (table : List ℕ) (h pr : File) (fs :
         → Before (k ∷ ks) ws u m p a report
         → Ran size n (objectVerdict S k (getD fl k noFile))
         (Before ks (ws ++ objectWords S k (getD fl k noFile)) (earlier u (pick (hasUndefined S k (getD fl k noFile)) k 0)) (relocate S k m))
-        (runAt address table (count S) k (getD os k noInput .file) p a report)
+        (runAt table k (getD os k noInput .file) p a report)
     one-turn k ks o ws u m p a report b =
         let at = o .among k (omega (arith, head-in k ks)) in
         rw (inputs k (at .1))
@@ -127,7 +127,7 @@ module _ (setting : Setting) (size : ℕ) (table : List ℕ) (h pr : File) (fs :
               d .written .others j (o .among j (omega (arith, times-tail j k ks)) .1) (λ e. other j l e)
               ∙ b .rest j (omega (arith, times-tail j k ks));
         })
-        (runAt address table (count S) k (fileAt setting size table h pr fs k .bytes) p a report)
+        (runAt table k (fileAt setting size table h pr fs k .bytes) p a report)
         (turn-ran setting size table h pr fs L k (at .0) (at .1) n ws u p a report (b .going) (b .steady) (omega (arith, at .1))
         (b .rest k (omega (arith, head-in k ks)))))
       where
@@ -140,7 +140,7 @@ module _ (setting : Setting) (size : ℕ) (table : List ℕ) (h pr : File) (fs :
         (ks : List ℕ) → Turns (count S) ks → (ws : List ℕ) (u : ℕ) (m : Mem) (p : Progress) (a report : List ℕ)
         → Before ks ws u m p a report
         → Ran size n (orderVerdict S fl ks) (Before [] (ws ++ orderWords S fl ks) (earlier u (firstUndefined S fl ks)) (run S ks m))
-        (runOrder address table (count S) os ks (left p a report))
+        (runOrder table os ks (left p a report))
     unfolding orderVerdict orderWords firstUndefined run runOrder
     order-ran [] o ws u m p a report b =
         ran-passed size n passed (Before [] (ws ++ []) (earlier u 0) m) p a report refl (b .going .refusal) (b .steady .size-is)
@@ -153,18 +153,18 @@ module _ (setting : Setting) (size : ℕ) (table : List ℕ) (h pr : File) (fs :
         ran-then size n (objectVerdict S k (getD fl k noFile)) (orderVerdict S fl ks)
         (Before ks (ws ++ x) (earlier u (pick y k 0)) (relocate S k m))
         (Before [] (ws ++ (x ++ orderWords S fl ks)) (earlier u (pick y k (firstUndefined S fl ks))) (run S ks (relocate S k m)))
-        (runOrder address table (count S) os ks)
+        (runOrder table os ks)
         (λ p′ a′ report′ b′.
         rw (← append-assoc ws x (orderWords S fl ks), ← mark-first y u k (firstUndefined S fl ks) (at .0))
         (order-ran ks (turns-tail (count S) k ks o) (ws ++ x) (earlier u (pick y k 0)) (relocate S k m) p′ a′ report′ b′))
-        (runAt address table (count S) k (getD os k noInput .file) p a report)
+        (runAt table k (getD os k noInput .file) p a report)
         (one-turn k ks o ws u m p a report b)
 
   pub relocated-is :
       LoadedSet setting size table h pr fs → (os : List Input)
       → ((k : ℕ) → k < count S → getD os k noInput .file ≡ fileAt setting size table h pr fs k .bytes)
       → (order : List ℕ) → OnceEach (count S) order → (n : ℕ) (a report : List ℕ) → mem a ≡ placed S → length a ≡ size → report ≡ replicate n 0
-      → (p′ : Progress) (a′ report′ : List ℕ) → left p′ a′ report′ ≡ runOrder address table (count S) os order (left started a report)
+      → (p′ : Progress) (a′ report′ : List ℕ) → left p′ a′ report′ ≡ runOrder table os order (left started a report)
       → Ended order n p′ a′ report′
   unfolding bound
   relocated-is L os inputs order once n a report at len zeros p′ a′ report′ e =

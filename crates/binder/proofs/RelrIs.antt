@@ -157,7 +157,7 @@ module _ (setting : Setting) (size : ℕ) (table : List ℕ) (h p : File) (fs : 
     r = fileRecord (file k)
 
     abbrev t : Turn
-    t = turnOf address table k
+    t = turnOf table k
 
     long : (a : List ℕ) → Steady a → t .offset ≤ length a
     long a s =
@@ -370,19 +370,19 @@ module _ (setting : Setting) (size : ℕ) (table : List ℕ) (h p : File) (fs : 
 
   pub relr-is :
       LoadedSet → (k : ℕ) → 1 ≤ k → k < count S → (a : List ℕ) → Steady a → (z : ℕ) (a′ : List ℕ)
-      → summed z a′ ≡ runRelrs (turnOf address table k) (fileRecord (file k)) a
+      → summed z a′ ≡ runRelrs (turnOf table k) (fileRecord (file k)) a
       → RelrEnded k z a a′
   unfolding namedWords runRelrs
-  relr-is L k low member a s z a′ e = go (addRelrs (turnOf address table k) (fileRecord (file k)) (fileRecord (file k) .relrs) 0 far (partOf (turnOf address table k) a)) refl (rw n at e)
+  relr-is L k low member a s z a′ e = go (addRelrs (turnOf table k) (fileRecord (file k)) (fileRecord (file k) .relrs) 0 far (partOf (turnOf table k) a)) refl (rw n at e)
     where
       n : cutTo32 (fileRecord (file k) .relrs) ≡ fileRecord (file k) .relrs
       n = omega (arith, laws.counts setting size table h p fs L k low member .2)
 
       go :
-          (v : Summed) → v ≡ addRelrs (turnOf address table k) (fileRecord (file k)) (fileRecord (file k) .relrs) 0 far (partOf (turnOf address table k) a) → summed z a′ ≡ summedIn (turnOf address table k) a v
+          (v : Summed) → v ≡ addRelrs (turnOf table k) (fileRecord (file k)) (fileRecord (file k) .relrs) 0 far (partOf (turnOf table k) a) → summed z a′ ≡ summedIn (turnOf table k) a v
           → RelrEnded k z a a′
       go (summed z′ x) ev e =
           let ez : z ≡ z′ = cc in
-          let ea : a′ ≡ withPart (turnOf address table k) a x = cc in
+          let ea : a′ ≡ withPart (turnOf table k) a x = cc in
           let u = ran-entries L k low member (fileRecord (file k) .relrs) 0 (omega arith) none far refl a s z′ x ev in
           rw (ez, ea) (record { verdict-is = u .verdict-is; done = u .done; length-is = u .length-is })

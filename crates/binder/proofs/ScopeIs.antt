@@ -20,7 +20,7 @@ use Rattle.scope.specs.declared.seats.Seat.{Seat}
 use Rattle.scope.specs.declared.scope.Scoped.{Scoped}
 use Rattle.scope.specs.declared.scope.Scoped.the-variants.{Absent, Found}
 use Rattle.scope.specs.Steps.Seats as seats-specs
-use Rattle.scope.specs.Steps.Seats.{seatAt, seatsFrom}
+use Rattle.scope.specs.Steps.Seats.{seatAt, seatsFrom, countIn, addressIn}
 use Rattle.binder.specs.Instance.{symOf, definitionFound}
 use Rattle.scope.specs.Steps.ScopeCode as searches
 use Rattle.scope.specs.Steps.ScopeCode.{answerAt, scopedBy, guardedBy, orElse, seatAnswer, ownAnswer, scanSeats, resolveSeats, resolveCopySeats}
@@ -82,16 +82,17 @@ module _ (at : ℕ) (arena table name : List ℕ) where
 
   -- ---- the searches
 
-  module _ (S : Objs) (n : ℕ) (c : n ≡ count S) (h : SeatedFor at arena table S) where
-    -- where the set has `n` objects and the requester is one of them
-    pub resolve-is : (r : ℕ) → r < n → scopedOf (resolveSeats at arena table n r name (gnuHash name) (elfHash name)) ≡ model.resolve S r (symbols.byName name)
+  module _ (S : Objs) (is : addressIn table ≡ at) (c : countIn table ≡ count S) (h : SeatedFor at arena table S) where
+    -- where the requester is an object of the set
+    pub resolve-is : (r : ℕ) → r < count S → scopedOf (resolveSeats arena table r name (gnuHash name) (elfHash name)) ≡ model.resolve S r (symbols.byName name)
     unfolding searches.resolveSeats model.resolve
     resolve-is r l =
-        let m : n - 1 ≡ length (S .program ∷ S .libs) = omega arith in
+        let m : countIn table - 1 ≡ length (S .program ∷ S .libs) = omega arith in
         let seats : (j : ℕ) → j < length (S .program ∷ S .libs) → SeatOf at arena (getD (S .program ∷ S .libs) j (S .host)) (seatAt table (1 + j)) = λ j q.
         let e : suc j ≡ 1 + j = omega arith in
         subst (λ (i : ℕ). SeatOf at arena (getD (S .program ∷ S .libs) j (S .host)) (seatAt table i)) e (h (suc j) (omega arith)) in
         rw (
+          is,
           m,
           scoped-else,
           scoped-else,
@@ -100,11 +101,11 @@ module _ (at : ℕ) (arena table name : List ℕ) where
           seat-is 0 (S .host) (seatAt table 0) (h 0 (omega arith)),
         )
 
-    pub resolve-copy-is : scopedOf (resolveCopySeats at arena table n name (gnuHash name) (elfHash name)) ≡ model.resolveCopy S (symbols.byName name)
+    pub resolve-copy-is : scopedOf (resolveCopySeats arena table name (gnuHash name) (elfHash name)) ≡ model.resolveCopy S (symbols.byName name)
     unfolding searches.resolveCopySeats model.resolveCopy
     resolve-copy-is =
-        let m : n - 2 ≡ length (S .libs) = omega arith in
+        let m : countIn table - 2 ≡ length (S .libs) = omega arith in
         let seats : (j : ℕ) → j < length (S .libs) → SeatOf at arena (getD (S .libs) j (S .host)) (seatAt table (2 + j)) = λ j q.
         let e : suc (suc j) ≡ 2 + j = omega arith in
         subst (λ (i : ℕ). SeatOf at arena (getD (S .libs) j (S .host)) (seatAt table i)) e (h (suc (suc j)) (omega arith)) in
-        rw (m, scoped-else, scan-is (S .host) (S .libs) 2 seats, seat-is 0 (S .host) (seatAt table 0) (h 0 (omega arith)))
+        rw (is, m, scoped-else, scan-is (S .host) (S .libs) 2 seats, seat-is 0 (S .host) (seatAt table 0) (h 0 (omega arith)))

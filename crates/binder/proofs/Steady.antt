@@ -17,7 +17,7 @@ use Rattle.model.specs.Symbols.{byName}
 use Rattle.binder.specs.Instance.{File, fileImage, fileRecord, symOf, objectAt}
 use Rattle.binder.specs.Setting.{Setting}
 use Rattle.binder.specs.Verdict.{passed, noFile, copyOk}
-use Rattle.scope.specs.Steps.Seats.{seatAt}
+use Rattle.scope.specs.Steps.Seats.{seatAt, countIn, addressIn}
 use Rattle.binder.specs.Steps.Prepared.{loadFrom, seatOf, placeFiles, Seated}
 use Rattle.scope.specs.Steps.ScopeCode.{imageAt}
 use Rattle.binder.specs.Steps.ScopeModel.{scopedOf}
@@ -36,11 +36,13 @@ module _ (setting : Setting) (size : ℕ) (table : List ℕ) (h p : File) (fs : 
   abbrev pub set : Objs
   set = objsOf (objectAt setting) h p fs
 
-  -- refusals 2 and 4 to 12 were passed, and the table has the seats
+  -- refusals 2 and 4 to 12 were passed, and the table has the seats, the count and the address
   pub record LoadedSet : Type 0 where
     pub others : (k : ℕ) → 1 ≤ k → k < count set → fileAt k .host ≡ false
     pub loads : loadFrom size 0 0 files ≡ passed
     pub seats : Seated table 0 0 files
+    pub counted : countIn table ≡ count set
+    pub addressed : addressIn table ≡ address
     pub end : address + size ≤ 2 ^ 63
     pub small : size ≤ 2 ^ 28
 
@@ -59,7 +61,7 @@ module _ (setting : Setting) (size : ℕ) (table : List ℕ) (h p : File) (fs : 
     pub fits : (obj set k) .offset + objectSpan (fileAt k .host) (fileAt k .bytes) ≤ size
     pub seat : seatAt table k ≡ seatOf (fileAt k) ((obj set k) .offset)
     -- base = address + offset, without wrapping
-    pub base : turnOf address table k .base ≡ (obj set k) .base
+    pub base : turnOf table k .base ≡ (obj set k) .base
 
   -- a write to object `k` left the other objects' bytes
   pub record Written (a a′ : List ℕ) (k : ℕ) : Type 0 where
@@ -87,11 +89,11 @@ module _ (setting : Setting) (size : ℕ) (table : List ℕ) (h p : File) (fs : 
   abbrev pub Searches : Type 0
   Searches =
       LoadedSet → (a : List ℕ) → Steady a → (k : ℕ) → k < count set → (name : List ℕ)
-      → scopedOf (soughtFor address table (count set) (turnOf address table k) a name) ≡ resolve set k (byName name)
+      → scopedOf (soughtFor table (turnOf table k) a name) ≡ resolve set k (byName name)
 
   abbrev pub CopySearches : Type 0
   CopySearches =
-      LoadedSet → (a : List ℕ) → Steady a → (name : List ℕ) → scopedOf (soughtForCopy address table (count set) a name) ≡ resolveCopy set (byName name)
+      LoadedSet → (a : List ℕ) → Steady a → (name : List ℕ) → scopedOf (soughtForCopy table a name) ≡ resolveCopy set (byName name)
 
   -- a range in a writable segment ends inside the span
   abbrev pub WritableInside : Type 0
@@ -110,7 +112,7 @@ module _ (setting : Setting) (size : ℕ) (table : List ℕ) (h p : File) (fs : 
   abbrev pub CopyTests : Type 0
   CopyTests =
       LoadedSet → (k d : ℕ) → k < count set → d < count set → (q n : ℕ) → q + n ≤ objectSpan (fileAt k .host) (fileAt k .bytes)
-      → (x : Definition) → copyFits size (turnOf address table k) q (seatAt table d) x n ≡ copyOk set k q d (symOf x) n
+      → (x : Definition) → copyFits size (turnOf table k) q (seatAt table d) x n ≡ copyOk set k q d (symOf x) n
 
   -- the counted relocation entries of program and libraries are in the span
   abbrev pub Counts : Type 0
@@ -122,5 +124,5 @@ module _ (setting : Setting) (size : ℕ) (table : List ℕ) (h p : File) (fs : 
   abbrev pub Again : Type 0
   Again =
       LoadedSet → (a : List ℕ) (k : ℕ) → 1 ≤ k → k < count set → PlacedAt a k
-      → (againRefusal (imageIn a (turnOf address table k)) (fileAt k .bytes) ≡ 0)
-      × (againRecord (imageIn a (turnOf address table k)) (fileAt k .bytes) ≡ fileRecord (fileAt k))
+      → (againRefusal (imageIn a (turnOf table k)) (fileAt k .bytes) ≡ 0)
+      × (againRecord (imageIn a (turnOf table k)) (fileAt k .bytes) ≡ fileRecord (fileAt k))

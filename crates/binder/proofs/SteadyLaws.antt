@@ -193,8 +193,9 @@ module _ (setting : Setting) (size : ℕ) (table : List ℕ) (h p : File) (fs : 
         fits = omega (arith, off, t .fits);
         seat = t .seat ∙ ap (seatOf (fileAt k)) (sym off);
         base =
-            ap (λ (x : Seat). (address + x .offset) % 2 ^ 64) (t .seat)
-            ∙ (mod-eq-of-lt (omega (arith, t .fits, s .end)) ∙ sym (ap (λ (o : Obj). o .base) (t .is)));
+            ap (λ (n : ℕ). (n + seatAt table k .offset) % 2 ^ 64) (s .addressed)
+            ∙ (ap (λ (x : Seat). (address + x .offset) % 2 ^ 64) (t .seat)
+            ∙ (mod-eq-of-lt (omega (arith, t .fits, s .end)) ∙ sym (ap (λ (o : Obj). o .base) (t .is))));
       }
     where
       t : Sits setting size table (placeFiles (h ∷ (p ∷ fs)) 0 (λ _. 0)) k (fileAt k) (obj set k)
@@ -239,10 +240,10 @@ module _ (setting : Setting) (size : ℕ) (table : List ℕ) (h p : File) (fs : 
       (λ name. readings s a st k l .answers name _ _)
 
   pub searches : steady.Searches setting size table h p fs
-  searches s a st k l name = resolve-is address a table name set (count set) refl (seated s a st) k l
+  searches s a st k l name = resolve-is address a table name set (s .addressed) (s .counted) (seated s a st) k l
 
   pub copy-searches : steady.CopySearches setting size table h p fs
-  copy-searches s a st name = resolve-copy-is address a table name set (count set) refl (seated s a st)
+  copy-searches s a st name = resolve-copy-is address a table name set (s .addressed) (s .counted) (seated s a st)
 
   -- ---- a write
 

@@ -93,7 +93,7 @@ module _ (setting : Setting) (size : ℕ) (table : List ℕ) (h pr : File) (fs :
   S = set setting size table h pr fs
 
   abbrev t : Turn
-  t = turnOf address table k
+  t = turnOf table k
 
   abbrev f : File
   f = fileAt setting size table h pr fs k
@@ -153,7 +153,7 @@ module _ (setting : Setting) (size : ℕ) (table : List ℕ) (h pr : File) (fs :
         → Ran size n (verdict (entryRefusal S k image r (relaAt image at j)) k)
         (Does (ws ++ entryWord S k image r i (relaAt image at j)) (earlier u (pick (isUndefined S k image r (relaAt image at j)) k 0))
         (effect S k (entryOf image r ((obj S k) .base) (relaAt image at j)) m))
-        (runAction address table (count S) t r ((start + j) % 2 ^ 32) (relaAt (imageIn a t) at j) (rowOf (relaAt (imageIn a t) at j .rtype)) p a report)
+        (runAction table t r ((start + j) % 2 ^ 32) (relaAt (imageIn a t) at j) (rowOf (relaAt (imageIn a t) at j .rtype)) p a report)
     one-entry i j e b ws u m p a report d =
         rw (number i j e b, same a (d .written .steady) j b)
         (entry-ran setting size table h pr fs L k lo hi n a₀ ws u m p a report d i (omega arith) (relaAt image at j)
@@ -162,7 +162,7 @@ module _ (setting : Setting) (size : ℕ) (table : List ℕ) (h pr : File) (fs :
     pub table-ran :
         (c i j : ℕ) → i ≡ start + j → j + c ≤ c′ → (ws : List ℕ) (u : ℕ) (m : Mem) (p : Progress) (a report : List ℕ) → Does ws u m p a report
         → Ran size n (entriesVerdict S k image r (relasFrom image at j c)) (Entered ws u m i (relasFrom image at j c))
-        (runTable address table (count S) t r at start c j (left p a report))
+        (runTable table t r at start c j (left p a report))
     unfolding runTable relasFrom entriesVerdict entryReport some effects
     table-ran zero i j e b ws u m p a report d =
         plain setting size table h pr fs L k lo hi n a₀ ws u m p a report d passed m a refl (d .written) (d .memory)
@@ -171,18 +171,18 @@ module _ (setting : Setting) (size : ℕ) (table : List ℕ) (h pr : File) (fs :
         (Does (ws ++ entryWord S k image r i (relaAt image at j)) (earlier u (pick (isUndefined S k image r (relaAt image at j)) k 0))
         (effect S k (entryOf image r ((obj S k) .base) (relaAt image at j)) m))
         (Entered ws u m i (relaAt image at j ∷ relasFrom image at (j + 1) c))
-        (runTable address table (count S) t r at start c (j + 1))
+        (runTable table t r at start c (j + 1))
         (λ p′ a′ report′ d′.
         ran-weaker size n (entriesVerdict S k image r (relasFrom image at (j + 1) c))
         (Entered (ws ++ entryWord S k image r i (relaAt image at j)) (earlier u (pick (isUndefined S k image r (relaAt image at j)) k 0))
         (effect S k (entryOf image r ((obj S k) .base) (relaAt image at j)) m) (i + 1) (relasFrom image at (j + 1) c))
         (Entered ws u m i (relaAt image at j ∷ relasFrom image at (j + 1) c))
         (entered-more ws u m i (relaAt image at j) (relasFrom image at (j + 1) c))
-        (runTable address table (count S) t r at start c (j + 1) (left p′ a′ report′))
+        (runTable table t r at start c (j + 1) (left p′ a′ report′))
         (table-ran c (i + 1) (j + 1) (omega arith) (omega arith) (ws ++ entryWord S k image r i (relaAt image at j))
         (earlier u (pick (isUndefined S k image r (relaAt image at j)) k 0))
         (effect S k (entryOf image r ((obj S k) .base) (relaAt image at j)) m) p′ a′ report′ d′))
-        (runAction address table (count S) t r ((start + j) % 2 ^ 32) (relaAt (imageIn a t) at j) (rowOf (relaAt (imageIn a t) at j .rtype)) p a report)
+        (runAction table t r ((start + j) % 2 ^ 32) (relaAt (imageIn a t) at j) (rowOf (relaAt (imageIn a t) at j .rtype)) p a report)
         (one-entry i j e (omega arith) ws u m p a report d)
 
   -- ---- RELA, then PLT
@@ -193,7 +193,7 @@ module _ (setting : Setting) (size : ℕ) (table : List ℕ) (h pr : File) (fs :
   pub tables-ran :
       (ws : List ℕ) (u : ℕ) (m : Mem) (p : Progress) (a report : List ℕ) → Does ws u m p a report
       → Ran size n (entriesVerdict S k image r (relasOf image r)) (Entered ws u m 0 (relasOf image r))
-      (runTables address table (count S) t r (left p a report))
+      (runTables table t r (left p a report))
   unfolding relasOf runTables
   tables-ran ws u m p a report d =
       let few = counts setting size table h pr fs L k lo hi in
@@ -202,16 +202,16 @@ module _ (setting : Setting) (size : ℕ) (table : List ℕ) (h pr : File) (fs :
       let ys : List Rela = relasFrom image (r .plt) 0 (r .plts) in
       rw (cut-is (r .relas) (few .0), cut-is (r .plts) (few .1), verdicts-append S k image r xs ys)
       (ran-then size n (entriesVerdict S k image r xs) (entriesVerdict S k image r ys) (Entered ws u m 0 xs) (Entered ws u m 0 (xs ++ ys))
-      (runTable address table (count S) t r (r .plt) (r .relas) (r .plts) 0)
+      (runTable table t r (r .plt) (r .relas) (r .plts) 0)
       (λ p′ a′ report′ d′.
       ran-weaker size n (entriesVerdict S k image r ys)
       (Entered (ws ++ entryReport S k image r 0 xs) (earlier u (pick (some (isUndefined S k image r) xs) k 0))
       (effects S k (map (entryOf image r ((obj S k) .base)) xs) m) (r .relas) ys)
       (Entered ws u m 0 (xs ++ ys))
       (entered-join ws u m 0 (r .relas) xs ys (omega (arith, relas-length image (r .rela) 0 (r .relas))))
-      (runTable address table (count S) t r (r .plt) (r .relas) (r .plts) 0 (left p′ a′ report′))
+      (runTable table t r (r .plt) (r .relas) (r .plts) 0 (left p′ a′ report′))
       (table-ran (r .plt) (r .relas) (r .plts) (omega (arith, few .0, few .1)) (λ a s. entry-same image (imageIn a t) (r .plt) (r .plts) (readings setting size table h pr fs L a s k hi .plts o)) (r .plts) (r .relas) 0 (omega arith) (omega arith)
       (ws ++ entryReport S k image r 0 xs) (earlier u (pick (some (isUndefined S k image r) xs) k 0))
       (effects S k (map (entryOf image r ((obj S k) .base)) xs) m) p′ a′ report′ d′))
-      (runTable address table (count S) t r (r .rela) 0 (r .relas) 0 (left p a report))
+      (runTable table t r (r .rela) 0 (r .relas) 0 (left p a report))
       (table-ran (r .rela) 0 (r .relas) (omega (arith, few .0)) (λ a s. entry-same image (imageIn a t) (r .rela) (r .relas) (readings setting size table h pr fs L a s k hi .relas o)) (r .relas) 0 0 (omega arith) (omega arith) ws u m p a report d))

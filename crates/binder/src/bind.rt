@@ -65,16 +65,15 @@ fn bind_in(
     bytes: &[u8],
     parts: Parts,
     arena: &mut [u8],
-    address: u64,
     policy: Policy,
     report: &mut [u32],
     table: &[u64],
     order: Order,
 ) -> Met
-    requires { ⌜ (order .count ≤ 64) × Filtered (now table) (parts .count) ⌝ }
-    ensures { λ r. ⌜ Relocated (inputsIn (now (bytes .entry)) parts) (parts .count) (now (table .entry)) (take (order .count) (order .list)) (now (arena .entry)) address policy (now (report .entry)) (now (arena .exit)) (now (report .exit)) r ⌝ }
+    requires { ⌜ (order .count ≤ 64) × Filtered (now table) ⌝ }
+    ensures { λ r. ⌜ Relocated (inputsIn (now (bytes .entry)) parts) (now (table .entry)) (take (order .count) (order .list)) (now (arena .entry)) policy (now (report .entry)) (now (arena .exit)) (now (report .exit)) r ⌝ }
 {
-    let p = crate::relocate::run_order(bytes, parts, arena, report, table, address, order);
+    let p = crate::relocate::run_order(bytes, parts, arena, report, table, order);
     end(p, policy)
 }
 
@@ -90,13 +89,13 @@ fn bind_set(
     requires { ⌜ (parts .count ≤ 64) × (length (inputsIn (now bytes) parts) ≡ parts .count) × (now report ≡ replicate (length (now report)) 0) ⌝ }
     ensures { λ r. ⌜ BoundSet (settingAt address) (inputsIn (now (bytes .entry)) parts) (length (now (arena .entry))) policy (length (now (report .entry))) (now (arena .exit)) (now (report .exit)) r ⌝ }
 {
-    let mut table = [0u64; 1024];
+    let mut table = [0u64; 1026];
     let m = crate::prepare::prepare(bytes, parts, arena, address, &mut table);
     let Met::Passed = m else {
         return m;
     };
     let order = crate::needs::order_of(bytes, parts, arena, &table);
-    bind_in(bytes, parts, arena, address, policy, report, &table, order)
+    bind_in(bytes, parts, arena, policy, report, &table, order)
 }
 
 // The answer; a refusal leaves zeros. No other function clears after a refusal of `bind`.

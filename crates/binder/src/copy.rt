@@ -3,14 +3,11 @@ ghost use mathlib.Core.Path.{_≡_};
 ghost use Prim.Native.Nat.{_+_};
 ghost use lib.Dec.{leb};
 ghost use lib.ListN.{take};
-ghost use Rattle.binder.specs.Steps.Relocating.{left, wrote, copyFits, copyBytes, copyOf};
+ghost use Rattle.binder.specs.Steps.Relocating.{wrote, copyFits, copyBytes};
 use crate::report::Progress;
 use crate::turn::Turn;
 use object::hash_tables::Definition;
-use object::relocate::Rela;
-use object::symbol::Symbol;
 use object::table_bytes::Bounds;
-use scope::scope::Scoped;
 use scope::seats::Seat;
 
 // Whether the `n` bytes at `place` of what starts at `off` end inside `size` bytes.
@@ -80,32 +77,4 @@ pub(crate) fn copy_found(
     }
     crate::turn::copy_part(arena, t.offset, to, s.offset + (d.value as usize), n);
     p
-}
-
-// Type 5, of the entry with number `i` and the symbol `y`, with the answer of its search.
-pub(crate) fn copy_answer(
-    arena: &mut [u8],
-    report: &mut [u32],
-    p: Progress,
-    table: &[u64],
-    t: Turn,
-    b: Bounds,
-    i: u32,
-    e: Rela,
-    y: Symbol,
-    s: Scoped,
-) -> Progress
-    ensures { λ r. ⌜ left r (now (arena .exit)) (now (report .exit)) ≡ copyOf (now (table .entry)) t (take (b .count) (b .segments)) e i y s p (now (arena .entry)) (now (report .entry)) ⌝ }
-{
-    let Scoped::Found {
-        object,
-        definition,
-        address: _,
-    } = s
-    else {
-        return crate::report::unresolved(report, p, y, t.number, i);
-    };
-    let n = words::bytes::smaller(y.size as usize, definition.size as usize);
-    let seat = scope::seats::seat_at(table, object);
-    copy_found(arena, p, t, b, e.place, seat, definition, n)
 }

@@ -70,8 +70,8 @@ fn load_all(bytes: &[u8], parts: Parts, arena: &mut [u8], table: &mut [u64]) -> 
     Met::Passed
 }
 
-// Refusals 1 to 12 of the objects that the table of parts names; what passes is loaded, whatever the arena holds before, and its seats are
-// in the table. A refused sheet's table of parts names no object.
+// Refusals 1 to 12 of the objects that the table of parts names; what passes is loaded, whatever the arena holds before, and its seats,
+// its count and the arena's address are in the table. A refused sheet's table of parts names no object.
 pub(crate) fn prepare(
     bytes: &[u8],
     parts: Parts,
@@ -79,7 +79,7 @@ pub(crate) fn prepare(
     address: u64,
     table: &mut [u64],
 ) -> Met
-    requires { ⌜ (parts .count ≤ 64) × (length (inputsIn (now bytes) parts) ≡ parts .count) × (1024 ≤ length (now table)) ⌝ }
+    requires { ⌜ (parts .count ≤ 64) × (length (inputsIn (now bytes) parts) ≡ parts .count) × (1026 ≤ length (now table)) ⌝ }
     ensures { λ r. ⌜ Prepared (settingAt address) (inputsIn (now (bytes .entry)) parts) (now (arena .entry)) (now (arena .exit)) (now (table .exit)) r ⌝ }
 {
     if parts.count < 2 {
@@ -101,5 +101,7 @@ pub(crate) fn prepare(
             object: t as u32,
         };
     }
-    load_all(bytes, parts, arena, table)
+    let m = load_all(bytes, parts, arena, table);
+    scope::seats::put_set(table, parts.count, address);
+    m
 }

@@ -56,7 +56,7 @@ fn ask_set(
     ensures { λ r. ⌜ replied r (now (arena .exit)) ≡ askOf (settingAt address) (inputsIn (now (bytes .entry)) parts) (length (now (arena .entry))) requester (now (name .entry)) ⌝ }
 {
     let count = parts.count;
-    let mut table = [0u64; 1024];
+    let mut table = [0u64; 1026];
     let m = crate::prepare::prepare(bytes, parts, arena, address, &mut table);
     if let Met::Refused { number, object } = m {
         return refuse(number, object, arena);
@@ -65,7 +65,7 @@ fn ask_set(
         return refuse(13, 0, arena);
     }
     let gnu = words::hash::gnu_hash(name);
-    let s = scope::scope::resolve(arena, &table, count, address, requester, name, gnu);
+    let s = scope::scope::resolve(arena, &table, requester, name, gnu);
     reply_of(s)
 }
 

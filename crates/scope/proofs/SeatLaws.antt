@@ -6,8 +6,8 @@ use mathlib.Core.Logic.{_⊎_, inl, inr}
 use mathlib.Core.List.{List, [], _∷_, _++_}
 use native.Mathlib.Omega.{arith}
 use native.Mathlib.Nat.{mod-eq-of-lt}
-use lib.ListN.{length, take, drop, getD, List·getD-append}
-use lib.Seq.{paste, length-paste-head, getD-append-add, getD-take, getD-drop, length-take-le}
+use lib.ListN.{length, take, drop, getD, set, length-set, List·getD-append}
+use lib.Seq.{paste, length-paste-head, getD-append-add, getD-take, getD-drop, length-take-le, getD-set-same, getD-set-other}
 use lib.Dec.{leb}
 use lib.Pow.{pow-lt}
 use borrow.Author.Tests.{eq-eqb, ne-eqb, le-leb, lt-leb}
@@ -16,7 +16,7 @@ use Rattle.object.proofs.Ranges.{split}
 use Rattle.object.specs.declared.hash_tables.HashTable.{HashTable}
 use Rattle.object.specs.declared.hash_tables.HashTable.the-variants.{Without, SysV, Gnu}
 use Rattle.scope.specs.declared.seats.Seat.{Seat}
-use Rattle.scope.specs.Steps.Seats.{hashWords, hashOf, narrow, nth, logFrom, logOf, untested, testable, filterWords, filterOf, filterAt, seatWords, seatAt, FilteredAt, Filtered, spliced, withSeat}
+use Rattle.scope.specs.Steps.Seats.{hashWords, hashOf, narrow, nth, logFrom, logOf, untested, testable, filterWords, filterOf, filterAt, seatWords, seatAt, countIn, addressIn, FilteredAt, FilteredBelow, Filtered, spliced, withSeat}
 
 module _ (d : List ℕ) (at : ℕ) (s : List ℕ) (n : ℕ) (hd : at + n ≤ length d) (hs : n ≤ length s) where
   -- an element that was pasted
@@ -185,7 +185,7 @@ module _ (t : List ℕ) (k : ℕ) (s : Seat) where
       go (inr h) = ap (λ (x : List ℕ). seatAt x i) (with-room h) ∙ splice-other t k s h i ne
 
   -- the words of the filters, those of object `k` among them
-  pub put-filtered : narrow (s .view .table) → 16 * k + 16 ≤ length t → Filtered t k → Filtered (withSeat t k s) (k + 1)
+  pub put-filtered : narrow (s .view .table) → 16 * k + 16 ≤ length t → FilteredBelow t k → FilteredBelow (withSeat t k s) (k + 1)
   put-filtered f h before = rw (with-room h) (λ i l. go i l (split i k))
     where
       go : (i : ℕ) → i < k + 1 → (i < k) ⊎ (k ≤ i) → FilteredAt (spliced t (16 * k) (seatWords s)) i
@@ -199,5 +199,65 @@ module _ (t : List ℕ) (k : ℕ) (s : Seat) where
       {x : List ℕ} → narrow (s .view .table) → x ≡ withSeat t k s
       → (x ≡ withSeat t k s)
       × ((16 * k + 16 ≤ length t → seatAt x k ≡ s)
-      × (((j : ℕ) → (j ≡ k → ⊥) → seatAt x j ≡ seatAt t j) × (16 * k + 16 ≤ length t → Filtered t k → Filtered x (k + 1))))
+      × (((j : ℕ) → (j ≡ k → ⊥) → seatAt x j ≡ seatAt t j) × (16 * k + 16 ≤ length t → FilteredBelow t k → FilteredBelow x (k + 1))))
   put-all {x} f e = rw e (refl, (put-get f, (put-other, put-filtered f)))
+
+-- ---- a table with a count and an address put
+
+module _ (t : List ℕ) (count address : ℕ) (long : 1026 ≤ length t) where
+  abbrev with-set : List ℕ
+  with-set = set (set t 1024 count) 1025 address
+
+  -- a word of an object
+  row-word : (i : ℕ) → i < 1024 → getD with-set i 0 ≡ getD t i 0
+  row-word i l =
+      getD-set-other (set t 1024 count) 1025 i address 0 (λ e. omega arith) ∙ getD-set-other t 1024 i count 0 (λ e. omega arith)
+
+  count-put : countIn with-set ≡ count
+  count-put = getD-set-other (set t 1024 count) 1025 1024 address 0 (λ e. omega arith) ∙ getD-set-same t 1024 count 0 (omega arith)
+
+  address-put : addressIn with-set ≡ address
+  address-put =
+      let n : length (set t 1024 count) ≡ length t = simp length-set in
+      getD-set-same (set t 1024 count) 1025 address 0 (omega arith)
+
+  seat-kept : (k : ℕ) → k < 64 → seatAt with-set k ≡ seatAt t k
+  unfolding seatAt
+  seat-kept k l =
+      rw (
+        row-word (16 * k + 0) (omega arith),
+        row-word (16 * k + 1) (omega arith),
+        row-word (16 * k + 2) (omega arith),
+        row-word (16 * k + 3) (omega arith),
+        row-word (16 * k + 4) (omega arith),
+        row-word (16 * k + 5) (omega arith),
+        row-word (16 * k + 6) (omega arith),
+        row-word (16 * k + 7) (omega arith),
+        row-word (16 * k + 8) (omega arith),
+        row-word (16 * k + 9) (omega arith),
+      )
+
+  filter-kept : (k : ℕ) → k < 64 → FilteredAt t k → FilteredAt with-set k
+  filter-kept k l before =
+      rw (
+        seat-kept k l,
+        row-word (16 * k + 10) (omega arith),
+        row-word (16 * k + 11) (omega arith),
+        row-word (16 * k + 12) (omega arith),
+      )
+      before
+
+  set-filtered : count ≤ 64 → FilteredBelow t count → Filtered with-set
+  set-filtered few before =
+      record {
+        long = simp length-set long;
+        few = omega (arith, count-put);
+        rows = λ k l. filter-kept k (omega (arith, count-put)) (before k (omega (arith, count-put)));
+      }
+
+  -- what `put_set` promises
+  pub set-all :
+      {x : List ℕ} → count ≤ 64 → x ≡ with-set
+      → ((countIn x ≡ count) × (addressIn x ≡ address))
+      × (((k : ℕ) → k < 64 → seatAt x k ≡ seatAt t k) × (FilteredBelow t count → Filtered x))
+  set-all {x} few e = rw e ((count-put, address-put), (seat-kept, set-filtered few))

@@ -5,7 +5,7 @@ ghost use Prim.Native.Nat.{ℕ, _+_, _-_, _*_, _/_, _%_, _^_, _≤_, _<_};
 ghost use lib.ListN.{length};
 ghost use Rattle.words.specs.Words.{sum64};
 ghost use Rattle.words.specs.Hash.{elfHash};
-ghost use Rattle.scope.specs.Steps.Seats.{wordAt, seatAt, seatsFrom, FilteredAt, Filtered};
+ghost use Rattle.scope.specs.Steps.Seats.{wordAt, seatAt, seatsFrom, countIn, addressIn, FilteredAt, Filtered};
 ghost use Rattle.scope.specs.Steps.ScopeCode.{answerAt, Lacks, seatAnswer, ownAnswer, scanSeats, resolveSeats, resolveCopySeats};
 use crate::seats::Seat;
 use object::hash_tables::Answer;
@@ -76,18 +76,16 @@ fn rules_out(arena: &[u8], last: u64, table: &[u64], k: usize, gnu: u32) -> bool
     true
 }
 
-// An object from `start` on, or `count`: the bloom filter of each one before it rules out every name with this GNU hash.
-fn candidate(arena: &[u8], table: &[u64], start: usize, count: usize, gnu: u32) -> usize
-    requires { ⌜ Filtered (now table) count ⌝ }
+// An object from `start` on, or one past the last: the bloom filter of each one before it rules out every name with this GNU hash.
+fn candidate(arena: &[u8], table: &[u64], start: usize, gnu: u32) -> usize
+    requires { ⌜ Filtered (now table) ⌝ }
     ensures { λ r. ⌜ (start ≤ r) × ((k : ℕ) → start ≤ k → k < r → Lacks (now (arena .entry)) (seatAt (now (table .entry)) k) gnu) ⌝ }
 {
     if arena.len() < 8 {
         return start;
     }
-    if table.len() / 16 < count {
-        return start;
-    }
     let last = (arena.len() - 8) as u64;
+    let count = crate::seats::count_in(table);
     let mut k = start;
     while k < count {
         if !rules_out(arena, last, table, k, gnu) {
@@ -98,38 +96,31 @@ fn candidate(arena: &[u8], table: &[u64], start: usize, count: usize, gnu: u32) 
     k
 }
 
-// Whether object `k` of `count` has no name with this GNU hash, as its bloom filter says; an object that is none of them is not looked at.
-fn ruled_out(arena: &[u8], table: &[u64], count: usize, k: usize, gnu: u32) -> bool
-    requires { ⌜ Filtered (now table) count ⌝ }
+// Whether object `k` has no name with this GNU hash, as its bloom filter says; an object that is not of the set is not looked at.
+fn ruled_out(arena: &[u8], table: &[u64], k: usize, gnu: u32) -> bool
+    requires { ⌜ Filtered (now table) ⌝ }
     ensures { λ r. ⌜ (r ≡ true → Lacks (now (arena .entry)) (seatAt (now (table .entry)) k) gnu) ⌝ }
 {
-    if count <= k {
+    if crate::seats::count_in(table) <= k {
         return false;
     }
-    if candidate(arena, table, k, k + 1, gnu) == k {
+    if arena.len() < 8 {
         return false;
     }
-    true
+    rules_out(arena, (arena.len() - 8) as u64, table, k, gnu)
 }
 
 // The answer of object `k`.
-fn seat_answer(
-    arena: &[u8],
-    table: &[u64],
-    k: usize,
-    address: u64,
-    name: &[u8],
-    gnu: u32,
-    elf: u32,
-) -> Scoped
-    ensures { λ r. ⌜ r ≡ seatAnswer address (now (arena .entry)) k (seatAt (now (table .entry)) k) (now (name .entry)) gnu elf ⌝ }
+fn seat_answer(arena: &[u8], table: &[u64], k: usize, name: &[u8], gnu: u32, elf: u32) -> Scoped
+    requires { ⌜ Filtered (now table) ⌝ }
+    ensures { λ r. ⌜ r ≡ seatAnswer (addressIn (now (table .entry))) (now (arena .entry)) k (seatAt (now (table .entry)) k) (now (name .entry)) gnu elf ⌝ }
 {
     let s = crate::seats::seat_at(table, k);
     let a = answer_at(arena, s, name, gnu, elf);
     let Answer::Present(d) = a else {
         return Scoped::Absent;
     };
-    let base = words::bytes::sum_u64(address, s.offset as u64);
+    let base = words::bytes::sum_u64(crate::seats::address_in(table), s.offset as u64);
     Scoped::Found {
         object: k,
         definition: d,
@@ -138,20 +129,11 @@ fn seat_answer(
 }
 
 // The answer of object `k`, if its definition is protected.
-fn own_answer(
-    arena: &[u8],
-    table: &[u64],
-    count: usize,
-    k: usize,
-    address: u64,
-    name: &[u8],
-    gnu: u32,
-    elf: u32,
-) -> Scoped
-    requires { ⌜ Filtered (now table) count ⌝ }
-    ensures { λ r. ⌜ r ≡ ownAnswer address (now (arena .entry)) k (seatAt (now (table .entry)) k) (now (name .entry)) gnu elf ⌝ }
+fn own_answer(arena: &[u8], table: &[u64], k: usize, name: &[u8], gnu: u32, elf: u32) -> Scoped
+    requires { ⌜ Filtered (now table) ⌝ }
+    ensures { λ r. ⌜ r ≡ ownAnswer (addressIn (now (table .entry))) (now (arena .entry)) k (seatAt (now (table .entry)) k) (now (name .entry)) gnu elf ⌝ }
 {
-    if ruled_out(arena, table, count, k, gnu) {
+    if ruled_out(arena, table, k, gnu) {
         return Scoped::Absent;
     }
     let s = crate::seats::seat_at(table, k);
@@ -160,7 +142,7 @@ fn own_answer(
         return Scoped::Absent;
     };
     if d.guarded {
-        let base = words::bytes::sum_u64(address, s.offset as u64);
+        let base = words::bytes::sum_u64(crate::seats::address_in(table), s.offset as u64);
         return Scoped::Found {
             object: k,
             definition: d,
@@ -170,101 +152,71 @@ fn own_answer(
     Scoped::Absent
 }
 
-// The first answer of the objects from `start` on, below `count`, for a name whose hashes are given.
-fn scan_hashed(
-    arena: &[u8],
-    table: &[u64],
-    start: usize,
-    count: usize,
-    address: u64,
-    name: &[u8],
-    gnu: u32,
-    elf: u32,
-) -> Scoped
-    requires { ⌜ Filtered (now table) count ⌝ }
-    ensures { λ r. ⌜ r ≡ scanSeats address (now (arena .entry)) start (seatsFrom (now (table .entry)) start (count - start)) (now (name .entry)) gnu elf ⌝ }
+// The first answer of the objects from `start` on for a name whose hashes are given.
+fn scan_hashed(arena: &[u8], table: &[u64], start: usize, name: &[u8], gnu: u32, elf: u32) -> Scoped
+    requires { ⌜ Filtered (now table) ⌝ }
+    ensures { λ r. ⌜ r ≡ scanSeats (addressIn (now (table .entry))) (now (arena .entry)) start (seatsFrom (now (table .entry)) start (countIn (now (table .entry)) - start)) (now (name .entry)) gnu elf ⌝ }
 {
+    let count = crate::seats::count_in(table);
     let mut k = start;
     while k < count {
-        let a = seat_answer(arena, table, k, address, name, gnu, elf);
+        let a = seat_answer(arena, table, k, name, gnu, elf);
         let Scoped::Absent = a else {
             return a;
         };
-        k = candidate(arena, table, k + 1, count, gnu);
+        k = candidate(arena, table, k + 1, gnu);
     }
     Scoped::Absent
 }
 
 // The same for a name whose GNU hash is given: its System V hash is made at the first object that has a System V table.
-fn scan(
-    arena: &[u8],
-    table: &[u64],
-    start: usize,
-    count: usize,
-    address: u64,
-    name: &[u8],
-    gnu: u32,
-) -> Scoped
-    requires { ⌜ Filtered (now table) count ⌝ }
-    ensures { λ r. ⌜ r ≡ scanSeats address (now (arena .entry)) start (seatsFrom (now (table .entry)) start (count - start)) (now (name .entry)) gnu (elfHash (now (name .entry))) ⌝ }
+fn scan(arena: &[u8], table: &[u64], start: usize, name: &[u8], gnu: u32) -> Scoped
+    requires { ⌜ Filtered (now table) ⌝ }
+    ensures { λ r. ⌜ r ≡ scanSeats (addressIn (now (table .entry))) (now (arena .entry)) start (seatsFrom (now (table .entry)) start (countIn (now (table .entry)) - start)) (now (name .entry)) gnu (elfHash (now (name .entry))) ⌝ }
 {
-    let mut k = candidate(arena, table, start, count, gnu);
+    let count = crate::seats::count_in(table);
+    let mut k = candidate(arena, table, start, gnu);
     while k < count {
         if crate::seats::word(table, k, 4) == 1 {
             let elf = words::hash::elf_hash(name);
-            return scan_hashed(arena, table, k, count, address, name, gnu, elf);
+            return scan_hashed(arena, table, k, name, gnu, elf);
         }
-        let a = seat_answer(arena, table, k, address, name, gnu, 0);
+        let a = seat_answer(arena, table, k, name, gnu, 0);
         let Scoped::Absent = a else {
             return a;
         };
-        k = candidate(arena, table, k + 1, count, gnu);
+        k = candidate(arena, table, k + 1, gnu);
     }
     Scoped::Absent
 }
 
 // The answer for a name, whose GNU hash is given: a protected definition of the requester, else program, libraries in list order, host.
-pub fn resolve(
-    arena: &[u8],
-    table: &[u64],
-    count: usize,
-    address: u64,
-    requester: usize,
-    name: &[u8],
-    gnu: u32,
-) -> Scoped
-    requires { ⌜ Filtered (now table) count ⌝ }
-    ensures { λ r. ⌜ r ≡ resolveSeats address (now (arena .entry)) (now (table .entry)) count requester (now (name .entry)) gnu (elfHash (now (name .entry))) ⌝ }
+pub fn resolve(arena: &[u8], table: &[u64], requester: usize, name: &[u8], gnu: u32) -> Scoped
+    requires { ⌜ Filtered (now table) ⌝ }
+    ensures { λ r. ⌜ r ≡ resolveSeats (now (arena .entry)) (now (table .entry)) requester (now (name .entry)) gnu (elfHash (now (name .entry))) ⌝ }
 {
     let elf = elf_for(table, requester, name);
-    let own = own_answer(arena, table, count, requester, address, name, gnu, elf);
+    let own = own_answer(arena, table, requester, name, gnu, elf);
     let Scoped::Absent = own else {
         return own;
     };
-    let a = scan(arena, table, 1, count, address, name, gnu);
+    let a = scan(arena, table, 1, name, gnu);
     let Scoped::Absent = a else {
         return a;
     };
     let elf0 = elf_for(table, 0, name);
-    seat_answer(arena, table, 0, address, name, gnu, elf0)
+    seat_answer(arena, table, 0, name, gnu, elf0)
 }
 
 // COPY's answer for a name: libraries in list order, then host.
-pub fn resolve_copy(
-    arena: &[u8],
-    table: &[u64],
-    count: usize,
-    address: u64,
-    name: &[u8],
-    gnu: u32,
-) -> Scoped
-    requires { ⌜ Filtered (now table) count ⌝ }
-    ensures { λ r. ⌜ r ≡ resolveCopySeats address (now (arena .entry)) (now (table .entry)) count (now (name .entry)) gnu (elfHash (now (name .entry))) ⌝ }
+pub fn resolve_copy(arena: &[u8], table: &[u64], name: &[u8], gnu: u32) -> Scoped
+    requires { ⌜ Filtered (now table) ⌝ }
+    ensures { λ r. ⌜ r ≡ resolveCopySeats (now (arena .entry)) (now (table .entry)) (now (name .entry)) gnu (elfHash (now (name .entry))) ⌝ }
 {
-    let a = scan(arena, table, 2, count, address, name, gnu);
+    let a = scan(arena, table, 2, name, gnu);
     let Scoped::Absent = a else {
         return a;
     };
     let elf0 = elf_for(table, 0, name);
-    seat_answer(arena, table, 0, address, name, gnu, elf0)
+    seat_answer(arena, table, 0, name, gnu, elf0)
 }

@@ -1,8 +1,9 @@
-// A flat table of what lookups need of each object: 16 words an object, by its number. Words past the table's end read as 0.
+// A flat table of what lookups need of a set: 16 words an object, by its number, for 64 objects; then the set's count and the arena's address.
+// Words past the table's end read as 0.
 ghost use mathlib.Core.Path.{_≡_};
 ghost use Prim.Native.Nat.{ℕ, _+_, _*_, _≤_, _%_, _<_, _^_};
 ghost use lib.ListN.{length, getD};
-ghost use Rattle.scope.specs.Steps.Seats.{hashWords, hashOf, narrow, logOf, filterWords, filterOf, seatWords, seatAt, Filtered, spliced, withSeat};
+ghost use Rattle.scope.specs.Steps.Seats.{hashWords, hashOf, narrow, logOf, filterWords, filterOf, seatWords, seatAt, countIn, addressIn, FilteredBelow, Filtered, spliced, withSeat};
 use object::hash_tables::HashTable;
 use object::hash_tables::View;
 
@@ -244,10 +245,39 @@ pub fn put_seat(table: &mut [u64], k: usize, s: Seat)
     ensures same { λ _. ⌜ now (table .exit) ≡ withSeat (now (table .entry)) k s ⌝ }
     ensures back { λ _. ⌜ (16 * k + 16 ≤ length (now (table .entry)) → seatAt (now (table .exit)) k ≡ s) ⌝ }
     ensures others { λ _. ⌜ ((j : ℕ) → (j ≡ k → ⊥) → seatAt (now (table .exit)) j ≡ seatAt (now (table .entry)) j) ⌝ }
-    ensures filtered { λ _. ⌜ (16 * k + 16 ≤ length (now (table .entry)) → Filtered (now (table .entry)) k → Filtered (now (table .exit)) (k + 1)) ⌝ }
+    ensures filtered { λ _. ⌜ (16 * k + 16 ≤ length (now (table .entry)) → FilteredBelow (now (table .entry)) k → FilteredBelow (now (table .exit)) (k + 1)) ⌝ }
 {
     let w = words_of(s);
     if k < table.len() / 16 {
         put_words(table, 16 * k, w);
     }
+}
+
+// ---- the set
+
+// How many objects the set has.
+pub fn count_in(table: &[u64]) -> usize
+    requires { ⌜ 1026 ≤ length (now table) ⌝ }
+    ensures { λ r. ⌜ r ≡ countIn (now (table .entry)) ⌝ }
+{
+    table[1024] as usize
+}
+
+// The arena's address.
+pub fn address_in(table: &[u64]) -> u64
+    requires { ⌜ 1026 ≤ length (now table) ⌝ }
+    ensures { λ r. ⌜ r ≡ addressIn (now (table .entry)) ⌝ }
+{
+    table[1025]
+}
+
+// The set's count and the arena's address; every seat stays as it is.
+pub fn put_set(table: &mut [u64], count: usize, address: u64)
+    requires { ⌜ (1026 ≤ length (now table)) × (count ≤ 64) ⌝ }
+    ensures said { λ _. ⌜ (countIn (now (table .exit)) ≡ count) × (addressIn (now (table .exit)) ≡ address) ⌝ }
+    ensures seats { λ _. ⌜ ((k : ℕ) → k < 64 → seatAt (now (table .exit)) k ≡ seatAt (now (table .entry)) k) ⌝ }
+    ensures filtered { λ _. ⌜ (FilteredBelow (now (table .entry)) count → Filtered (now (table .exit))) ⌝ }
+{
+    table[1024] = count as u64;
+    table[1025] = address;
 }

@@ -15,7 +15,7 @@ use Rattle.binder.specs.Setting.{Setting}
 use Rattle.binder.specs.Instance.{File, fileRecord}
 use Rattle.binder.specs.Verdict.{Verdict, passed, refused, first, verdict}
 use Rattle.binder.specs.Bind.{filesOf, unless}
-use Rattle.scope.specs.Steps.Seats.{seatAt, Filtered}
+use Rattle.scope.specs.Steps.Seats.{seatAt, countIn, addressIn, FilteredBelow, Filtered}
 use Rattle.scope.specs.declared.seats.Seat.{Seat}
 use Rattle.binder.specs.declared.prepare.Met.{Met}
 use Rattle.binder.specs.declared.prepare.Met.the-variants.{Passed, Refused}
@@ -65,7 +65,7 @@ pub record LoadedFiles (files : List File) (before after seats : List ℕ) (r : 
   pub met : metBy r ≡ loadFrom (length before) 0 0 files
   pub arena : r ≡ Passed → mem after ≡ placeFiles files 0 (λ _. 0)
   pub table : r ≡ Passed → Seated seats 0 0 files
-  pub filtered : r ≡ Passed → Filtered seats (length files)
+  pub filtered : r ≡ Passed → FilteredBelow seats (length files)
 
 -- 1 to 12 of the objects that a table of parts names. A sheet that is not refused has two at least; a refused one is handed on as none.
 unfoldable pub setVerdict : Setting → List Input → ℕ → Verdict
@@ -80,4 +80,6 @@ pub record Prepared (setting : Setting) (os : List Input) (before after seats : 
   pub met : metBy r ≡ setVerdict setting os (length before)
   pub arena : r ≡ Passed → mem after ≡ placeFiles (filesOf os) 0 (λ _. 0)
   pub table : r ≡ Passed → Seated seats 0 0 (filesOf os)
-  pub filtered : r ≡ Passed → Filtered seats (length os)
+  pub filtered : r ≡ Passed → Filtered seats
+  pub counted : r ≡ Passed → countIn seats ≡ length os
+  pub addressed : r ≡ Passed → addressIn seats ≡ address

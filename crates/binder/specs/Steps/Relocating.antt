@@ -26,7 +26,7 @@ use Rattle.object.specs.declared.relocate.Relr.the-variants.{Address, Bitmap}
 use Rattle.object.specs.declared.entry_symbol.CheckedSymbol.{CheckedSymbol}
 use Rattle.object.specs.declared.entry_symbol.CheckedSymbol.the-variants.{Refused, Checked}
 use Rattle.sheet.specs.Sheet.{Input, noInput}
-use Rattle.scope.specs.Steps.Seats.{seatAt}
+use Rattle.scope.specs.Steps.Seats.{seatAt, addressIn}
 use Rattle.scope.specs.Steps.ScopeCode.{resolveSeats, resolveCopySeats}
 use Rattle.scope.specs.declared.seats.Seat.{Seat}
 use Rattle.scope.specs.declared.scope.Scoped.{Scoped}
@@ -265,13 +265,13 @@ copyOf table t segments e i y (Found k d x) p a report =
 
 -- ---- an object's turn
 
-abbrev pub turnOf : ℕ → List ℕ → ℕ → Turn
-turnOf address table k =
+abbrev pub turnOf : List ℕ → ℕ → Turn
+turnOf table k =
     record {
       number = k;
       offset = seatAt table k .offset;
       span = seatAt table k .span;
-      base = sum64 address (seatAt table k .offset);
+      base = sum64 (addressIn table) (seatAt table k .offset);
     }
 
 -- the record is read again, at the object's turn; what was loaded is not refused then
@@ -281,13 +281,13 @@ againRefusal image file = pick (leb (length (loadsOf file)) 16) (readRefusal fal
 abbrev pub againRecord : List ℕ → List ℕ → Record
 againRecord image file = recordAt image (loadsOf file) (dynamicOf file)
 
-module _ (address : ℕ) (table : List ℕ) (count : ℕ) where
+module _ (table : List ℕ) where
   -- the search for a symbol's name, and COPY's
   abbrev pub soughtFor : Turn → List ℕ → List ℕ → Scoped
-  soughtFor t a name = resolveSeats address a table count (t .number) name (gnuHash name) (elfHash name)
+  soughtFor t a name = resolveSeats a table (t .number) name (gnuHash name) (elfHash name)
 
   abbrev pub soughtForCopy : List ℕ → List ℕ → Scoped
-  soughtForCopy a name = resolveCopySeats address a table count name (gnuHash name) (elfHash name)
+  soughtForCopy a name = resolveCopySeats a table name (gnuHash name) (elfHash name)
 
   -- the kept answer, where it is the symbol's, or a search
   unfoldable pub answeredOf : Turn → Record → Rela → Calculation → ℕ → Symbol → Progress → List ℕ → List ℕ → Left
@@ -341,9 +341,9 @@ module _ (address : ℕ) (table : List ℕ) (count : ℕ) where
   -- object `k`, of that file
   unfoldable pub runAt : ℕ → List ℕ → Progress → List ℕ → List ℕ → Left
   runAt k file p a report =
-      pick (eqb (againRefusal (imageIn a (turnOf address table k)) file) 0)
-      (runObject (turnOf address table k) (againRecord (imageIn a (turnOf address table k)) file) p a report)
-      (left (refusedBy (turnOf address table k) (againRefusal (imageIn a (turnOf address table k)) file) p) a report)
+      pick (eqb (againRefusal (imageIn a (turnOf table k)) file) 0)
+      (runObject (turnOf table k) (againRecord (imageIn a (turnOf table k)) file) p a report)
+      (left (refusedBy (turnOf table k) (againRefusal (imageIn a (turnOf table k)) file) p) a report)
 
   -- the objects of an order, of the set `os`
   unfoldable pub runOrder : List Input → List ℕ → Left → Left

@@ -56,10 +56,10 @@ RelativesWritten base at low high i (suc m) x y =
 -- object in which low .. high is writable, and where no refusal was met
 abbrev pub EntriesPassed : Turn → ℕ → ℕ → ℕ → ℕ → ℕ → List ℕ → ℕ → List ℕ → Type 0
 EntriesPassed t at n low high i a j b =
-    (address : ℕ) (table : List ℕ) (count : ℕ) (r : Record) (first : ℕ) (p : Progress) (report : List ℕ)
+    (table : List ℕ) (r : Record) (first : ℕ) (p : Progress) (report : List ℕ)
     → WritableRange (r .segments) low high
     → (0 < high → p .refusal ≡ 0)
-    → (runTable address table count t r at first (n - j) j (left p b report) ≡ runTable address table count t r at first (n - i) i (left p a report))
+    → (runTable table t r at first (n - j) j (left p b report) ≡ runTable table t r at first (n - i) i (left p a report))
     × TablesKept t r a b
 
 -- the object's symbols
@@ -84,19 +84,19 @@ EntryRead a t y k low high Other = Unit {0}
 EntryRead a t y k low high (Here place index name) = EntryHere a t y k low high place index name
 
 -- what a search found
-abbrev pub addressIn : Scoped → Address
-addressIn Absent = Nowhere
-addressIn (Found k d x) = At x
+abbrev pub addressFound : Scoped → Address
+addressFound Absent = Nowhere
+addressFound (Found k d x) = At x
 
 -- as EntriesPassed, with the answers that are kept: `s` before, `s′` after
-abbrev pub SymbolsPassed : ℕ → List ℕ → ℕ → Turn → Symbols → ℕ → ℕ → ℕ → ℕ → Run → List ℕ → Run → List ℕ → Type 0
-SymbolsPassed address table count t y at n low high s a s′ b =
+abbrev pub SymbolsPassed : List ℕ → Turn → Symbols → ℕ → ℕ → ℕ → ℕ → Run → List ℕ → Run → List ℕ → Type 0
+SymbolsPassed table t y at n low high s a s′ b =
     (r : Record) (first : ℕ) (p : Progress) (report : List ℕ)
     → WritableRange (r .segments) low high
     → SymbolsOf t r y a
     → (0 < high → p .refusal ≡ 0)
-    → (runTable address table count t r at first (n - s′ .next) (s′ .next) (left (keeps (s′ .last) (s′ .address) p) b report)
-    ≡ runTable address table count t r at first (n - s .next) (s .next) (left (keeps (s .last) (s .address) p) a report))
+    → (runTable table t r at first (n - s′ .next) (s′ .next) (left (keeps (s′ .last) (s′ .address) p) b report)
+    ≡ runTable table t r at first (n - s .next) (s .next) (left (keeps (s .last) (s .address) p) a report))
     × TablesKept t r a b
 
 -- the words of a bitmap are added: the part `x` becomes `y`, where the 63 words from `location` on are writable

@@ -32,10 +32,10 @@ settledOf (Refused n k) arena report =
 
 -- 14 to 20 of loaded objects, relocated in an order: how far it came, what it leaves, and the refusal
 pub record Relocated
-    (os : List Input) (count : ℕ) (table order arena : List ℕ) (address : ℕ) (policy : Policy) (report arena′ report′ : List ℕ) (m : Met)
+    (os : List Input) (table order arena : List ℕ) (policy : Policy) (report arena′ report′ : List ℕ) (m : Met)
     : Type 0 where
   pub progress : Progress
-  pub leaves : left progress arena′ report′ ≡ runOrder address table count os order (left started arena report)
+  pub leaves : left progress arena′ report′ ≡ runOrder table os order (left started arena report)
   pub met : metBy m ≡ endsBy policy progress
 
 -- the objects that a table of parts names, bound in the order of the set

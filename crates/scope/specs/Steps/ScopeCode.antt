@@ -15,7 +15,7 @@ use Rattle.object.specs.HashTable.{answerBy, addressOf}
 use Rattle.scope.specs.declared.seats.Seat.{Seat}
 use Rattle.scope.specs.declared.scope.Scoped.{Scoped}
 use Rattle.scope.specs.declared.scope.Scoped.the-variants.{Absent, Found}
-use Rattle.scope.specs.Steps.Seats.{seatAt, seatsFrom}
+use Rattle.scope.specs.Steps.Seats.{seatAt, seatsFrom, countIn, addressIn}
 
 -- ---- one object
 
@@ -62,13 +62,16 @@ module _ (address : ℕ) (arena : List ℕ) where
   scanSeats k [] name g e = Absent
   scanSeats k (s ∷ l) name g e = orElse (seatAnswer k s name g e) (scanSeats (suc k) l name g e)
 
-  -- of `n` objects: a protected definition of the requester `r`, else program, libraries in list order, host
-  unfoldable pub resolveSeats : List ℕ → ℕ → ℕ → List ℕ → ℕ → ℕ → Scoped
-  resolveSeats table n r name g e =
-      orElse (ownAnswer r (seatAt table r) name g e)
-      (orElse (scanSeats 1 (seatsFrom table 1 (n - 1)) name g e) (seatAnswer 0 (seatAt table 0) name g e))
+module _ (arena table : List ℕ) where
+  -- of the set's objects: a protected definition of the requester `r`, else program, libraries in list order, host
+  unfoldable pub resolveSeats : ℕ → List ℕ → ℕ → ℕ → Scoped
+  resolveSeats r name g e =
+      orElse (ownAnswer (addressIn table) arena r (seatAt table r) name g e)
+      (orElse (scanSeats (addressIn table) arena 1 (seatsFrom table 1 (countIn table - 1)) name g e)
+      (seatAnswer (addressIn table) arena 0 (seatAt table 0) name g e))
 
   -- COPY's: libraries in list order, then host
-  unfoldable pub resolveCopySeats : List ℕ → ℕ → List ℕ → ℕ → ℕ → Scoped
-  resolveCopySeats table n name g e =
-      orElse (scanSeats 2 (seatsFrom table 2 (n - 2)) name g e) (seatAnswer 0 (seatAt table 0) name g e)
+  unfoldable pub resolveCopySeats : List ℕ → ℕ → ℕ → Scoped
+  resolveCopySeats name g e =
+      orElse (scanSeats (addressIn table) arena 2 (seatsFrom table 2 (countIn table - 2)) name g e)
+      (seatAnswer (addressIn table) arena 0 (seatAt table 0) name g e)

@@ -2,8 +2,9 @@
 -- offsets. `IndexMap` and `Vec` become fixed arrays of records"; "The object record": "The record holds which hash table was chosen, SysV or
 -- GNU, with its numbers". Object k has the 16 words from 16 * k on: offset, span, symbols, strings, kind of hash table (1 SysV, 2 GNU, else
 -- none), at, buckets, chains or first, blooms, shift; three words that only repeat what a search tests of a bloom filter (where its words stand
--- in the arena, the logarithm of their number, the shift); and three zeros. Assumes nothing.
-use Prim.Native.Nat.{ℕ, zero, suc, _+_, _*_, _%_, _^_, _<_}
+-- in the arena, the logarithm of their number, the shift); and three zeros. Behind the words of 64 objects stand the set's count and the arena's
+-- address. Assumes nothing.
+use Prim.Native.Nat.{ℕ, zero, suc, _+_, _*_, _%_, _^_, _≤_, _<_}
 use mathlib.Core.List.{List, [], _∷_}
 use mathlib.Core.Bool.{Bool}
 use mathlib.Core.Path.{_≡_}
@@ -46,6 +47,13 @@ seatAt table k =
 unfoldable pub seatsFrom : List ℕ → ℕ → ℕ → List Seat
 seatsFrom table k zero = []
 seatsFrom table k (suc n) = seatAt table k ∷ seatsFrom table (suc k) n
+
+-- how many objects the set has, and the arena's address
+abbrev pub countIn : List ℕ → ℕ
+countIn table = getD table 1024 0
+
+abbrev pub addressIn : List ℕ → ℕ
+addressIn table = getD table 1025 0
 
 -- ---- the words of a seat
 
@@ -105,8 +113,14 @@ abbrev pub FilteredAt : List ℕ → ℕ → Type 0
 FilteredAt table k = wordAt table k 10 ∷ wordAt table k 11 ∷ wordAt table k 12 ∷ [] ≡ filterAt (seatAt table k)
 
 -- the same of each object below `count`
-abbrev pub Filtered : List ℕ → ℕ → Type 0
-Filtered table count = (k : ℕ) → k < count → FilteredAt table k
+abbrev pub FilteredBelow : List ℕ → ℕ → Type 0
+FilteredBelow table count = (k : ℕ) → k < count → FilteredAt table k
+
+-- the table of a set: it has all words, at most 64 objects, and the words 10 to 12 of each are those of its seat
+pub record Filtered (table : List ℕ) : Type 0 where
+  pub long : 1026 ≤ length table
+  pub few : countIn table ≤ 64
+  pub rows : FilteredBelow table (countIn table)
 
 -- the table with 16 words from `p` on
 unfoldable pub spliced : List ℕ → ℕ → List ℕ → List ℕ

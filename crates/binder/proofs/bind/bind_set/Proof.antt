@@ -4,7 +4,7 @@ use native.Mathlib.Omega.{arith}
 use denote.Ref.{now}
 use lib.ListN.{length}
 use Rattle.sheet.specs.Steps.Parts.{inputsIn}
-use Rattle.binder.proofs.PrepareLaws.{passes, all-filtered}
+use Rattle.binder.proofs.PrepareLaws.{passes}
 use Rattle.binder.proofs.BindIs.{prepare-refused, bind-is}
 use Rattle.binder.specs.Setting.{settingAt}
 use borrow.Author.Needs.{needs}
@@ -29,7 +29,7 @@ order-of-requires c κs =
 bind-in-requires : tie.Need-bind-in-requires
 bind-in-requires c κs =
     let a = c .before .before .before .before .before .before .before .before .before .before .before .before .before .before .before .before .before .args in
-    (search needs, all-filtered _ (inputsIn (now (a .bytes)) (a .parts)) _ _ _ _ (c .before .before .before .before .before .before .before .before .before .before .before .prepare .result) (c .before .before .before .before .before .before .before .before .before .before .before .prepare .ensures) (c .before .before .before .before .before .before .enum-told .given .1) (c .before .before .before .before .before .before .before .before .before .before .before .before .before .before .before .before .before .pre .1))
+    (search needs, c .before .before .before .before .before .before .before .before .before .before .before .prepare .ensures .filtered (c .before .before .before .before .before .before .enum-told .given .1))
 
 same-length-2 : tie.Need-same-length-2
 same-length-2 c =
@@ -37,7 +37,7 @@ same-length-2 c =
 
 same-length-3 : tie.Need-same-length-3
 same-length-3 c =
-    c .before .before .before .before .bind-in .kept .1 .1 .1 .1 .1 .0
+    c .before .before .before .before .bind-in .kept .1 .1 .1 .1 .0
 
 returns-2 : tie.Need-returns-2
 returns-2 c =

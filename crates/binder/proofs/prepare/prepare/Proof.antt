@@ -29,9 +29,10 @@ returns-3 c =
 
 returns-4 : tie.Need-returns-4
 returns-4 c =
-    let a = c .before .before .before .before .before .before .before .before .before .before .before .before .before .before .before .before .args in
-    prepare-loads (settingAt (a .address)) (inputsIn (now (a .bytes)) (a .parts)) (now (a .arena)) (omega (arith, c .before .before .before .before .before .before .before .before .before .before .before .before .before .before .before .before .pre .1, c .before .before .before .before .before .before .before .before .before .before .before .if1 .left))
-    (sym (c .before .before .before .before .before .before .before .before .before .before .arena-ok .ensures) ∙ not-false _ (c .before .before .before .before .before .before .before .before .before .if2 .left)) (sym (c .before .before .before .before .before .before .before .before .twin .ensures .0) ∙ c .before .before .before .before .before .before .before .if3 .left) _ _ _ (c .before .before .before .before .load-all .ensures)
+    let a = c .before .before .before .before .before .before .before .before .before .before .before .before .before .before .before .before .before .before .before .before .args in
+    prepare-loads (settingAt (a .address)) (inputsIn (now (a .bytes)) (a .parts)) (now (a .arena)) (omega (arith, c .before .before .before .before .before .before .before .before .before .before .before .before .before .before .before .before .before .before .before .before .pre .1, c .before .before .before .before .before .before .before .before .before .before .before .before .before .before .before .if1 .left))
+    (sym (c .before .before .before .before .before .before .before .before .before .before .before .before .before .before .arena-ok .ensures) ∙ not-false _ (c .before .before .before .before .before .before .before .before .before .before .before .before .before .if2 .left)) (sym (c .before .before .before .before .before .before .before .before .before .before .before .before .twin .ensures .0) ∙ c .before .before .before .before .before .before .before .before .before .before .before .if3 .left) _ _ _ _ (c .before .before .before .before .before .before .before .before .load-all .ensures) (omega (arith, c .before .before .before .before .before .before .before .before .before .before .before .before .before .before .before .before .before .before .before .before .pre .0, c .before .before .before .before .before .before .before .before .before .before .before .before .before .before .before .before .before .before .before .before .pre .1))
+    (c .before .before .put-set .ensures .0 .0 ∙ sym (c .before .before .before .before .before .before .before .before .before .before .before .before .before .before .before .before .before .before .before .before .pre .1)) (c .before .before .put-set .ensures .0 .1) (c .before .before .put-set .ensures .1 .0) (λ before. c .before .before .put-set .ensures .1 .1 (λ k l. before k (omega (arith, c .before .before .before .before .before .before .before .before .before .before .before .before .before .before .before .before .before .before .before .before .pre .1))))
 
 pub prepare-spec : {M : Type 1} → statement M
 prepare-spec =
@@ -43,7 +44,8 @@ prepare-spec =
     (λ c κs. search needs)
     (λ c. search needs)
     returns-3
-    (λ c κs. search needs)
+    (λ c κs. (c .before .before .before .before .before .before .before .before .before .before .before .pre .0, c .before .before .before .before .before .before .before .before .before .before .before .pre .1, omega (arith, c .before .before .before .before .before .before .before .before .before .before .before .pre .2)))
+    (λ c κs. (omega (arith, c .before .before .before .before .before .load-all .kept .1 .1 .1 .0, c .before .before .before .before .before .before .before .before .before .before .before .before .before .before .before .before .before .pre .2), c .before .before .before .before .before .before .before .before .before .before .before .before .before .before .before .before .before .pre .0))
     (λ c. search needs)
-    (λ c. search needs)
+    (λ c. c .before .before .put-set .kept .0 ∙ c .before .before .before .before .before .before .before .before .load-all .kept .1 .1 .1 .0)
     returns-4)

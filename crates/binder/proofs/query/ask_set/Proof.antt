@@ -9,7 +9,6 @@ use Rattle.scope.specs.declared.scope.Scoped.{Scoped}
 use Rattle.binder.specs.Steps.ScopeModel.{scopedOf}
 use Rattle.binder.specs.Bind.{replied, replyOf}
 use Rattle.binder.specs.declared.Reply.the-variants.{Refused}
-use Rattle.binder.proofs.PrepareLaws.{all-filtered}
 use Rattle.binder.proofs.QueryIs.{ask-refused, ask-thirteen, asked}
 use Rattle.binder.specs.Setting.{settingAt}
 use borrow.Author.Needs.{needs}
@@ -41,7 +40,7 @@ returns-2 c =
 resolve-requires : tie.Need-resolve-requires
 resolve-requires c κs =
     let a = c .before .before .before .before .before .before .before .before .before .before .before .before .before .before .before .args in
-    all-filtered _ (inputsIn (now (a .bytes)) (a .parts)) _ _ _ _ (c .before .before .before .before .before .before .before .before .before .prepare .result) (c .before .before .before .before .before .before .before .before .before .prepare .ensures) (c .before .before .before .before .enum-told .given .1) (c .before .before .before .before .before .before .before .before .before .before .before .before .before .before .before .pre .1)
+    c .before .before .before .before .before .before .before .before .before .prepare .ensures .filtered (c .before .before .before .before .enum-told .given .1)
 
 same-length-3 : tie.Need-same-length-3
 same-length-3 c =

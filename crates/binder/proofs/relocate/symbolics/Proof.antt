@@ -22,12 +22,12 @@ use Rattle.binder.proofs.relocate.symbols_in.Reads as symbols-in-reads
 use Rattle.words.proofs.bytes.store_in.Reads as store-in-reads
 
 abbrev Inv-loop : tie.InvT-loop
-Inv-loop arena₀ table count address t y at n low high p₀ k₀ arena p k =
-    (length arena ≡ length arena₀) × (p₀ .next ≤ p .next) × (p .next ≤ n) × (k ≡ t .offset + at + 24 * p .next) × InReach (length arena₀) t at n high
-    × (y .symbols + 24 * y .fits ≤ t .span) × SymbolsPassed address table count t y at n low high p₀ arena₀ p arena
+Inv-loop arena₀ table t y at n w p₀ k₀ arena p k =
+    (length arena ≡ length arena₀) × (p₀ .next ≤ p .next) × (p .next ≤ n) × (k ≡ t .offset + at + 24 * p .next) × InReach (length arena₀) t at n (w .high)
+    × (y .symbols + 24 * y .fits ≤ t .span) × SymbolsPassed table t y at n (w .low) (w .high) p₀ arena₀ p arena
 
 abbrev μ-loop : tie.MeasureT-loop
-μ-loop arena₀ table count address t y at n low high p₀ k₀ arena p k =
+μ-loop arena₀ table t y at n w p₀ k₀ arena p k =
     n - p .next
 
 -- the entry was read
@@ -36,11 +36,11 @@ here-in :
     → let a = c .before .before .before .before .before .before .before .before .before .before .before .before .before .before .before .before .args in
     let l = c .before .before .before .before .before .before .before .loop in
     let e = c .before .e .given in
-    EntryHere (l .arena) (a .t) (a .y) (l .k) (a .low) (a .high) (e .0 .0) (e .0 .1 .0) (e .0 .1 .1 .0)
+    EntryHere (l .arena) (a .t) (a .y) (l .k) (a .w .low) (a .w .high) (e .0 .0) (e .0 .1 .0) (e .0 .1 .1 .0)
 here-in c =
     let a = c .before .before .before .before .before .before .before .before .before .before .before .before .before .before .before .before .args in
     let l = c .before .before .before .before .before .before .before .loop in
-    subst (EntryRead (l .arena) (a .t) (a .y) (l .k) (a .low) (a .high)) (c .before .e .given .1) (c .before .before .before .symbol-entry .ensures)
+    subst (EntryRead (l .arena) (a .t) (a .y) (l .k) (a .w .low) (a .w .high)) (c .before .e .given .1) (c .before .before .before .symbol-entry .ensures)
 
 in-reach-requires : tie.Need-in-reach-requires Inv-loop μ-loop
 in-reach-requires c κs = search needs
@@ -125,8 +125,8 @@ store-in-requires : tie.Need-store-in-requires Inv-loop μ-loop
 store-in-requires c κs =
     let l = c .before .before .before .before .before .before .before .before .before .before .before .before .before .before .loop in let g = l .inv .4 in let h = here-in (c .before .before .before .before .before .before .before) in search (needs, g .span, g .inside, h .below, l .inv .0, c .before .before .before .before .before .before .before .before .before .before .before .before .before .before .before .before .before .before .before .before .before .before .before .good .0)
 
-add-t36 : tie.Need-add-t36 Inv-loop μ-loop
-add-t36 c =
+add-t33 : tie.Need-add-t33 Inv-loop μ-loop
+add-t33 c =
     search (needs, c .before .before .before .before .before .before .before .before .before .before .before .before .before .before .before .before .if3 .taken, c .before .before .before .before .before .before .before .before .before .before .before .before .before .before .before .before .before .before .before .before .before .before .before .before .before .before .before .fits .n)
 
 add-k-3 : tie.Need-add-k-3 Inv-loop μ-loop
@@ -150,7 +150,7 @@ loop-again c =
       omega (arith, l .inv .3),
       g,
       l .inv .5,
-      symbolic-turn (a .address) (now (a .table)) (a .count) (a .t) (a .y) (a .at) (a .n) (a .low) (a .high) (l .p) (l .arena) {found = c .before .before .before .before .before .before .before .a .given .0 .0} {b = s .last .0} (c .before .before .before .before .before .before .before .before .before .before .before .before .before .before .before .before .if3 .taken) (g .entries) (l .inv .5) (l .inv .3)
+      symbolic-turn (now (a .table)) (a .t) (a .y) (a .at) (a .n) (a .w .low) (a .w .high) (l .p) (l .arena) {found = c .before .before .before .before .before .before .before .a .given .0 .0} {b = s .last .0} (c .before .before .before .before .before .before .before .before .before .before .before .before .before .before .before .before .if3 .taken) (g .entries) (l .inv .5) (l .inv .3)
           h refl
           (sym (c .before .before .before .before .before .before .before .a .given .1) ∙ c .before .before .before .before .before .before .before .before .before .address-of .ensures) (s .ensures) (a .s) (now (a .arena)) (l .inv .6),
     )
@@ -192,7 +192,7 @@ symbolics-spec =
     returns-4
     add-store-in
     store-in-requires
-    add-t36
+    add-t33
     add-k-3
     loop-less
     loop-again

@@ -2,6 +2,7 @@
 use mathlib.Core.Path.{_∙_}
 use borrow.Author.Needs.{needs}
 use denote.Ref.{now}
+use Rattle.scope.specs.Steps.Seats.{addressIn}
 use Rattle.scope.specs.Steps.ScopeCode.{orElse, resolveCopySeats}
 use Rattle.scope.proofs.ScopeLaws.{seat-any}
 use Rattle.words.specs.Hash.{elfHash}
@@ -18,7 +19,7 @@ unfolding resolveCopySeats orElse
 returns-2 c =
     let a = c .before .before .before .before .before .before .before .before .args in
     rw (← c .before .before .before .before .scan .ensures, c .before .before .enum-told .given .1)
-    (c .seat-answer .ensures ∙ seat-any (now (a .arena)) (now (a .table)) 0 (now (a .name)) (a .gnu) (c .before .elf-for .result) (elfHash (now (a .name))) (c .before .elf-for .ensures) (a .address))
+    (c .seat-answer .ensures ∙ seat-any (now (a .arena)) (now (a .table)) 0 (now (a .name)) (a .gnu) (c .before .elf-for .result) (elfHash (now (a .name))) (c .before .elf-for .ensures) (addressIn (now (a .table))))
 
 pub resolve-copy-spec : {M : Type 1} → statement M
 resolve-copy-spec =

@@ -12,7 +12,7 @@ returns c =
 returns-2 : tie.Need-returns-2
 unfolding seatAnswer scopedBy
 returns-2 c =
-    rw (← c .before .before .before .before .before .before .seat-at .ensures, ← c .before .before .before .before .before .answer-at .ensures, c .before .before .before .a .given .1, c .address-of .ensures, c .before .sum-u64 .ensures)
+    rw (← c .before .before .before .before .before .before .before .seat-at .ensures, ← c .before .before .before .before .before .before .answer-at .ensures, c .before .before .before .before .a .given .1, c .address-of .ensures, c .before .sum-u64 .ensures, c .before .before .address-in .ensures)
 
 pub seat-answer-spec : {M : Type 1} → statement M
 seat-answer-spec =
@@ -23,6 +23,7 @@ seat-answer-spec =
     (λ c. search needs)
     (λ c. search needs)
     returns
+    (λ c κs. c .before .before .before .before .before .before .before .before .pre .long)
     (λ c κs. search needs)
     (λ c κs. search needs)
     returns-2)
