@@ -27,7 +27,6 @@ use Rattle.binder.specs.Bind.{filesOf, namesOf, objectsOf, unless, allow
 use Rattle.binder.specs.Steps.Prepared.{metBy, setVerdict, Prepared}
 use Rattle.binder.specs.Steps.Settled.{endsBy, settledOf, Relocated, bindSet, BoundSet}
 use Rattle.binder.specs.Steps.Needed.{Arranged}
-use Rattle.binder.specs.Steps.Relocating.{left, started, runOrder}
 use Rattle.model.specs.Order.{OnceEach}
 use Rattle.binder.proofs.OrderIs.{order-is, names-length}
 use Rattle.binder.specs.declared.Policy.{Policy}
