@@ -4,13 +4,13 @@ use mathlib.Core.Path.{_≡_, refl, sym, ap, subst, _∙_}
 use mathlib.Core.Bool.{true}
 use mathlib.Core.List.{List}
 use Prim.Native.Nat.{ℕ, zero, suc, _+_, _-_, _*_, _%_, _^_, _≤_, _<_, min}
+use native.Mathlib.Nat.{zero-add}
 use native.Mathlib.Omega.{arith}
 use borrow.Rule.Slice.PartMut.{putMid}
 use lib.ListN.{length, take, drop}
 use Rattle.words.specs.Memory.{mem, patch}
 use Rattle.words.specs.Words.{leAt, byteOf, sum64}
-use Rattle.words.proofs.Slices.{mem-take}
-use Rattle.words.proofs.Words.{leAt-same, leAt-part}
+use Rattle.words.proofs.Words.{leAt-part}
 use Rattle.object.specs.RelocationTypes.{rowOf}
 use Rattle.object.specs.Entries as entries
 use Rattle.object.specs.Entries.{relaAt}
@@ -73,13 +73,12 @@ module _ (base at low high : ℕ) where
 -- ---- in the arena
 
 -- an entry in the front of a slice
-number-front : (n k : ℕ) (xs : List ℕ) (at : ℕ) → at + n ≤ k → leAt n (mem (take k xs)) at ≡ leAt n (mem xs) at
-number-front n k xs at fits = leAt-same n (mem (take k xs)) (mem xs) at at (λ j h. mem-take k xs (at + j) (omega arith))
-
 entry-front : (k : ℕ) (xs : List ℕ) (at i : ℕ) → at + 24 * (i + 1) ≤ k → relaAt (take k xs) at i ≡ relaAt xs at i
 unfolding entries.relaAt
-entry-front k xs at i fits =
-    rw (number-front 8 k xs (at + 24 * i) (omega arith), number-front 4 k xs (at + (24 * i + 8)) (omega arith), number-front 4 k xs (at + (24 * i + 12)) (omega arith), number-front 8 k xs (at + (24 * i + 16)) (omega arith))
+entry-front k xs at i fits = rw (number 8 (24 * i) (omega arith), number 4 (24 * i + 8) (omega arith), number 4 (24 * i + 12) (omega arith), number 8 (24 * i + 16) (omega arith))
+  where
+    number : (n x : ℕ) → at + x + n ≤ k → leAt n (mem (take k xs)) (at + x) ≡ leAt n (mem xs) (at + x)
+    number n x h = leAt-part n k 0 xs (at + x) h ∙ ap (leAt n (mem xs)) (zero-add (at + x))
 
 module _ (t : Turn) (at n low high : ℕ) (table-in : at + 24 * n ≤ t .span) where
   -- entry `i` is Relative, its place is in low .. high, and its word was written

@@ -178,7 +178,7 @@ pub(crate) fn add_relrs(part: &mut [u8], t: Turn, o: ObjectData) -> u32
     0
 }
 
-// The same, of the object at its place in the arena: its part is lent.
+// The same, of the object at its place in the arena: its part is lent, which has no bytes where the arena ends before its offset.
 pub(crate) fn run_relrs(arena: &mut [u8], t: Turn, o: ObjectData) -> u32
     ensures { λ r. ⌜ summed r (now (arena .exit)) ≡ runRelrs t (heldBy o) (now (arena .entry)) ⌝ }
 {

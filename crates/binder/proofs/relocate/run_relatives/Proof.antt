@@ -31,7 +31,7 @@ run-relatives-spec =
     (λ c. (omega arith, c .before .before .before .pre, λ _ _ _ r _ _ _ _ _. (refl, kept-none _ r _)))
     (λ c. let g = c .before .in-reach .ensures (not-false _ (c .if1 .left)) in search (needs, g .span))
     (λ c. let g = c .before .in-reach .ensures (not-false _ (c .if1 .left)) in search (needs, g .span))
-    (λ c. let g = c .before .in-reach .ensures (not-false _ (c .if1 .left)) in search (needs, g .span))
+    (λ c. search needs)
     relatives-requires
     (λ c. search needs)
     returns-2)
