@@ -31,3 +31,4 @@ pub mod SymbolicLaws
 pub mod BitLaws
 pub mod BindIs
 pub mod LoadsSame
+pub mod TextsBefore

@@ -36,12 +36,12 @@ returns-2 c =
     let a = c .before .before .before .before .before .before .before .before .before .before .before .before .before .before .before .before .args in
     c .before .before .refuse2 .ensures
     ∙ (ap (λ (n : ℕ). replied (Refused 13 0) (replicate n 0)) (c .before .before .before .before .before .before .before .before .before .before .prepare .kept .1 .1 .0)
-    ∙ sym (ask-thirteen (settingAt (a .address)) (inputsIn (now (a .bytes)) (a .parts)) (length (now (a .arena))) (a .requester) (now (a .name)) (c .before .before .before .before .before .before .before .before .before .before .prepare .result) (c .before .before .before .before .before .before .before .before .before .before .prepare .ensures .met) (c .before .before .before .before .before .enum-told .given .1) (omega (arith, c .before .before .before .before .before .before .before .before .before .before .before .before .before .before .before .before .pre .1, c .before .before .before .before .if1 .taken))))
+    ∙ sym (ask-thirteen (settingAt (a .address)) (inputsIn (now (a .bytes)) (a .parts)) (length (now (a .arena))) (a .requester) (now (a .name)) (c .before .before .before .before .before .before .before .before .before .before .prepare .result) (c .before .before .before .before .before .before .before .before .before .before .prepare .ensures .met) (c .before .before .before .before .before .enum-told .given .1) (omega (arith, c .before .before .before .before .before .before .before .before .before .before .before .before .before .before .before .before .pre .2, c .before .before .before .before .if1 .taken))))
 
 resolve-requires : tie.Need-resolve-requires
 resolve-requires c κs =
     let a = c .before .before .before .before .before .before .before .before .before .before .before .before .before .before .before .args in
-    all-filtered _ (inputsIn (now (a .bytes)) (a .parts)) _ _ _ _ (c .before .before .before .before .before .before .before .before .before .prepare .result) (c .before .before .before .before .before .before .before .before .before .prepare .ensures) (c .before .before .before .before .enum-told .given .1) (c .before .before .before .before .before .before .before .before .before .before .before .before .before .before .before .pre .1)
+    all-filtered _ (inputsIn (now (a .bytes)) (a .parts)) _ _ _ _ (c .before .before .before .before .before .before .before .before .before .prepare .result) (c .before .before .before .before .before .before .before .before .before .prepare .ensures) (c .before .before .before .before .enum-told .given .1) (c .before .before .before .before .before .before .before .before .before .before .before .before .before .before .before .pre .2)
 
 same-length-3 : tie.Need-same-length-3
 same-length-3 c =
@@ -51,7 +51,7 @@ returns-3 : tie.Need-returns-3
 returns-3 c =
     let a = c .before .before .before .before .before .before .before .before .before .before .before .before .before .before .before .before .before .args in
     asked (settingAt (a .address)) (inputsIn (now (a .bytes)) (a .parts)) (a .parts .count) (now (a .arena)) (c .before .before .before .before .before .before .before .before .before .before .before .prepare .last .1 .1 .0) (c .before .before .before .before .before .before .before .before .before .before .before .prepare .last .1 .1 .1 .1 .0) (a .requester) (now (a .name))
-    (c .before .before .before .before .before .before .before .before .before .before .before .prepare .result) (c .before .before .before .before .before .before .before .before .before .before .before .before .before .before .before .before .before .pre .1) (c .before .before .before .before .before .before .before .before .before .before .before .prepare .ensures) (c .before .before .before .before .before .before .enum-told .given .1) (omega (arith, c .before .before .before .before .before .if1 .left)) (c .before .before .before .before .before .before .before .before .before .before .before .prepare .kept .1 .1 .0) (c .reply-of .result)
+    (c .before .before .before .before .before .before .before .before .before .before .before .prepare .result) (c .before .before .before .before .before .before .before .before .before .before .before .before .before .before .before .before .before .pre .0) (c .before .before .before .before .before .before .before .before .before .before .before .before .before .before .before .before .before .pre .2) (c .before .before .before .before .before .before .before .before .before .before .before .prepare .ensures) (c .before .before .before .before .before .before .enum-told .given .1) (omega (arith, c .before .before .before .before .before .if1 .left)) (c .before .before .before .before .before .before .before .before .before .before .before .prepare .kept .1 .1 .0) (c .reply-of .result)
     (c .reply-of .ensures ∙ ap (λ (s : Scoped). replyOf (scopedOf s)) (rw (c .before .before .before .before .gnu-hash .ensures) at (c .before .resolve .ensures)))
 
 pub ask-set-spec : {M : Type 1} → statement M
