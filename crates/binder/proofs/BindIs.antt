@@ -14,7 +14,7 @@ use Rattle.model.specs.Objects as objects
 use Rattle.model.specs.Relocation.{placed, bound}
 use Rattle.model.specs.Layout.{objsOf}
 use Rattle.model.proofs.OrderLaws.{decide}
-use Rattle.sheet.specs.Sheet.{Input, noInput, sheetOk}
+use Rattle.sheet.specs.Sheet.{Input, noInput}
 use Rattle.sheet.specs.Steps.Parts.{inputsIn, Tabled}
 use Rattle.sheet.specs.declared.sheet.Parts.{Parts}
 use Rattle.sheet.proofs.PartLaws.{handed-in}
@@ -23,9 +23,9 @@ use Rattle.binder.specs.Instance.{File, objectAt}
 use Rattle.binder.specs.Verdict.{Verdict, noFile, passed, refused, orderVerdict}
 use Rattle.binder.specs.Report.{orderWords, firstUndefined}
 use Rattle.binder.specs.SetOrder.{setOrder}
-use Rattle.binder.specs.Bind.{filesOf, namesOf, objectsOf, unless, allows, relocateVerdict, outcomeOf, bindIn, bindOf}
-use Rattle.binder.specs.Steps.Prepared.{metBy, setVerdict, Prepared}
-use Rattle.binder.specs.Steps.Settled.{endsBy, settledOf, Relocated, bindSet, BoundSet}
+use Rattle.binder.specs.Bind.{filesOf, namesOf, objectsOf, unless, allows, prepareVerdict, relocateVerdict, refusedBind, outcomeOf, bindIn, bindSet, bindOf}
+use Rattle.binder.specs.Steps.Prepared.{metBy, Prepared}
+use Rattle.binder.specs.Steps.Settled.{endsBy, settledOf, Relocated, BoundSet}
 use Rattle.binder.specs.Steps.Needed.{Arranged}
 use Rattle.model.specs.Order.{OnceEach}
 use Rattle.binder.proofs.OrderIs.{order-is, names-length}
@@ -37,7 +37,7 @@ use Rattle.binder.specs.declared.report.Progress.{Progress}
 use Rattle.binder.proofs.OutcomeLaws.{refused-not, first-passed, unless-passed}
 use Rattle.binder.proofs.SoundLaws.{count-is}
 use Rattle.binder.proofs.QueryLaws.{placed-is}
-use Rattle.binder.proofs.PrepareLaws.{Ready, passes, not-handed, refused-sheet, handed}
+use Rattle.binder.proofs.PrepareLaws.{Ready, passes, sheet-refused, sheet-passed}
 use Rattle.binder.proofs.Steady.{LoadedSet}
 use Rattle.binder.proofs.RelocatedIs as relocated
 use Rattle.binder.proofs.ReportFill as fills
@@ -126,7 +126,7 @@ module _ (setting : Setting) (size : ℕ) (table : List ℕ) (hf pf : File) (fs 
         let g = ended .bound-is (q .0) in
         (sym (tab-mem a) ∙ (ap (λ (n : ℕ). tab n (mem a)) (g .1) ∙ ap (tab size) (g .0)), g .2 .report-is ∙ filled words _ (q .1)))
 
--- ---- 1 to 20
+-- ---- 2 to 20
 
 hosts : (ls : List Input) (j : ℕ) → j < length ls → getD (map (λ (o : Input). record { host = false; bytes = o .file }) ls) j noFile .host ≡ false
 hosts [] j l = absurd (omega arith)
@@ -140,9 +140,9 @@ bytes-of [] j l = absurd (omega arith)
 bytes-of (o ∷ ls) zero l = refl
 bytes-of (o ∷ ls) (suc j) l = bytes-of ls j (omega arith)
 
--- refusals 1 to 12
+-- refusals 2 to 12
 pub prepare-refused :
-    (setting : Setting) (os : List Input) (size : ℕ) (policy : Policy) (words : ℕ) (m : Met) (a report : List ℕ) → metBy m ≡ setVerdict setting os size
+    (setting : Setting) (os : List Input) (size : ℕ) (policy : Policy) (words : ℕ) (m : Met) (a report : List ℕ) → metBy m ≡ prepareVerdict setting os size
     → (n k : ℕ) → m ≡ Refused n k → length a ≡ size → length report ≡ words → BoundSet setting os size policy words a report m
 unfolding bindSet bindIn
 prepare-refused setting os size policy words m a report e n k z la lr =
@@ -211,7 +211,7 @@ module _
     pub bound-in :
         (policy : Policy) (words : ℕ) (order : List ℕ) → OnceEach (objects.count made-set) order → (report : List ℕ) → report ≡ replicate words 0
         → (a′ report′ : List ℕ) (m : Met) → Relocated (h ∷ (p ∷ ls)) table order a policy report a′ report′ m
-        → settledOf m a′ report′ ≡ bindIn setting (setVerdict setting (h ∷ (p ∷ ls)) size) (filesOf (h ∷ (p ∷ ls))) order size policy words
+        → settledOf m a′ report′ ≡ bindIn setting (prepareVerdict setting (h ∷ (p ∷ ls)) size) (filesOf (h ∷ (p ∷ ls))) order size policy words
     unfolding filesOf bindIn objectsOf
     bound-in policy words order once report zeros a′ report′ m g =
         let n : length a ≡ size = kept ∙ len in
@@ -229,17 +229,17 @@ module _
 
 -- whatever objects the table of parts names
 pub bind-is :
-    (setting : Setting) (os : List Input) (count : ℕ) (arena a table : List ℕ) (r : Met) → length os ≡ count → length a ≡ length arena
+    (setting : Setting) (os : List Input) (count : ℕ) (arena a table : List ℕ) (r : Met) → 2 ≤ count → length os ≡ count → length a ≡ length arena
     → Prepared setting os arena a table r → r ≡ Passed → (order : Order) → Arranged os count a table order
     → (policy : Policy) (report : List ℕ) → report ≡ replicate (length report) 0
     → (a′ report′ : List ℕ) (m : Met) → Relocated os table (take (order .count) (order .list)) a policy report a′ report′ m
     → BoundSet setting os (length arena) policy (length report) a′ report′ m
 unfolding bindSet
-bind-is setting [] count arena a table r many kept made z order o policy report zeros a′ report′ m g =
-    absurd (omega (arith, passes setting [] arena a table r made z .two))
-bind-is setting (h ∷ []) count arena a table r many kept made z order o policy report zeros a′ report′ m g =
-    absurd (omega (arith, passes setting (h ∷ []) arena a table r made z .two))
-bind-is setting (h ∷ (p ∷ ls)) count arena a table r many kept made z order o policy report zeros a′ report′ m g =
+bind-is setting [] count arena a table r two many kept made z order o policy report zeros a′ report′ m g =
+    absurd (omega (arith, many))
+bind-is setting (h ∷ []) count arena a table r two many kept made z order o policy report zeros a′ report′ m g =
+    absurd (omega (arith, many))
+bind-is setting (h ∷ (p ∷ ls)) count arena a table r two many kept made z order o policy report zeros a′ report′ m g =
     let c : count ≡ length ls + 2 = omega (arith, many) in
     let same = ordered setting (length arena) table h p ls arena a r refl kept made z order
     (subst (λ (n : ℕ). Arranged (h ∷ (p ∷ ls)) n a table order) c o) in
@@ -247,17 +247,16 @@ bind-is setting (h ∷ (p ∷ ls)) count arena a table r many kept made z order 
     (in-order setting (length arena) table h p ls arena a r refl kept made z (take (order .count) (order .list)) same) report zeros a′ report′ m
     g
     ∙ ap
-    (λ (l : List ℕ). bindIn setting (setVerdict setting (h ∷ (p ∷ ls)) (length arena)) (filesOf (h ∷ (p ∷ ls))) l (length arena) policy (length report))
+    (λ (l : List ℕ). bindIn setting (prepareVerdict setting (h ∷ (p ∷ ls)) (length arena)) (filesOf (h ∷ (p ∷ ls))) l (length arena) policy (length report))
     same
 
 -- ---- the objects of a sheet
 
-pub bind-handed :
-    (setting : Setting) (sheet bytes : List ℕ) (size : ℕ) (p : Parts) → Tabled sheet (length bytes) p → (policy : Policy) (words : ℕ)
-    → bindSet setting (inputsIn bytes p) size policy words ≡ bindOf setting sheet bytes size policy words
-unfolding bindSet bindOf bindIn outcomeOf
-bind-handed setting sheet bytes size p t policy words =
-    ⊎-elim
-    (λ (ok : sheetOk sheet (length bytes) ≡ true). rw (handed-in t ok bytes, handed setting sheet bytes size p t ok))
-    (λ (bad : sheetOk sheet (length bytes) ≡ false). rw (not-handed setting sheet bytes size p t bad, refused-sheet setting sheet bytes size p t bad))
-    (decide (sheetOk sheet (length bytes)))
+module _ (setting : Setting) (sheet bytes : List ℕ) (size : ℕ) (p : Parts) (t : Tabled sheet (length bytes) p) (policy : Policy) (words : ℕ) where
+  pub bind-refused : p .count < 2 → refusedBind size words 1 0 ≡ bindOf setting sheet bytes size policy words
+  unfolding bindOf
+  bind-refused l = rw (sheet-refused sheet bytes p t l)
+
+  pub bind-handed : 2 ≤ p .count → bindSet setting (inputsIn bytes p) size policy words ≡ bindOf setting sheet bytes size policy words
+  unfolding bindOf
+  bind-handed l = let ok = sheet-passed sheet bytes p t l in rw (handed-in t ok bytes, ok)

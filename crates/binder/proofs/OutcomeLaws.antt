@@ -5,12 +5,13 @@ use mathlib.Core.List.{List, _++_}
 use Prim.Native.Nat.{ℕ, _-_}
 use native.Mathlib.Omega.{arith}
 use borrow.Author.Tests.{eqb-true}
-use lib.Dec.{eqb}
+use lib.Dec.{eqb, ltb}
 use lib.ListN.{length, replicate}
 use Rattle.words.specs.Choice.{pick}
 use Rattle.words.specs.Memory.{tab}
 use Rattle.model.specs.Objects.{Objs}
-use Rattle.model.specs.Relocation.{bound}
+use Rattle.model.specs.Relocation.{placed, bound}
+use Rattle.model.specs.Scope.{resolve}
 use Rattle.binder.specs.declared.Policy.{Policy}
 use Rattle.binder.specs.declared.Answer.the-variants.{Bound}
 use Rattle.sheet.specs.Sheet.{Input, sheetOk, setOf, arenaOk, twinOf}
@@ -19,7 +20,7 @@ use Rattle.binder.specs.Verdict.{Verdict, passed, refused, first, verdic
 use Rattle.binder.specs.Steps.Prepared.{loadFrom}
 use Rattle.binder.specs.Report.{orderWords}
 use Rattle.binder.specs.SetOrder.{setOrder}
-use Rattle.binder.specs.Bind.{filesOf, namesOf, objectsOf, unless, prepareVerdict, relocateVerdict, outcome, outcomeOf, bindIn, bindOf}
+use Rattle.binder.specs.Bind.{filesOf, namesOf, objectsOf, unless, prepareVerdict, relocateVerdict, outcome, refusedBind, outcomeOf, bindIn, bindSet, bindOf, replyOf, refusedQuery, repliedOf, askSet, queryOf}
 use Rattle.binder.proofs.LoadsSame.{loads-same}
 
 -- ---- verdicts that passed
@@ -60,6 +61,48 @@ orderIn os = setOrder (filesOf os) (namesOf os)
 abbrev pub objectsIn : Setting → List Input → Objs
 objectsIn setting os = objectsOf setting (filesOf os)
 
+-- ---- the answers for a sheet, by one verdict
+
+-- 1 to 12 of a sheet and its bytes
+abbrev pub sheetVerdict : Setting → List ℕ → List ℕ → ℕ → Verdict
+sheetVerdict setting sheet bytes size = first (unless (sheetOk sheet (length bytes)) 1 0) (prepareVerdict setting (setOf sheet bytes) size)
+
+pub bind-one :
+    (setting : Setting) (sheet bytes : List ℕ) (size : ℕ) (policy : Policy) (words : ℕ)
+    → bindOf setting sheet bytes size policy words
+    ≡ bindIn setting (sheetVerdict setting sheet bytes size) (filesOf (setOf sheet bytes)) (orderIn (setOf sheet bytes)) size policy words
+unfolding bindOf bindSet bindIn outcomeOf unless
+bind-one setting sheet bytes size policy words = go (sheetOk sheet (length bytes))
+  where
+    os : List Input
+    os = setOf sheet bytes
+
+    go :
+        (t : Bool) → pick t (bindSet setting os size policy words) (refusedBind size words 1 0)
+        ≡ bindIn setting (first (unless t 1 0) (prepareVerdict setting os size)) (filesOf os) (orderIn os) size policy words
+    go true = refl
+    go false = refl
+
+pub query-one :
+    (setting : Setting) (sheet bytes : List ℕ) (size requester : ℕ) (name : List ℕ)
+    → queryOf setting sheet bytes size requester name
+    ≡ repliedOf size (first (sheetVerdict setting sheet bytes size) (unless (ltb requester (length (setOf sheet bytes))) 13 0))
+    (replyOf (resolve (objectsIn setting (setOf sheet bytes)) requester name)) (tab size (placed (objectsIn setting (setOf sheet bytes))))
+unfolding queryOf askSet repliedOf unless
+query-one setting sheet bytes size requester name = go (sheetOk sheet (length bytes))
+  where
+    os : List Input
+    os = setOf sheet bytes
+
+    go :
+        (t : Bool) → pick t (askSet setting os size requester name) (refusedQuery size 1 0)
+        ≡ repliedOf size (first (first (unless t 1 0) (prepareVerdict setting os size)) (unless (ltb requester (length os)) 13 0))
+        (replyOf (resolve (objectsIn setting os) requester name)) (tab size (placed (objectsIn setting os)))
+    go true = refl
+    go false = refl
+
+-- ---- a set that is bound
+
 pub record Passed (setting : Setting) (sheet bytes : List ℕ) (size words : ℕ) (arena report : List ℕ) : Type 0 where
   pub sheet-ok : sheetOk sheet (length bytes) ≡ true
   pub arena-ok : arenaOk size (setting .address) ≡ true
@@ -76,12 +119,12 @@ pub bound-passed :
     (setting : Setting) (sheet bytes : List ℕ) (size : ℕ) (policy : Policy) (words : ℕ) (arena report : List ℕ)
     → bindOf setting sheet bytes size policy words ≡ outcome Bound arena report
     → Passed setting sheet bytes size words arena report
-unfolding bindOf bindIn prepareVerdict relocateVerdict
+unfolding bindIn prepareVerdict relocateVerdict
 bound-passed setting sheet bytes size policy words arena report e =
     let os : List Input = setOf sheet bytes in
     let S : Objs = objectsIn setting os in
-    let o = bound-outcome size words _ _ _ arena report e in
-    let p = first-passed (prepareVerdict setting sheet bytes size) (relocateVerdict S (filesOf os) (orderIn os) policy words) (o .0) in
+    let o = bound-outcome size words _ _ _ arena report (sym (bind-one setting sheet bytes size policy words) ∙ e) in
+    let p = first-passed (sheetVerdict setting sheet bytes size) (relocateVerdict S (filesOf os) (orderIn os) policy words) (o .0) in
     let a = first-passed (unless (sheetOk sheet (length bytes)) 1 0) _ (p .0) in
     let b = first-passed (unless (arenaOk size (setting .address)) 2 0) _ (a .1) in
     let c = first-passed (unless (eqb (twinOf os) 0) 3 (twinOf os)) (loadVerdict S size 0 (filesOf os)) (b .1) in

@@ -1,7 +1,7 @@
 -- Loading the objects of a set, one after another: the turn of the loop and its ends; preparing a set. Assumes nothing.
 use mathlib.Core.Path.{_≡_, refl, sym, ap, _∙_, subst, fun-ext}
 use mathlib.Core.Bool.{Bool, true, false}
-use mathlib.Core.Logic.{_⊎_, inl, inr}
+use mathlib.Core.Logic.{_⊎_, inl, inr, ⊎-elim}
 use mathlib.Core.List.{List, [], _∷_, map}
 use Prim.Native.Nat.{ℕ, zero, suc, _+_, _-_, _*_, _%_, _^_, _≤_, _<_}
 use native.Mathlib.Omega.{arith}
@@ -16,7 +16,8 @@ use Rattle.words.specs.Choice.{pick}
 use Rattle.words.specs.Memory.{Mem, In, mem, write, patch}
 use Rattle.words.proofs.Memory.{Out, in-or-out, write-in, write-out}
 use Rattle.words.proofs.Choice.{both-true}
-use Rattle.words.proofs.Slices.{put-tail, mem-past, mem-patch}
+use Rattle.words.proofs.Slices.{put-tail, mem-past, mem-patch, length-tab}
+use Rattle.model.proofs.OrderLaws.{decide}
 use Rattle.object.specs.declared.dynamic_fields.Read.{Read}
 use Rattle.object.specs.declared.hash_tables.View.{View}
 use Rattle.object.specs.Placed.{objectSpan, objectBytes}
@@ -24,16 +25,16 @@ use Rattle.object.specs.Record.{Record, heldBy, viewOf}
 use Rattle.object.specs.Loaded.{objectRecord, objectRefusal, LoadedBy}
 use Rattle.object.proofs.LoadedLaws.{loaded-part, record-span}
 use Rattle.sheet.specs.Sheet as sheets
-use Rattle.sheet.specs.Sheet.{Input, noInput, sheetOk, setOf, arenaOk, twinOf}
+use Rattle.sheet.specs.Sheet.{Input, noInput, sheetOk, arenaOk, twinOf}
 use Rattle.sheet.specs.Steps.Parts.{inputsIn, Tabled}
 use Rattle.sheet.specs.declared.sheet.Parts.{Parts}
-use Rattle.sheet.proofs.PartLaws.{handed-in, two-parts}
+use Rattle.sheet.proofs.PartLaws.{two-parts}
 use Rattle.binder.specs.Setting.{Setting}
 use Rattle.binder.specs.Instance.{File, fileRecord}
-use Rattle.binder.specs.Verdict.{passed, refused, first, verdict, noFile}
-use Rattle.binder.specs.Bind.{filesOf, unless, prepareVerdict}
+use Rattle.binder.specs.Verdict.{passed, refused, first, verdict, noFile, loadVerdict}
+use Rattle.binder.specs.Bind.{filesOf, objectsOf, unless, prepareVerdict}
 use Rattle.scope.specs.Steps.Seats.{seatAt, countIn, addressIn, FilteredBelow, Filtered}
-use Rattle.binder.specs.Steps.Prepared.{loadFrom, metBy, seatOf, placeFiles, Seated, SeatedAt, LoadedAt, LoadedFiles, setVerdict, Prepared}
+use Rattle.binder.specs.Steps.Prepared.{loadFrom, metBy, seatOf, placeFiles, Seated, SeatedAt, LoadedAt, LoadedFiles, Prepared}
 use Rattle.scope.specs.declared.seats.Seat.{Seat}
 use Rattle.binder.specs.declared.prepare.Met.{Met}
 use Rattle.binder.specs.declared.prepare.Met.the-variants.{Passed, Refused}
@@ -236,7 +237,7 @@ module _ (os : List Input) (a₀ a table : List ℕ) (off k : ℕ) (h : Loading 
         filtered = λ z j l. h .filtered j (omega (arith, files-length os));
       }
 
--- ---- preparing: refusals 1 to 3, then loading
+-- ---- preparing: refusals 2 and 3, then loading
 
 -- a table with the same seats
 seated-same :
@@ -252,7 +253,7 @@ seated-same t t′ k off (f ∷ fs) same s = (
 module _ (setting : Setting) (os : List Input) (arena : List ℕ) where
   -- a refusal before anything is loaded
   refuses :
-      (n k : ℕ) → setVerdict setting os (length arena) ≡ refused n k → (arena′ table : List ℕ) → Prepared setting os arena arena′ table (Refused n k)
+      (n k : ℕ) → prepareVerdict setting os (length arena) ≡ refused n k → (arena′ table : List ℕ) → Prepared setting os arena arena′ table (Refused n k)
   refuses n k e arena′ table =
       record {
         met = sym e;
@@ -263,57 +264,50 @@ module _ (setting : Setting) (os : List Input) (arena : List ℕ) where
         addressed = λ z. refused-not n k (ap metBy z);
       }
 
-  pub prepare-one : length os < 2 → (arena′ table : List ℕ) → Prepared setting os arena arena′ table (Refused 1 0)
-  unfolding setVerdict unless
-  prepare-one l = refuses 1 0 (rw (lt-leb 2 (length os) l))
+  pub prepare-two :
+      arenaOk (length arena) (setting .address) ≡ false → (arena′ table : List ℕ) → Prepared setting os arena arena′ table (Refused 2 0)
+  unfolding prepareVerdict unless
+  prepare-two e = refuses 2 0 (rw e)
 
-  module _ (two : 2 ≤ length os) where
-    pub prepare-two : arenaOk (length arena) (setting .address) ≡ false → (arena′ table : List ℕ) → Prepared setting os arena arena′ table (Refused 2 0)
-    unfolding setVerdict unless
-    prepare-two e = refuses 2 0 (rw (le-leb 2 (length os) two, e))
+  module _ (ok : arenaOk (length arena) (setting .address) ≡ true) where
+    pub prepare-three : (t : ℕ) → t ≡ twinOf os → (t ≡ 0 → ⊥) → (arena′ table : List ℕ) → Prepared setting os arena arena′ table (Refused 3 t)
+    unfolding prepareVerdict unless
+    prepare-three t e ne = refuses 3 t (rw (ok, ← e, ne-eqb t 0 ne))
 
-    module _ (ok : arenaOk (length arena) (setting .address) ≡ true) where
-      pub prepare-three : (t : ℕ) → t ≡ twinOf os → (t ≡ 0 → ⊥) → (arena′ table : List ℕ) → Prepared setting os arena arena′ table (Refused 3 t)
-      unfolding setVerdict unless
-      prepare-three t e ne = refuses 3 t (rw (le-leb 2 (length os) two, ok, ← e, ne-eqb t 0 ne))
-
-      -- the table `t` with the set's count and the address is `t′`
-      pub prepare-loads :
-          twinOf os ≡ 0 → (arena′ t t′ : List ℕ) (r : Met) → LoadedFiles (filesOf os) arena arena′ t r → length os ≤ 64
-          → countIn t′ ≡ length os → addressIn t′ ≡ setting .address → ((k : ℕ) → k < 64 → seatAt t′ k ≡ seatAt t k)
-          → (FilteredBelow t (length os) → Filtered t′)
-          → Prepared setting os arena arena′ t′ r
-      unfolding setVerdict unless
-      prepare-loads none arena′ t t′ r h few count-is address-is same filters =
-          record {
-            met = h .met ∙ rw (le-leb 2 (length os) two, ok, eq-eqb (twinOf os) 0 none);
-            arena = h .arena;
-            table = λ z. seated-same t t′ 0 0 (filesOf os) (λ k l. same k (omega (arith, files-length os))) (h .table z);
-            filtered = λ z. filters (λ k l. h .filtered z k (omega (arith, files-length os)));
-            counted = λ z. count-is;
-            addressed = λ z. address-is;
-          }
+    -- the table `t` with the set's count and the address is `t′`
+    pub prepare-loads :
+        twinOf os ≡ 0 → (arena′ t t′ : List ℕ) (r : Met) → LoadedFiles (filesOf os) arena arena′ t r → length os ≤ 64
+        → countIn t′ ≡ length os → addressIn t′ ≡ setting .address → ((k : ℕ) → k < 64 → seatAt t′ k ≡ seatAt t k)
+        → (FilteredBelow t (length os) → Filtered t′)
+        → Prepared setting os arena arena′ t′ r
+    unfolding prepareVerdict unless
+    prepare-loads none arena′ t t′ r h few count-is address-is same filters =
+        record {
+          met = h .met ∙ (sym (loads-same setting (length arena) (filesOf os)) ∙ rw (ok, eq-eqb (twinOf os) 0 none));
+          arena = h .arena;
+          table = λ z. seated-same t t′ 0 0 (filesOf os) (λ k l. same k (omega (arith, files-length os))) (h .table z);
+          filtered = λ z. filters (λ k l. h .filtered z k (omega (arith, files-length os)));
+          counted = λ z. count-is;
+          addressed = λ z. address-is;
+        }
 
 -- a set that passed
 pub record Ready (setting : Setting) (os : List Input) (size : ℕ) : Type 0 where
-  pub verdict-is : setVerdict setting os size ≡ passed
-  pub two : 2 ≤ length os
+  pub verdict-is : prepareVerdict setting os size ≡ passed
   pub loads : loadFrom size 0 0 (filesOf os) ≡ passed
   pub end : setting .address + size ≤ 2 ^ 63
   pub small : size ≤ 2 ^ 28
 
-pub ready : (setting : Setting) (os : List Input) (size : ℕ) → setVerdict setting os size ≡ passed → Ready setting os size
-unfolding setVerdict sheets.arenaOk
+pub ready : (setting : Setting) (os : List Input) (size : ℕ) → prepareVerdict setting os size ≡ passed → Ready setting os size
+unfolding prepareVerdict sheets.arenaOk
 ready setting os size e =
-    let a = first-passed (unless (leb 2 (length os)) 1 0) _ e in
-    let b = first-passed (unless (arenaOk size (setting .address)) 2 0) _ (a .1) in
-    let c = first-passed (unless (eqb (twinOf os) 0) 3 (twinOf os)) (loadFrom size 0 0 (filesOf os)) (b .1) in
+    let b = first-passed (unless (arenaOk size (setting .address)) 2 0) _ e in
+    let c = first-passed (unless (eqb (twinOf os) 0) 3 (twinOf os)) (loadVerdict (objectsOf setting (filesOf os)) size 0 (filesOf os)) (b .1) in
     let p = both-true (eqb (setting .address % 4096) 0) _ (unless-passed (arenaOk size (setting .address)) 2 0 (b .0)) in
     let q = both-true (leb size (2 ^ 28)) _ (p .1) in
     record {
       verdict-is = e;
-      two = leb-true 2 (length os) (unless-passed (leb 2 (length os)) 1 0 (a .0));
-      loads = c .1;
+      loads = sym (loads-same setting size (filesOf os)) ∙ c .1;
       end = leb-true (setting .address + size) (2 ^ 63) (q .1);
       small = leb-true size (2 ^ 28) (q .0);
     }
@@ -327,24 +321,16 @@ passes setting os arena arena′ table r made z = ready setting os (length arena
 pub many-parts : {sheet : List ℕ} {n : ℕ} {p : Parts} → Tabled sheet n p → (bytes : List ℕ) → length (inputsIn bytes p) ≡ p .count
 many-parts t bytes = ap length (t .same bytes) ∙ t .count bytes
 
--- the objects of a sheet: none where it is refused
-module _ (setting : Setting) (sheet bytes : List ℕ) (size : ℕ) (p : Parts) (t : Tabled sheet (length bytes) p) where
-  pub not-handed : sheetOk sheet (length bytes) ≡ false → setVerdict setting (inputsIn bytes p) size ≡ refused 1 0
-  unfolding setVerdict unless
-  not-handed bad = rw (t .same bytes, bad)
+-- a sheet is refused where its table of parts names no two objects
+module _ (sheet bytes : List ℕ) (p : Parts) (t : Tabled sheet (length bytes) p) where
+  pub sheet-refused : p .count < 2 → sheetOk sheet (length bytes) ≡ false
+  sheet-refused l =
+      ⊎-elim (λ (ok : sheetOk sheet (length bytes) ≡ true). absurd (omega (arith, two-parts t ok)))
+      (λ (bad : sheetOk sheet (length bytes) ≡ false). bad) (decide (sheetOk sheet (length bytes)))
 
-  pub refused-sheet : sheetOk sheet (length bytes) ≡ false → prepareVerdict setting sheet bytes size ≡ refused 1 0
-  unfolding prepareVerdict unless
-  refused-sheet bad = rw bad
-
-  pub handed : sheetOk sheet (length bytes) ≡ true → setVerdict setting (setOf sheet bytes) size ≡ prepareVerdict setting sheet bytes size
-  unfolding setVerdict prepareVerdict unless
-  handed ok =
-      let two : 2 ≤ length (setOf sheet bytes) = omega (
-        arith,
-        two-parts t ok,
-        t .count bytes,
-        ap length (handed-in t ok bytes),
-        ap length (t .same bytes),
-      ) in
-      rw (ok, le-leb 2 (length (setOf sheet bytes)) two, loads-same setting size (filesOf (setOf sheet bytes)))
+  pub sheet-passed : 2 ≤ p .count → sheetOk sheet (length bytes) ≡ true
+  sheet-passed l =
+      ⊎-elim (λ (ok : sheetOk sheet (length bytes) ≡ true). ok)
+      (λ (bad : sheetOk sheet (length bytes) ≡ false).
+      let none : 0 ≡ p .count = rw bad at (t .count bytes) in absurd (omega (arith, none)))
+      (decide (sheetOk sheet (length bytes)))

@@ -17,63 +17,62 @@ use Rattle.model.specs.Symbols.{byName}
 use Rattle.model.specs.Scope.{resolve}
 use Rattle.model.specs.Layout.{objsOf}
 use Rattle.model.proofs.OrderLaws.{decide}
-use Rattle.sheet.specs.Sheet.{Input, sheetOk}
+use Rattle.sheet.specs.Sheet.{Input}
 use Rattle.sheet.specs.Steps.Parts.{inputsIn, Tabled}
 use Rattle.sheet.specs.declared.sheet.Parts.{Parts}
 use Rattle.sheet.proofs.PartLaws.{handed-in}
 use Rattle.binder.specs.Setting.{Setting}
 use Rattle.binder.specs.Instance.{File, objectAt}
-use Rattle.binder.specs.Bind.{filesOf, objectsOf, unless, replied, replyOf, repliedOf, queryOf}
+use Rattle.binder.specs.Bind.{filesOf, objectsOf, unless, prepareVerdict, replied, replyOf, refusedQuery, repliedOf, askSet, queryOf}
 use Rattle.scope.specs.Steps.ScopeCode.{resolveSeats}
 use Rattle.binder.specs.Steps.ScopeModel.{scopedOf}
-use Rattle.binder.specs.Steps.Prepared.{metBy, setVerdict, Prepared}
-use Rattle.binder.specs.Steps.Asked.{askOf}
+use Rattle.binder.specs.Steps.Prepared.{metBy, Prepared}
 use Rattle.binder.specs.declared.Reply.{Reply}
 use Rattle.binder.specs.declared.Reply.the-variants.{Refused}
 use Rattle.scope.specs.declared.scope.Scoped.{Scoped}
 use Rattle.binder.specs.declared.prepare.Met as mets
 use Rattle.binder.specs.declared.prepare.Met.{Met}
 use Rattle.binder.specs.declared.prepare.Met.the-variants.{Passed}
-use Rattle.binder.proofs.PrepareLaws.{Ready, passes, not-handed, refused-sheet, handed}
+use Rattle.binder.proofs.PrepareLaws.{Ready, passes, sheet-refused, sheet-passed}
 use Rattle.binder.proofs.SoundLaws.{count-is}
 use Rattle.binder.proofs.ScopeIs.{resolve-is}
 use Rattle.binder.proofs.QueryLaws.{placed-is, seated-for}
 
--- ---- 1 to 13
+-- ---- 2 to 13
 
 module _ (setting : Setting) (os : List Input) (size requester : ℕ) (name : List ℕ) where
   pub ask-refused :
-      (r : Met) → metBy r ≡ setVerdict setting os size → (n k : ℕ) → r ≡ mets.the-variants.Refused n k
-      → askOf setting os size requester name ≡ replied (Refused n k) (replicate size 0)
-  unfolding askOf repliedOf
+      (r : Met) → metBy r ≡ prepareVerdict setting os size → (n k : ℕ) → r ≡ mets.the-variants.Refused n k
+      → askSet setting os size requester name ≡ replied (Refused n k) (replicate size 0)
+  unfolding askSet repliedOf
   ask-refused r e n k z = rw (sym e ∙ ap metBy z)
 
   pub ask-thirteen :
-      (r : Met) → metBy r ≡ setVerdict setting os size → r ≡ Passed → length os ≤ requester
-      → askOf setting os size requester name ≡ replied (Refused 13 0) (replicate size 0)
-  unfolding askOf repliedOf unless
+      (r : Met) → metBy r ≡ prepareVerdict setting os size → r ≡ Passed → length os ≤ requester
+      → askSet setting os size requester name ≡ replied (Refused 13 0) (replicate size 0)
+  unfolding askSet repliedOf unless
   ask-thirteen r e z l = rw (sym e ∙ ap metBy z, le-ltb requester (length os) l)
 
   pub ask-found :
-      (r : Met) → metBy r ≡ setVerdict setting os size → r ≡ Passed → requester < length os
-      → askOf setting os size requester name
+      (r : Met) → metBy r ≡ prepareVerdict setting os size → r ≡ Passed → requester < length os
+      → askSet setting os size requester name
       ≡ replied (replyOf (resolve (objectsOf setting (filesOf os)) requester (byName name))) (tab size (placed (objectsOf setting (filesOf os))))
-  unfolding askOf repliedOf unless
+  unfolding askSet repliedOf unless
   ask-found r e z l = rw (sym e ∙ ap metBy z, lt-ltb requester (length os) l)
 
 -- the objects that were loaded answer as the model says
 pub asked :
     (setting : Setting) (os : List Input) (count : ℕ) (arena arena′ table : List ℕ) (requester : ℕ) (name : List ℕ) (r : Met)
-    → length os ≡ count → Prepared setting os arena arena′ table r → r ≡ Passed → requester < count
+    → 2 ≤ count → length os ≡ count → Prepared setting os arena arena′ table r → r ≡ Passed → requester < count
     → length arena′ ≡ length arena
     → (x : Reply) → x ≡ replyOf (scopedOf (resolveSeats arena′ table requester name (gnuHash name) (elfHash name)))
-    → replied x arena′ ≡ askOf setting os (length arena) requester name
+    → replied x arena′ ≡ askSet setting os (length arena) requester name
 unfolding filesOf objectsOf
-asked setting [] count arena arena′ table requester name r many made z l len x e =
-    absurd (omega (arith, passes setting [] arena arena′ table r made z .two))
-asked setting (h ∷ []) count arena arena′ table requester name r many made z l len x e =
-    absurd (omega (arith, passes setting (h ∷ []) arena arena′ table r made z .two))
-asked setting (h ∷ (p ∷ ls)) count arena arena′ table requester name r many made z l len x e =
+asked setting [] count arena arena′ table requester name r two many made z l len x e =
+    absurd (omega (arith, many))
+asked setting (h ∷ []) count arena arena′ table requester name r two many made z l len x e =
+    absurd (omega (arith, many))
+asked setting (h ∷ (p ∷ ls)) count arena arena′ table requester name r two many made z l len x e =
     rw (e, answer) (ap (replied (replyOf (resolve S requester (byName name)))) bytes)
     ∙ sym (ask-found setting (h ∷ (p ∷ ls)) (length arena) requester name r (made .met) z (omega (arith, many)) ∙ same)
   where
@@ -115,12 +114,11 @@ asked setting (h ∷ (p ∷ ls)) count arena arena′ table requester name r man
 
 -- ---- the objects of a sheet
 
-pub query-handed :
-    (setting : Setting) (sheet bytes : List ℕ) (size : ℕ) (p : Parts) → Tabled sheet (length bytes) p → (requester : ℕ) (name : List ℕ)
-    → askOf setting (inputsIn bytes p) size requester name ≡ queryOf setting sheet bytes size requester name
-unfolding askOf queryOf repliedOf
-query-handed setting sheet bytes size p t requester name =
-    ⊎-elim
-    (λ (ok : sheetOk sheet (length bytes) ≡ true). rw (handed-in t ok bytes, handed setting sheet bytes size p t ok))
-    (λ (bad : sheetOk sheet (length bytes) ≡ false). rw (not-handed setting sheet bytes size p t bad, refused-sheet setting sheet bytes size p t bad))
-    (decide (sheetOk sheet (length bytes)))
+module _ (setting : Setting) (sheet bytes : List ℕ) (size : ℕ) (p : Parts) (t : Tabled sheet (length bytes) p) (requester : ℕ) (name : List ℕ) where
+  pub query-refused : p .count < 2 → refusedQuery size 1 0 ≡ queryOf setting sheet bytes size requester name
+  unfolding queryOf
+  query-refused l = rw (sheet-refused sheet bytes p t l)
+
+  pub query-handed : 2 ≤ p .count → askSet setting (inputsIn bytes p) size requester name ≡ queryOf setting sheet bytes size requester name
+  unfolding queryOf
+  query-handed l = let ok = sheet-passed sheet bytes p t l in rw (handed-in t ok bytes, ok)

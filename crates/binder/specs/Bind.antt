@@ -47,13 +47,12 @@ objectsOf setting (h ∷ (p ∷ fs)) = objsOf (objectAt setting) h p fs
 unfoldable pub unless : Bool → ℕ → ℕ → Verdict
 unless t n k = pick t passed (refused n k)
 
--- 1 to 12, which a query meets too
-unfoldable pub prepareVerdict : Setting → List ℕ → List ℕ → ℕ → Verdict
-prepareVerdict setting sheet bytes size =
-    first (unless (sheetOk sheet (length bytes)) 1 0)
-    (first (unless (arenaOk size (setting .address)) 2 0)
-    (first (unless (eqb (twinOf (setOf sheet bytes)) 0) 3 (twinOf (setOf sheet bytes)))
-    (loadVerdict (objectsOf setting (filesOf (setOf sheet bytes))) size 0 (filesOf (setOf sheet bytes)))))
+-- 2 to 12 of a set, which a query meets too
+unfoldable pub prepareVerdict : Setting → List Input → ℕ → Verdict
+prepareVerdict setting os size =
+    first (unless (arenaOk size (setting .address)) 2 0)
+    (first (unless (eqb (twinOf os) 0) 3 (twinOf os))
+    (loadVerdict (objectsOf setting (filesOf os)) size 0 (filesOf os)))
 
 -- 19: "Strict policy and an undefined entry"
 abbrev pub allows : Policy → ℕ → Bool
@@ -73,22 +72,30 @@ relocateVerdict S files order policy words =
 pub data Outcome : Type 0 where
   outcome : (answer : Answer) (arena report : List ℕ) → Outcome
 
--- a refusal leaves zeros; else the arena and the report, "Unused words are 0"
+-- "a refusal leaves zeros in arena and report"
+abbrev pub refusedBind : ℕ → ℕ → ℕ → ℕ → Outcome
+refusedBind size words n k = outcome (answers.the-variants.Refused n k) (replicate size 0) (replicate words 0)
+
+-- a refusal; else the arena and the report, "Unused words are 0"
 unfoldable pub outcomeOf : ℕ → ℕ → Verdict → List ℕ → List ℕ → Outcome
-outcomeOf size words (refused n k) arena report = outcome (answers.the-variants.Refused n k) (replicate size 0) (replicate words 0)
+outcomeOf size words (refused n k) arena report = refusedBind size words n k
 outcomeOf size words passed arena report = outcome answers.the-variants.Bound arena (report ++ replicate (words - length report) 0)
 
--- a set bound in an order
+-- a set bound in an order, in an arena of `size` bytes and with a report of `words` words
 unfoldable pub bindIn : Setting → Verdict → List File → List ℕ → ℕ → Policy → ℕ → Outcome
 bindIn setting prepared files order size policy words =
     outcomeOf size words (first prepared (relocateVerdict (objectsOf setting files) files order policy words))
     (tab size (bound (objectsOf setting files) order)) (orderWords (objectsOf setting files) files order)
 
--- what `bind` answers for an arena of `size` bytes and a report of `words` words
+-- a set bound in its order: refusals 2 to 20
+unfoldable pub bindSet : Setting → List Input → ℕ → Policy → ℕ → Outcome
+bindSet setting os size policy words =
+    bindIn setting (prepareVerdict setting os size) (filesOf os) (setOrder (filesOf os) (namesOf os)) size policy words
+
+-- what `bind` answers for a sheet and its bytes: refusal 1, or what it does for the sheet's set
 unfoldable pub bindOf : Setting → List ℕ → List ℕ → ℕ → Policy → ℕ → Outcome
 bindOf setting sheet bytes size policy words =
-    bindIn setting (prepareVerdict setting sheet bytes size) (filesOf (setOf sheet bytes))
-    (setOrder (filesOf (setOf sheet bytes)) (namesOf (setOf sheet bytes))) size policy words
+    pick (sheetOk sheet (length bytes)) (bindSet setting (setOf sheet bytes) size policy words) (refusedBind size words 1 0)
 
 -- ---- query
 
@@ -100,15 +107,22 @@ abbrev pub replyOf : symbols.Answer → Reply
 replyOf absent = replies.the-variants.Absent
 replyOf (answer k s a) = replies.the-variants.Found k (s .index) a
 
+-- a refusal leaves zeros
+abbrev pub refusedQuery : ℕ → ℕ → ℕ → Replied
+refusedQuery size n k = replied (replies.the-variants.Refused n k) (replicate size 0)
+
 -- "after an answer the arena holds the placed, unrelocated bytes"
 unfoldable pub repliedOf : ℕ → Verdict → Reply → List ℕ → Replied
-repliedOf size (refused n k) reply arena = replied (replies.the-variants.Refused n k) (replicate size 0)
+repliedOf size (refused n k) reply arena = refusedQuery size n k
 repliedOf size passed reply arena = replied reply arena
 
--- what `query` answers: it "meets only refusals 1 to 13"
+-- a set that is asked: it "meets only refusals 1 to 13", 2 to 13 here
+unfoldable pub askSet : Setting → List Input → ℕ → ℕ → List ℕ → Replied
+askSet setting os size requester name =
+    repliedOf size (first (prepareVerdict setting os size) (unless (ltb requester (length os)) 13 0))
+    (replyOf (resolve (objectsOf setting (filesOf os)) requester (byName name))) (tab size (placed (objectsOf setting (filesOf os))))
+
+-- what `query` answers for a sheet and its bytes
 unfoldable pub queryOf : Setting → List ℕ → List ℕ → ℕ → ℕ → List ℕ → Replied
 queryOf setting sheet bytes size requester name =
-    repliedOf size
-    (first (prepareVerdict setting sheet bytes size) (unless (ltb requester (length (setOf sheet bytes))) 13 0))
-    (replyOf (resolve (objectsOf setting (filesOf (setOf sheet bytes))) requester (byName name)))
-    (tab size (placed (objectsOf setting (filesOf (setOf sheet bytes)))))
+    pick (sheetOk sheet (length bytes)) (askSet setting (setOf sheet bytes) size requester name) (refusedQuery size 1 0)

@@ -77,7 +77,7 @@ fn bind_in(
     end(p, policy)
 }
 
-// Refusals 1 to 20 of the objects that the table of parts names, bound in the order of the set.
+// Refusals 2 to 20 of the objects that the table of parts names, bound in the order of the set.
 fn bind_set(
     bytes: &[u8],
     parts: Parts,
@@ -86,7 +86,7 @@ fn bind_set(
     policy: Policy,
     report: &mut [u32],
 ) -> Met
-    requires { ⌜ (parts .count ≤ 64) × (length (inputsIn (now bytes) parts) ≡ parts .count) × (now report ≡ replicate (length (now report)) 0) ⌝ }
+    requires { ⌜ (2 ≤ parts .count) × (parts .count ≤ 64) × (length (inputsIn (now bytes) parts) ≡ parts .count) × (now report ≡ replicate (length (now report)) 0) ⌝ }
     ensures { λ r. ⌜ BoundSet (settingAt address) (inputsIn (now (bytes .entry)) parts) (length (now (arena .entry))) policy (length (now (report .entry))) (now (arena .exit)) (now (report .exit)) r ⌝ }
 {
     let mut table = [0u64; 1026];
@@ -113,7 +113,7 @@ fn settle(m: Met, arena: &mut [u8], report: &mut [u32]) -> Answer
     }
 }
 
-// Binds the set of a sheet and its bytes in the arena at `address`.
+// Binds the set of a sheet and its bytes in the arena at `address`. A refused sheet's table of parts names no object.
 pub fn bind(
     sheet: &[u32],
     bytes: &[u8],
@@ -126,6 +126,13 @@ pub fn bind(
 {
     words::bytes::clear_words(report);
     let parts = sheet::sheet::parts_of(sheet, bytes.len());
+    if parts.count < 2 {
+        let one = Met::Refused {
+            number: 1,
+            object: 0,
+        };
+        return settle(one, arena, report);
+    }
     let m = bind_set(bytes, parts, arena, address, policy, report);
     settle(m, arena, report)
 }

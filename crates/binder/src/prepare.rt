@@ -1,4 +1,4 @@
-// What every call does first: refusals 1 to 3 of a set, then its objects into the arena, refusals 4 to 12, object by object.
+// What every call does with a set first: refusals 2 and 3, then its objects into the arena, refusals 4 to 12, object by object.
 ghost use mathlib.Core.Path.{_≡_};
 ghost use Prim.Native.Nat.{_≤_};
 ghost use lib.ListN.{length};
@@ -70,8 +70,8 @@ fn load_all(bytes: &[u8], parts: Parts, arena: &mut [u8], table: &mut [u64]) -> 
     Met::Passed
 }
 
-// Refusals 1 to 12 of the objects that the table of parts names; what passes is loaded, whatever the arena holds before, and its seats,
-// its count and the arena's address are in the table. A refused sheet's table of parts names no object.
+// Refusals 2 to 12 of the objects that the table of parts names; what passes is loaded, whatever the arena holds before, and its seats,
+// its count and the arena's address are in the table.
 pub(crate) fn prepare(
     bytes: &[u8],
     parts: Parts,
@@ -82,12 +82,6 @@ pub(crate) fn prepare(
     requires { ⌜ (parts .count ≤ 64) × (length (inputsIn (now bytes) parts) ≡ parts .count) × (1026 ≤ length (now table)) ⌝ }
     ensures { λ r. ⌜ Prepared (settingAt address) (inputsIn (now (bytes .entry)) parts) (now (arena .entry)) (now (arena .exit)) (now (table .exit)) r ⌝ }
 {
-    if parts.count < 2 {
-        return Met::Refused {
-            number: 1,
-            object: 0,
-        };
-    }
     if !sheet::sheet::arena_ok(arena.len(), address) {
         return Met::Refused {
             number: 2,

@@ -5,8 +5,7 @@ ghost use lib.ListN.{length, replicate};
 ghost use Rattle.sheet.specs.Steps.Parts.{inputsIn};
 ghost use Rattle.binder.specs.Steps.ScopeModel.{scopedOf};
 ghost use Rattle.binder.specs.Setting.{settingAt};
-ghost use Rattle.binder.specs.Bind.{replied, replyOf, queryOf};
-ghost use Rattle.binder.specs.Steps.Asked.{askOf};
+ghost use Rattle.binder.specs.Bind.{replied, replyOf, askSet, queryOf};
 ghost use Rattle.binder.specs.declared.Reply.the-variants.{Refused};
 use crate::Reply;
 use crate::prepare::Met;
@@ -43,7 +42,7 @@ fn refuse(number: u32, object: u32, arena: &mut [u8]) -> Reply
     }
 }
 
-// Refusals 1 to 13 of the objects that the table of parts names, and the answer.
+// Refusals 2 to 13 of the objects that the table of parts names, and the answer.
 fn ask_set(
     bytes: &[u8],
     parts: Parts,
@@ -52,8 +51,8 @@ fn ask_set(
     requester: usize,
     name: &[u8],
 ) -> Reply
-    requires { ⌜ (parts .count ≤ 64) × (length (inputsIn (now bytes) parts) ≡ parts .count) ⌝ }
-    ensures { λ r. ⌜ replied r (now (arena .exit)) ≡ askOf (settingAt address) (inputsIn (now (bytes .entry)) parts) (length (now (arena .entry))) requester (now (name .entry)) ⌝ }
+    requires { ⌜ (2 ≤ parts .count) × (parts .count ≤ 64) × (length (inputsIn (now bytes) parts) ≡ parts .count) ⌝ }
+    ensures { λ r. ⌜ replied r (now (arena .exit)) ≡ askSet (settingAt address) (inputsIn (now (bytes .entry)) parts) (length (now (arena .entry))) requester (now (name .entry)) ⌝ }
 {
     let count = parts.count;
     let mut table = [0u64; 1026];
@@ -81,5 +80,8 @@ pub fn query(
     ensures { λ r. ⌜ replied r (now (arena .exit)) ≡ queryOf (settingAt address) (now (sheet .entry)) (now (bytes .entry)) (length (now (arena .entry))) requester (now (name .entry)) ⌝ }
 {
     let parts = sheet::sheet::parts_of(sheet, bytes.len());
+    if parts.count < 2 {
+        return refuse(1, 0, arena);
+    }
     ask_set(bytes, parts, arena, address, requester as usize, name)
 }

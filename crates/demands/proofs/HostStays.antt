@@ -26,13 +26,13 @@ use Rattle.binder.specs.Instance.{File, objectAt}
 use Rattle.binder.specs.Verdict.{Verdict, passed, refused, orderVerdict}
 use Rattle.binder.specs.SetOrder.{setOrder}
 use Rattle.binder.specs.Steps.Prepared.{loadFrom, placeFiles}
-use Rattle.binder.specs.Bind.{filesOf, namesOf, objectsOf, prepareVerdict, replied, repliedOf, queryOf}
+use Rattle.binder.specs.Bind.{filesOf, namesOf, objectsOf, replied, repliedOf, queryOf}
 use Rattle.binder.proofs.FileLaws.{hostFile, fileOf, files-are}
-use Rattle.binder.proofs.OutcomeLaws.{objectsIn, orderIn, bound-passed, first-passed}
+use Rattle.binder.proofs.OutcomeLaws.{objectsIn, orderIn, sheetVerdict, query-one, bound-passed, first-passed}
 use Rattle.binder.proofs.OrderIs.{names-length, order-is}
 use Rattle.binder.proofs.QueryLaws.{placed-is}
 use Rattle.binder.proofs.SoundLaws.{set-sound, set-fits}
-use Rattle.demands.proofs.PassedSet.{prepared}
+use Rattle.demands.proofs.PassedSet.{prepared, sheet-prepared}
 use Rattle.demands.specs.LongerSet.{BoundBy}
 use Rattle.demands.specs.Refusals.{HostIn, HostKept}
 
@@ -136,7 +136,6 @@ answered size passed x l r arena e ne = (refl, cc)
 answered size (refused n k) x l r arena e ne = absurd (ne n k cc)
 
 pub host-kept : HostKept
-unfolding queryOf
 host-kept = record { bound = bind-host; asked = query-host }
   where
     bind-host :
@@ -154,6 +153,6 @@ host-kept = record { bound = bind-host; asked = query-host }
         → ((n k : ℕ) → r ≢ replies.the-variants.Refused n k)
         → HostIn (setOf sheet bytes) arena
     query-host setting sheet bytes size requester name r arena e ne =
-        let a = answered size _ _ _ r arena e ne in
-        let q = prepared sheet bytes setting size (first-passed (prepareVerdict setting sheet bytes size) _ (a .0) .0) in
+        let a = answered size _ _ _ r arena (sym (query-one setting sheet bytes size requester name) ∙ e) ne in
+        let q = prepared sheet bytes setting size (sheet-prepared sheet bytes setting size (first-passed (sheetVerdict setting sheet bytes size) _ (a .0) .0)) in
         rw (a .1) (placed-in setting size (setOf sheet bytes) (sheet-shape sheet bytes (length bytes) (q .sheet-ok)) (q .loads))

@@ -1,5 +1,5 @@
 -- Demand 3 for what `query` answers: a longer set gives the same answer. Assumes nothing.
-use mathlib.Core.Path.{_≡_, refl, ap, _∙_}
+use mathlib.Core.Path.{_≡_, refl, sym, ap, _∙_}
 use mathlib.Core.Logic.{_≢_}
 use mathlib.Core.List.{List, [], _∷_, _++_, map}
 use Prim.Native.Nat.{ℕ, _+_, _<_}
@@ -22,11 +22,11 @@ use Rattle.binder.specs.declared.Reply.the-variants.{Found}
 use Rattle.binder.specs.Setting.{Setting}
 use Rattle.binder.specs.Instance.{File, objectAt}
 use Rattle.binder.specs.Verdict.{Verdict, passed, refused, first}
-use Rattle.binder.specs.Bind.{filesOf, objectsOf, unless, prepareVerdict, replied, replyOf, repliedOf, queryOf}
-use Rattle.demands.proofs.PassedSet.{prepared}
+use Rattle.binder.specs.Bind.{filesOf, objectsOf, unless, prepareVerdict, replied, replyOf, repliedOf, askSet, queryOf}
+use Rattle.demands.proofs.PassedSet.{sheet-prepared}
 use Rattle.demands.specs.LongerSet.{PassesLoading, BoundBy, setObjects, LongerQuery}
 use Rattle.binder.proofs.LoadsSame.{loads-same}
-use Rattle.binder.proofs.OutcomeLaws.{first-passed, unless-passed, bound-passed}
+use Rattle.binder.proofs.OutcomeLaws.{first-passed, unless-passed, sheetVerdict, query-one, bound-passed}
 use Rattle.binder.proofs.FileLaws.{hostFile, fileOf, files-are, files-longer}
 use Rattle.binder.proofs.SoundLaws.{count-is}
 
@@ -71,15 +71,15 @@ loaded :
 unfolding prepareVerdict unless
 loaded setting sheet bytes size policy words arena report e =
     let p = bound-passed setting sheet bytes size policy words arena report e in
-    rw (p .sheet-ok, p .arena-ok, p .no-twin) (loads-same setting size (filesOf (setOf sheet bytes)) ∙ p .loads)
+    (p .sheet-ok, rw (p .arena-ok, p .no-twin) (loads-same setting size (filesOf (setOf sheet bytes)) ∙ p .loads))
 
 -- what a set that is not refused replies
 pub asked :
     (setting : Setting) (sheet bytes : List ℕ) (size requester : ℕ) (name : List ℕ) → PassesLoading setting sheet bytes size → requester < length (setOf sheet bytes)
     → queryOf setting sheet bytes size requester name
     ≡ replied (replyOf (resolve (setObjects setting sheet bytes) requester (byName name))) (tab size (placed (setObjects setting sheet bytes)))
-unfolding queryOf repliedOf unless
-asked setting sheet bytes size requester name v l = rw (v, lt-ltb requester (length (setOf sheet bytes)) l)
+unfolding queryOf askSet repliedOf unless
+asked setting sheet bytes size requester name v l = rw (v .0, v .1, lt-ltb requester (length (setOf sheet bytes)) l)
 
 same :
     (setting : Setting) (sheet bytes : List ℕ) (size requester : ℕ) (name : List ℕ) (k i a : ℕ) (arena : List ℕ)
@@ -87,12 +87,11 @@ same :
     → (f n : ℕ) (added : List ℕ) (size′ : ℕ) → PassesLoading setting (sheet ++ (f ∷ (n ∷ []))) (bytes ++ added) size′
     → queryOf setting (sheet ++ (f ∷ (n ∷ []))) (bytes ++ added) size′ requester name
     ≡ replied (Found k i a) (tab size′ (placed (setObjects setting (sheet ++ (f ∷ (n ∷ []))) (bytes ++ added))))
-unfolding queryOf
 same setting sheet bytes size requester name k i a arena e pos f n added size′ v =
     let os : List Input = setOf sheet bytes in
-    let p = found-passed size _ _ _ arena k i a e in
-    let q = first-passed (prepareVerdict setting sheet bytes size) (unless (ltb requester (length os)) 13 0) (p .0) in
-    let ok = prepared sheet bytes setting size (q .0) .sheet-ok in
+    let p = found-passed size _ _ _ arena k i a (sym (query-one setting sheet bytes size requester name) ∙ e) in
+    let q = first-passed (sheetVerdict setting sheet bytes size) (unless (ltb requester (length os)) 13 0) (p .0) in
+    let ok = sheet-prepared sheet bytes setting size (q .0) .0 in
     let l = ltb-true requester (length os) (unless-passed (ltb requester (length os)) 13 0 (q .1)) in
     let x = found-answer (resolve (setObjects setting sheet bytes) requester (byName name)) k i a (p .1) in
     let t = kept setting os (setOf (sheet ++ (f ∷ (n ∷ []))) (bytes ++ added)) (sheet-longer sheet bytes f n added ok) requester l name k (x .0) a

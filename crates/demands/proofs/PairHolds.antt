@@ -41,8 +41,8 @@ use Rattle.binder.specs.Verdict.{passed, verdict, refusalBy, wordsVerdict, entr
 use Rattle.binder.specs.Steps.Prepared.{loadFrom}
 use Rattle.binder.specs.Report.{reportWord, isAbsent, undefinedBy, entryReport, objectWords, orderWords}
 use Rattle.binder.specs.SetOrder.{neededObjects, setOrder}
-use Rattle.binder.specs.Bind.{filesOf, namesOf, objectsOf, unless, prepareVerdict, relocateVerdict, outcome, outcomeOf, bindIn, bindOf, queryOf, replied, replyOf}
-use Rattle.demands.specs.LongerSet.{BoundBy, setObjects}
+use Rattle.binder.specs.Bind.{filesOf, namesOf, objectsOf, unless, prepareVerdict, relocateVerdict, outcome, outcomeOf, bindIn, bindSet, bindOf, queryOf, replied, replyOf}
+use Rattle.demands.specs.LongerSet.{PassesLoading, BoundBy, setObjects}
 use Rattle.demands.specs.PairOfSheets.{wordBytes, hostFile, programFile, libraryFile, setting, sheet, bytes, longerSheet, longerBytes, PairOfSheets}
 use Rattle.demands.proofs.LongerQueryLaw.{asked}
 use Rattle.demands.proofs.LongerSetLaw.{longer-set}
@@ -179,13 +179,13 @@ T-loads =
     (load-next 0x5000 2 0x3000 0x1000 false (libraryFile 97) (libraryImage 97) libraryRecord _ a-reads (omega arith)
     (load-next 0x5000 3 0x4000 0x1000 false (libraryFile 98) (libraryImage 98) libraryRecord _ b-reads (omega arith) (load-end 0x5000 4 0x5000))))
 
-S-prepared : prepareVerdict setting sheet bytes 0x4000 ≡ passed
+S-prepared : PassesLoading setting sheet bytes 0x4000
 unfolding prepareVerdict unless arenaOk twinFrom some filesOf
-S-prepared = rw (sheet-ok, set-is) (loads-same setting 0x4000 files ∙ S-loads)
+S-prepared = (sheet-ok, rw set-is (loads-same setting 0x4000 files ∙ S-loads))
 
-T-prepared : prepareVerdict setting longerSheet longerBytes 0x5000 ≡ passed
+T-prepared : PassesLoading setting longerSheet longerBytes 0x5000
 unfolding prepareVerdict unless arenaOk twinFrom some filesOf sameBytes
-T-prepared = rw (longer-ok, longer-is) (loads-same setting 0x5000 longerFiles ∙ T-loads)
+T-prepared = (longer-ok, rw longer-is (loads-same setting 0x5000 longerFiles ∙ T-loads))
 
 -- ---- the order: no library needs another
 
@@ -268,11 +268,11 @@ T-words = rw (library-words T 2 97 a-reads, library-words T 3 98 b-reads, progra
 -- a set whose stages are known
 bind-passed :
     (sheet bytes : List ℕ) (size : ℕ) (os : List Input) (order ws : List ℕ) (A : Objs) → setOf sheet bytes ≡ os
-    → prepareVerdict setting sheet bytes size ≡ passed → objectsOf setting (filesOf os) ≡ A → setOrder (filesOf os) (namesOf os) ≡ order
+    → PassesLoading setting sheet bytes size → objectsOf setting (filesOf os) ≡ A → setOrder (filesOf os) (namesOf os) ≡ order
     → orderVerdict A (filesOf os) order ≡ passed → orderWords A (filesOf os) order ≡ ws → leb (length ws) 16 ≡ true
     → bindOf setting sheet bytes size Lenient 16 ≡ outcome Bound (tab size (bound A order)) (ws ++ replicate (16 - length ws) 0)
-unfolding bindOf bindIn relocateVerdict unless outcomeOf
-bind-passed sheet bytes size os order ws A s v o r e w l = rw (v, s, o, r, e, w, l)
+unfolding bindOf bindSet bindIn relocateVerdict unless outcomeOf
+bind-passed sheet bytes size os order ws A s v o r e w l = rw (v .0, v .1, s, o, r, e, w, l)
 
 S-bound : BoundBy setting sheet bytes 0x4000 Lenient 16 (tab 0x4000 (bound S (2 ∷ 1 ∷ []))) (0x50000002 ∷ 0x50000001 ∷ 0x60000001 ∷ replicate 13 0)
 unfolding filesOf namesOf
@@ -288,7 +288,7 @@ T-bound = bind-passed longerSheet longerBytes 0x5000 longerInputs (2 ∷ 3 ∷ 1
 
 query-passed :
     (sheet bytes : List ℕ) (size : ℕ) (os : List Input) (A : Objs) (name : List ℕ) (x : symbols.Answer) → setOf sheet bytes ≡ os
-    → prepareVerdict setting sheet bytes size ≡ passed → objectsOf setting (filesOf os) ≡ A → 1 < length os → resolve A 1 (byName name) ≡ x
+    → PassesLoading setting sheet bytes size → objectsOf setting (filesOf os) ≡ A → 1 < length os → resolve A 1 (byName name) ≡ x
     → queryOf setting sheet bytes size 1 name ≡ replied (replyOf x) (tab size (placed A))
 query-passed sheet bytes size os A name x s v o l e = asked setting sheet bytes size 1 name v (rw s l) ∙ rw (s, o, e)
 

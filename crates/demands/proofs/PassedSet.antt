@@ -17,8 +17,9 @@ use Rattle.binder.specs.Verdict.{passed, noFile, loadVerdict}
 use Rattle.binder.specs.Steps.Prepared.{loadFrom}
 use Rattle.binder.specs.SetOrder.{neededObjects, setOrder}
 use Rattle.binder.specs.Bind.{filesOf, namesOf, objectsOf, unless, prepareVerdict}
+use Rattle.demands.specs.LongerSet.{PassesLoading}
 use Rattle.binder.proofs.LoadsSame.{loads-same}
-use Rattle.binder.proofs.OutcomeLaws.{first-passed, unless-passed}
+use Rattle.binder.proofs.OutcomeLaws.{first-passed, unless-passed, sheetVerdict}
 use Rattle.binder.proofs.OrderIs.{names-length}
 
 module _ (sheet bytes : List ℕ) where
@@ -29,13 +30,18 @@ module _ (sheet bytes : List ℕ) where
     pub sheet-ok : sheetOk sheet (length bytes) ≡ true
     pub loads : loadFrom size 0 0 (filesOf os) ≡ passed
 
-  pub prepared : (setting : Setting) (size : ℕ) → prepareVerdict setting sheet bytes size ≡ passed → Loads size
+  pub prepared : (setting : Setting) (size : ℕ) → PassesLoading setting sheet bytes size → Loads size
   unfolding prepareVerdict
   prepared setting size v =
-      let a = first-passed (unless (sheetOk sheet (length bytes)) 1 0) _ v in
-      let b = first-passed (unless (arenaOk size (setting .address)) 2 0) _ (a .1) in
+      let b = first-passed (unless (arenaOk size (setting .address)) 2 0) _ (v .1) in
       let c = first-passed (unless (eqb (twinOf os) 0) 3 (twinOf os)) (loadVerdict (objectsOf setting (filesOf os)) size 0 (filesOf os)) (b .1) in
-      record { sheet-ok = unless-passed (sheetOk sheet (length bytes)) 1 0 (a .0); loads = sym (loads-same setting size (filesOf os)) ∙ c .1 }
+      record { sheet-ok = v .0; loads = sym (loads-same setting size (filesOf os)) ∙ c .1 }
+
+  -- of the one verdict
+  pub sheet-prepared : (setting : Setting) (size : ℕ) → sheetVerdict setting sheet bytes size ≡ passed → PassesLoading setting sheet bytes size
+  sheet-prepared setting size v =
+      let a = first-passed (unless (sheetOk sheet (length bytes)) 1 0) _ v in
+      (unless-passed (sheetOk sheet (length bytes)) 1 0 (a .0), a .1)
 
   -- its libraries have a name each, and are at most 62
   pub record Counts : Type 0 where

@@ -1,5 +1,5 @@
 -- Demand 1's statements on refusals hold. Assumes nothing.
-use mathlib.Core.Path.{_≡_, refl, ap, _∙_}
+use mathlib.Core.Path.{_≡_, refl, sym, ap, _∙_}
 use mathlib.Core.Bool.{true, false, true≢false}
 use mathlib.Core.Logic.{_⊎_, inl, inr, _≢_}
 use mathlib.Core.List.{List, _++_}
@@ -36,16 +36,14 @@ use Rattle.binder.specs.Bind.{
   outcome,
   outcomeOf,
   bindIn,
-  bindOf,
   replied,
   replyOf,
   repliedOf,
-  queryOf,
 }
-use Rattle.binder.proofs.OutcomeLaws.{first-passed, unless-passed, objectsIn, orderIn}
+use Rattle.binder.proofs.OutcomeLaws.{first-passed, unless-passed, objectsIn, orderIn, sheetVerdict, bind-one, query-one}
 use Rattle.binder.proofs.PrepareLaws.{files-length}
 use Rattle.demands.specs.Refusals.{withoutObject, ObjectOf, BindNumber, BindRefusals, QueryNumber, QueryRefusals, Answered, Lengths}
-use Rattle.demands.proofs.PassedSet.{prepared, counts, order-objects}
+use Rattle.demands.proofs.PassedSet.{sheet-prepared, counts, order-objects}
 use Rattle.demands.proofs.RefusalNumbers.{
   Meets,
   first-meets,
@@ -93,7 +91,7 @@ module _ (setting : Setting) (sheet bytes : List ℕ) (size : ℕ) where
 
   -- 1 to 12
   prepare-right :
-      (N : ℕ → Type 0) → ((n : ℕ) → 1 ≤ n → n ≤ 12 → N n) → Meets (Right N (length os)) (prepareVerdict setting sheet bytes size)
+      (N : ℕ → Type 0) → ((n : ℕ) → 1 ≤ n → n ≤ 12 → N n) → Meets (Right N (length os)) (sheetVerdict setting sheet bytes size)
   unfolding prepareVerdict
   prepare-right N ok =
       first-meets (Right N (length os)) (unless (sheetOk sheet (length bytes)) 1 0) _
@@ -152,18 +150,18 @@ module _ (setting : Setting) (sheet bytes : List ℕ) (size : ℕ) where
   bind-right :
       (policy : Policy) (words : ℕ)
       → Meets (Right BindNumber (length os))
-      (first (prepareVerdict setting sheet bytes size) (relocateVerdict (objectsIn setting os) (filesOf os) (orderIn os) policy words))
+      (first (sheetVerdict setting sheet bytes size) (relocateVerdict (objectsIn setting os) (filesOf os) (orderIn os) policy words))
   bind-right policy words =
-      first-then (Right BindNumber (length os)) (prepareVerdict setting sheet bytes size) _
+      first-then (Right BindNumber (length os)) (sheetVerdict setting sheet bytes size) _
       (prepare-right BindNumber (λ n l h. omega arith))
-      (λ v. relocate-right BindNumber (λ n l h. omega arith) (prepared sheet bytes setting size v .sheet-ok) policy words)
+      (λ v. relocate-right BindNumber (λ n l h. omega arith) (sheet-prepared sheet bytes setting size v .0) policy words)
 
   query-right :
       (requester : ℕ)
       → Meets (Right QueryNumber (length os))
-      (first (prepareVerdict setting sheet bytes size) (unless (ltb requester (length os)) 13 0))
+      (first (sheetVerdict setting sheet bytes size) (unless (ltb requester (length os)) 13 0))
   query-right requester =
-      first-then (Right QueryNumber (length os)) (prepareVerdict setting sheet bytes size) _
+      first-then (Right QueryNumber (length os)) (sheetVerdict setting sheet bytes size) _
       (prepare-right QueryNumber (λ n l h. omega arith))
       (λ v. unless-meets (Right QueryNumber (length os)) (ltb requester (length os)) 13 0
       (λ _. (omega arith, without (length os) 13 refl (λ e. omega arith) (λ l h. omega arith))))
@@ -182,10 +180,10 @@ refused-outcome P size words (refused i j) a r n k arena report m e =
     (rw (number, object) at m, cc, cc)
 
 pub bind-refusals : BindRefusals
-unfolding bindOf bindIn
+unfolding bindIn
 bind-refusals setting sheet bytes size policy words n k arena report e =
     let o = refused-outcome (Right BindNumber (length (setOf sheet bytes))) size words _ _ _ n k arena report
-    (bind-right setting sheet bytes size policy words) e in
+    (bind-right setting sheet bytes size policy words) (sym (bind-one setting sheet bytes size policy words) ∙ e) in
     record { number = o .0 .0; object = o .0 .1; arena-zeros = o .1; report-zeros = o .2 }
 
 refused-reply :
@@ -206,11 +204,11 @@ no-refusal absent n k e = let z : _≡_ {A = ℕ} 0 1 = cc in absurd (omega arit
 no-refusal (answer j s a) n k e = let z : _≡_ {A = ℕ} 0 1 = cc in absurd (omega arith)
 
 pub query-refusals : QueryRefusals
-unfolding queryOf
 query-refusals setting sheet bytes size requester name n k arena e =
     let o = refused-reply (Right QueryNumber (length (setOf sheet bytes))) size _ _ _ n k arena
     (query-right setting sheet bytes size requester)
-    (no-refusal (resolve (objectsIn setting (setOf sheet bytes)) requester (byName name))) e in
+    (no-refusal (resolve (objectsIn setting (setOf sheet bytes)) requester (byName name)))
+    (sym (query-one setting sheet bytes size requester name) ∙ e) in
     record { number = o .0 .0; object = o .0 .1; arena-zeros = o .1 }
 
 -- ---- every call
@@ -232,11 +230,11 @@ query-answered size passed x l = inl (l, refl)
 query-answered size (refused n k) x l = inr (n, k, refl)
 
 pub answered : Answered
-unfolding bindOf bindIn queryOf
+unfolding bindIn
 answered =
     record {
-      bind = λ setting sheet bytes size policy words. bind-answered size words _ _ _;
-      query = λ setting sheet bytes size requester name. query-answered size _ _ _;
+      bind = λ setting sheet bytes size policy words. rw (bind-one setting sheet bytes size policy words) (bind-answered size words _ _ _);
+      query = λ setting sheet bytes size requester name. rw (query-one setting sheet bytes size requester name) (query-answered size _ _ _);
     }
 
 -- ---- lengths
@@ -277,12 +275,13 @@ room S files order policy words v e =
     leb-true _ _ (unless-passed (leb (length (orderWords S files order)) words) 20 0 (c .1))
 
 pub lengths : Lengths
-unfolding bindOf bindIn queryOf
+unfolding bindIn
 lengths =
     record {
       bind = λ setting sheet bytes size policy words x arena report e.
           bind-lengths size words _ _ _ x arena report (length-tab size _)
           (room (objectsIn setting (setOf sheet bytes)) (filesOf (setOf sheet bytes)) (orderIn (setOf sheet bytes)) policy words
-          (prepareVerdict setting sheet bytes size)) e;
-      query = λ setting sheet bytes size requester name r arena e. query-length size _ _ _ r arena (length-tab size _) e;
+          (sheetVerdict setting sheet bytes size)) (sym (bind-one setting sheet bytes size policy words) ∙ e);
+      query = λ setting sheet bytes size requester name r arena e. 
+          query-length size _ _ _ r arena (length-tab size _) (sym (query-one setting sheet bytes size requester name) ∙ e);
     }

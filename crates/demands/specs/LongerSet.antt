@@ -1,10 +1,12 @@
 -- Demand 3 for `bind` and `query`, as one statement over sheets and bytes. Document 01, "A set and a longer one": "T's sheet is S's, then a
 -- word of kind 3 and one of kind 4; T's bytes are S's, then that file and that name"; "S and T may have arenas and reports of different
 -- lengths". `Kept` and `OnlyProgramCopies` are the model's (model/specs/Longer). Assumes nothing.
+use mathlib.Core.Bool.{true}
 use mathlib.Core.List.{List, [], _∷_, _++_}
 use mathlib.Core.Path.{_≡_}
 use mathlib.Core.Logic.{_≢_}
 use Prim.Native.Nat.{ℕ}
+use lib.ListN.{length}
 use Rattle.words.specs.Memory.{mem, tab}
 use Rattle.model.specs.Objects.{Objs}
 use Rattle.model.specs.Relocation.{placed}
@@ -12,7 +14,7 @@ use Rattle.model.specs.Longer.{OnlyProgramCopies, Kept}
 use Rattle.binder.specs.declared.Policy.{Policy}
 use Rattle.binder.specs.declared.Answer.the-variants.{Bound}
 use Rattle.binder.specs.declared.Reply.the-variants.{Found}
-use Rattle.sheet.specs.Sheet.{setOf}
+use Rattle.sheet.specs.Sheet.{sheetOk, setOf}
 use Rattle.binder.specs.Setting.{Setting}
 use Rattle.binder.specs.Verdict.{passed}
 use Rattle.binder.specs.Bind.{filesOf, objectsOf, prepareVerdict, bindOf, outcome, queryOf, replied}
@@ -42,7 +44,8 @@ LongerSet =
 
 -- the set meets none of refusals 1 to 12 in an arena of `size` bytes: only 13 is left to a query
 abbrev pub PassesLoading : Setting → List ℕ → List ℕ → ℕ → Type 0
-PassesLoading setting sheet bytes size = prepareVerdict setting sheet bytes size ≡ passed
+PassesLoading setting sheet bytes size =
+    (sheetOk sheet (length bytes) ≡ true) × (prepareVerdict setting (setOf sheet bytes) size ≡ passed)
 
 -- demand 3's clause on names, for what `query` answers; document 01: "An answer is what a lookup yields". S and T are asked in arenas of any
 -- sizes in which they meet none of refusals 1 to 12. They need not be bound; a set that is bound can be asked in the arena of that call.

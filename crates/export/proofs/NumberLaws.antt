@@ -1,5 +1,5 @@
 -- No refusal of `bind` or `query` has the number 0. Assumes nothing.
-use mathlib.Core.Path.{_≡_, refl, sym}
+use mathlib.Core.Path.{_≡_, refl, sym, _∙_}
 use mathlib.Core.Bool.{Bool, true, false}
 use mathlib.Core.List.{List, [], _∷_}
 use Prim.Native.Nat.{ℕ, _+_, _-_, _<_}
@@ -25,8 +25,8 @@ use Rattle.binder.specs.Verdict as verdicts
 use Rattle.binder.specs.Verdict.{Verdict, passed, refused, first, verdict, noFile, loadVerdict, wordRefusal, wordsVerdict, entryRefusal, entriesVerdict, objectVerdict, orderVerdict}
 use Rattle.binder.specs.Report.{orderWords, firstUndefined}
 use Rattle.binder.specs.Bind as binding
-use Rattle.binder.specs.Bind.{filesOf, objectsOf, unless, prepareVerdict, allows, relocateVerdict, outcome, outcomeOf, replied, repliedOf, replyOf}
-use Rattle.binder.proofs.OutcomeLaws.{refused-not}
+use Rattle.binder.specs.Bind.{filesOf, objectsOf, unless, allows, relocateVerdict, outcome, outcomeOf, replied, repliedOf, replyOf}
+use Rattle.binder.proofs.OutcomeLaws.{refused-not, sheetVerdict, bind-one, query-one}
 use Rattle.export.specs.Calls.{ZeroTells}
 
 abbrev Numbered : Verdict → Type 0
@@ -92,7 +92,7 @@ of-relocate S files order policy words =
     either-one (orderVerdict S files order) (first (unless (allows policy u) 19 u) (unless room 20 0)) (of-order S files order)
     (either-one (unless (allows policy u) 19 u) (unless room 20 0) (of-test (allows policy u) 19 u (omega arith)) (of-test room 20 0 (omega arith)))
 
-of-prepare : (setting : Setting) (sheet bytes : List ℕ) (size : ℕ) → Numbered (prepareVerdict setting sheet bytes size)
+of-prepare : (setting : Setting) (sheet bytes : List ℕ) (size : ℕ) → Numbered (sheetVerdict setting sheet bytes size)
 unfolding binding.prepareVerdict
 of-prepare setting sheet bytes size =
     let one = sheetOk sheet (length bytes) in
@@ -125,13 +125,14 @@ of-replied size passed s a arena n k h e = not-refused s a arena n k e
 of-replied size (refused m j) s a arena n k h e = h n k cc
 
 pub zero-tells : ZeroTells
-unfolding binding.bindOf binding.bindIn binding.queryOf
+unfolding binding.bindIn
 zero-tells = (
   λ setting sheet bytes size policy words n k arena report e.
       of-outcome size words _ _ _ arena report n k
-      (either-one (prepareVerdict setting sheet bytes size) _ (of-prepare setting sheet bytes size) (of-relocate _ _ _ policy words)) e,
+      (either-one (sheetVerdict setting sheet bytes size) _ (of-prepare setting sheet bytes size) (of-relocate _ _ _ policy words))
+      (sym (bind-one setting sheet bytes size policy words) ∙ e),
   λ setting sheet bytes size requester name n k arena e.
       of-replied size _ (resolve (objectsOf setting (filesOf (setOf sheet bytes))) requester (symbols.byName name)) _ arena n k
-      (either-one (prepareVerdict setting sheet bytes size) (unless (ltb requester (length (setOf sheet bytes))) 13 0) (of-prepare setting sheet bytes size)
-      (of-test (ltb requester (length (setOf sheet bytes))) 13 0 (omega arith))) e,
+      (either-one (sheetVerdict setting sheet bytes size) (unless (ltb requester (length (setOf sheet bytes))) 13 0) (of-prepare setting sheet bytes size)
+      (of-test (ltb requester (length (setOf sheet bytes))) 13 0 (omega arith))) (sym (query-one setting sheet bytes size requester name) ∙ e),
 )

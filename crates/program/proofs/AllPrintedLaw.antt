@@ -21,8 +21,8 @@ use Rattle.binder.specs.Verdict.{Verdict, passed, refused, first, orderVerdict}
 use Rattle.binder.specs.Report.{orderWords, firstUndefined}
 use Rattle.binder.specs.SetOrder.{setOrder}
 use Rattle.binder.specs.Bind as binding
-use Rattle.binder.specs.Bind.{filesOf, namesOf, objectsOf, unless, prepareVerdict, allows, relocateVerdict, Outcome, outcome, outcomeOf, bindOf}
-use Rattle.binder.proofs.OutcomeLaws.{first-passed, unless-passed}
+use Rattle.binder.specs.Bind.{filesOf, namesOf, objectsOf, unless, allows, relocateVerdict, Outcome, outcome, outcomeOf, bindOf}
+use Rattle.binder.proofs.OutcomeLaws.{first-passed, unless-passed, sheetVerdict, bind-one}
 use Rattle.program.specs.Program.{arenaBytes, arenaAddress, reportWords, countIn, wordIn, startIn, whole, answerTo, programOf, digits, widthFrom, decimalOf, hexLine, hexLines, refusedText, objectText, refusalLine, linesOf, written, print, AllPrinted}
 use Rattle.program.proofs.PrintLaws.{digits-length, width-most, next-place}
 
@@ -41,16 +41,17 @@ of-outcome size words passed arena report h =
 
 of-bind :
     (setting : Setting) (sheet bytes : List ℕ) (size : ℕ) (policy : Policy) (words : ℕ) → length (reportIn (bindOf setting sheet bytes size policy words)) ≡ words
-unfolding binding.bindOf binding.bindIn binding.relocateVerdict
+unfolding binding.bindIn binding.relocateVerdict
 of-bind setting sheet bytes size policy words =
     let files = filesOf (setOf sheet bytes) in
     let S = objectsOf setting files in
     let order = setOrder files (namesOf (setOf sheet bytes)) in
     let room = leb (length (orderWords S files order)) words in
     let last = first (unless (allows policy (firstUndefined S files order)) 19 (firstUndefined S files order)) (unless room 20 0) in
-    of-outcome size words (first (prepareVerdict setting sheet bytes size) (relocateVerdict S files order policy words)) _ (orderWords S files order)
+    ap (λ (o : Outcome). length (reportIn o)) (bind-one setting sheet bytes size policy words)
+    ∙ of-outcome size words (first (sheetVerdict setting sheet bytes size) (relocateVerdict S files order policy words)) _ (orderWords S files order)
     (λ e.
-    let p = first-passed (prepareVerdict setting sheet bytes size) (relocateVerdict S files order policy words) e in
+    let p = first-passed (sheetVerdict setting sheet bytes size) (relocateVerdict S files order policy words) e in
     let q = first-passed (orderVerdict S files order) last (p .1) in
     let r = first-passed (unless (allows policy (firstUndefined S files order)) 19 (firstUndefined S files order)) (unless room 20 0) (q .1) in
     leb-true (length (orderWords S files order)) words (unless-passed room 20 0 (r .1)))

@@ -16,7 +16,7 @@ use Rattle.binder.specs.declared.Policy.the-variants.{Lenient}
 use Rattle.binder.specs.declared.Answer.{Answer}
 use Rattle.binder.specs.declared.Answer.the-variants.{Bound, Refused}
 use Rattle.binder.specs.Setting.{settingAt}
-use Rattle.binder.specs.Bind.{Outcome, outcome, bindOf}
+use Rattle.binder.specs.Bind.{Outcome, outcome, refusedBind, bindOf}
 
 -- ---- the numbers
 
@@ -53,7 +53,7 @@ whole input = both (leb (startIn input) (length input)) (leb (length input) inpu
 unfoldable pub answerTo : List ℕ → ℕ → ℕ → Outcome
 answerTo input size words =
     pick (whole input) (bindOf (settingAt arenaAddress) (tab (countIn input) (wordIn input)) (drop (startIn input) input) size Lenient words)
-    (outcome (Refused 1 0) (replicate size 0) (replicate words 0))
+    (refusedBind size words 1 0)
 
 unfoldable pub programOf : List ℕ → Outcome
 programOf input = answerTo input arenaBytes reportWords

@@ -1,20 +1,19 @@
--- Preparing a set: refusals 1 to 12, and its objects loaded one after another, in the code's order. Document 01, "Refused, in checking order";
+-- Preparing a set: refusals 2 to 12, and its objects loaded one after another, in the code's order. Document 01, "Refused, in checking order";
 -- "Placed bytes": "Host at arena offset 0, then each object at the next free offset". `Bind` has what it comes to. Assumes nothing.
 use mathlib.Core.Bool.{Bool}
 use mathlib.Core.List.{List, [], _∷_}
 use mathlib.Core.Path.{_≡_}
 use Prim.Native.Nat.{ℕ, _+_, _-_, _≤_}
-use lib.Dec.{eqb, leb}
 use lib.ListN.{length}
 use Rattle.words.specs.Memory.{Mem, mem, write}
 use Rattle.object.specs.Placed.{objectSpan, objectBytes}
 use Rattle.object.specs.Record.{viewOf}
 use Rattle.object.specs.Loaded.{objectRefusal}
-use Rattle.sheet.specs.Sheet.{Input, arenaOk, twinOf}
+use Rattle.sheet.specs.Sheet.{Input}
 use Rattle.binder.specs.Setting.{Setting}
 use Rattle.binder.specs.Instance.{File, fileRecord}
 use Rattle.binder.specs.Verdict.{Verdict, passed, refused, first, verdict}
-use Rattle.binder.specs.Bind.{filesOf, unless}
+use Rattle.binder.specs.Bind.{filesOf, prepareVerdict}
 use Rattle.scope.specs.Steps.Seats.{seatAt, countIn, addressIn, FilteredBelow, Filtered}
 use Rattle.scope.specs.declared.seats.Seat.{Seat}
 use Rattle.binder.specs.declared.prepare.Met.{Met}
@@ -67,17 +66,9 @@ pub record LoadedFiles (files : List File) (before after seats : List ℕ) (r : 
   pub table : r ≡ Passed → Seated seats 0 0 files
   pub filtered : r ≡ Passed → FilteredBelow seats (length files)
 
--- 1 to 12 of the objects that a table of parts names. A sheet that is not refused has two at least; a refused one is handed on as none.
-unfoldable pub setVerdict : Setting → List Input → ℕ → Verdict
-setVerdict setting os size =
-    first (unless (leb 2 (length os)) 1 0)
-    (first (unless (arenaOk size (setting .address)) 2 0)
-    (first (unless (eqb (twinOf os) 0) 3 (twinOf os))
-    (loadFrom size 0 0 (filesOf os))))
-
--- what preparing them leaves
+-- what preparing a set leaves
 pub record Prepared (setting : Setting) (os : List Input) (before after seats : List ℕ) (r : Met) : Type 0 where
-  pub met : metBy r ≡ setVerdict setting os (length before)
+  pub met : metBy r ≡ prepareVerdict setting os (length before)
   pub arena : r ≡ Passed → mem after ≡ placeFiles (filesOf os) 0 (λ _. 0)
   pub table : r ≡ Passed → Seated seats 0 0 (filesOf os)
   pub filtered : r ≡ Passed → Filtered seats

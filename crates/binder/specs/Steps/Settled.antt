@@ -8,9 +8,8 @@ use lib.ListN.{length, replicate}
 use Rattle.sheet.specs.Sheet.{Input}
 use Rattle.binder.specs.Setting.{Setting}
 use Rattle.binder.specs.Verdict.{Verdict, first, verdict}
-use Rattle.binder.specs.SetOrder.{setOrder}
-use Rattle.binder.specs.Bind.{filesOf, namesOf, unless, allows, Outcome, outcome, bindIn}
-use Rattle.binder.specs.Steps.Prepared.{metBy, setVerdict}
+use Rattle.binder.specs.Bind.{unless, allows, Outcome, outcome, bindSet}
+use Rattle.binder.specs.Steps.Prepared.{metBy}
 use Rattle.binder.specs.Steps.Relocating.{left, started, runOrder}
 use Rattle.binder.specs.declared.Policy.{Policy}
 use Rattle.binder.specs.declared.Answer as answers
@@ -38,11 +37,6 @@ pub record Relocated
   pub leaves : left progress arena′ report′ ≡ runOrder table os order (left started arena report)
   pub met : metBy m ≡ endsBy policy progress
 
--- the objects that a table of parts names, bound in the order of the set
-unfoldable pub bindSet : Setting → List Input → ℕ → Policy → ℕ → Outcome
-bindSet setting os size policy words =
-    bindIn setting (setVerdict setting os size) (filesOf os) (setOrder (filesOf os) (namesOf os)) size policy words
-
--- what is left of them: settled, it is `bindSet`
+-- what is left of a set: settled, it is `bindSet`
 abbrev pub BoundSet : Setting → List Input → ℕ → Policy → ℕ → List ℕ → List ℕ → Met → Type 0
 BoundSet setting os size policy words arena′ report′ m = settledOf m arena′ report′ ≡ bindSet setting os size policy words

@@ -1,10 +1,8 @@
 -- `binder::bind::bind_set` meets its contract. Assumes nothing.
 use mathlib.Core.Path.{refl, _∙_}
-use native.Mathlib.Omega.{arith}
 use denote.Ref.{now}
 use lib.ListN.{length}
 use Rattle.sheet.specs.Steps.Parts.{inputsIn}
-use Rattle.binder.proofs.PrepareLaws.{passes}
 use Rattle.binder.proofs.BindIs.{prepare-refused, bind-is}
 use Rattle.binder.specs.Setting.{settingAt}
 use borrow.Author.Needs.{needs}
@@ -23,8 +21,7 @@ returns c =
 
 order-of-requires : tie.Need-order-of-requires
 order-of-requires c κs =
-    let a = c .before .before .before .before .before .before .before .before .before .before .before .before .before .args in
-    (omega (arith, c .before .before .before .before .before .before .before .before .before .before .before .before .before .pre .1, passes _ (inputsIn (now (a .bytes)) (a .parts)) _ _ _ (c .before .before .before .before .before .before .before .prepare .result) (c .before .before .before .before .before .before .before .prepare .ensures) (c .before .before .enum-told .given .1) .two), c .before .before .before .before .before .before .before .before .before .before .before .before .before .pre .0)
+    (c .before .before .before .before .before .before .before .before .before .before .before .before .before .pre .0, c .before .before .before .before .before .before .before .before .before .before .before .before .before .pre .1)
 
 bind-in-requires : tie.Need-bind-in-requires
 bind-in-requires c κs =
@@ -43,8 +40,8 @@ returns-2 : tie.Need-returns-2
 returns-2 c =
     let a = c .before .before .before .before .before .before .before .before .before .before .before .before .before .before .before .before .before .before .before .before .before .before .args in
     bind-is (settingAt (a .address)) (inputsIn (now (a .bytes)) (a .parts)) (a .parts .count) (now (a .arena)) (c .before .before .before .before .before .before .before .before .before .before .before .before .before .before .before .before .prepare .last .1 .1 .0) (c .before .before .before .before .before .before .before .before .before .before .before .before .before .before .before .before .prepare .last .1 .1 .1 .1 .0)
-    (c .before .before .before .before .before .before .before .before .before .before .before .before .before .before .before .before .prepare .result) (c .before .before .before .before .before .before .before .before .before .before .before .before .before .before .before .before .before .before .before .before .before .before .pre .1) (c .before .before .before .before .before .before .before .before .before .before .before .before .before .before .before .before .prepare .kept .1 .1 .0) (c .before .before .before .before .before .before .before .before .before .before .before .before .before .before .before .before .prepare .ensures) (c .before .before .before .before .before .before .before .before .before .before .before .enum-told .given .1) (c .before .before .before .before .before .before .before .before .order-of .result) (c .before .before .before .before .before .before .before .before .order-of .ensures)
-    (a .policy) (now (a .report)) (c .before .before .before .before .before .before .before .before .before .before .before .before .before .before .before .before .before .before .before .before .before .before .pre .2) _ _ _ (c .before .before .before .before .bind-in .ensures)
+    (c .before .before .before .before .before .before .before .before .before .before .before .before .before .before .before .before .prepare .result) (c .before .before .before .before .before .before .before .before .before .before .before .before .before .before .before .before .before .before .before .before .before .before .pre .0) (c .before .before .before .before .before .before .before .before .before .before .before .before .before .before .before .before .before .before .before .before .before .before .pre .2) (c .before .before .before .before .before .before .before .before .before .before .before .before .before .before .before .before .prepare .kept .1 .1 .0) (c .before .before .before .before .before .before .before .before .before .before .before .before .before .before .before .before .prepare .ensures) (c .before .before .before .before .before .before .before .before .before .before .before .enum-told .given .1) (c .before .before .before .before .before .before .before .before .order-of .result) (c .before .before .before .before .before .before .before .before .order-of .ensures)
+    (a .policy) (now (a .report)) (c .before .before .before .before .before .before .before .before .before .before .before .before .before .before .before .before .before .before .before .before .before .before .pre .3) _ _ _ (c .before .before .before .before .bind-in .ensures)
 
 pub bind-set-spec : {M : Type 1} → statement M
 bind-set-spec =

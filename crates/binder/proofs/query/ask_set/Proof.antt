@@ -35,7 +35,7 @@ returns-2 c =
     let a = c .before .before .before .before .before .before .before .before .before .before .before .before .before .before .before .before .args in
     c .before .before .refuse2 .ensures
     ∙ (ap (λ (n : ℕ). replied (Refused 13 0) (replicate n 0)) (c .before .before .before .before .before .before .before .before .before .before .prepare .kept .1 .1 .0)
-    ∙ sym (ask-thirteen (settingAt (a .address)) (inputsIn (now (a .bytes)) (a .parts)) (length (now (a .arena))) (a .requester) (now (a .name)) (c .before .before .before .before .before .before .before .before .before .before .prepare .result) (c .before .before .before .before .before .before .before .before .before .before .prepare .ensures .met) (c .before .before .before .before .before .enum-told .given .1) (omega (arith, c .before .before .before .before .before .before .before .before .before .before .before .before .before .before .before .before .pre .1, c .before .before .before .before .if1 .taken))))
+    ∙ sym (ask-thirteen (settingAt (a .address)) (inputsIn (now (a .bytes)) (a .parts)) (length (now (a .arena))) (a .requester) (now (a .name)) (c .before .before .before .before .before .before .before .before .before .before .prepare .result) (c .before .before .before .before .before .before .before .before .before .before .prepare .ensures .met) (c .before .before .before .before .before .enum-told .given .1) (omega (arith, c .before .before .before .before .before .before .before .before .before .before .before .before .before .before .before .before .pre .2, c .before .before .before .before .if1 .taken))))
 
 resolve-requires : tie.Need-resolve-requires
 resolve-requires c κs =
@@ -50,7 +50,7 @@ returns-3 : tie.Need-returns-3
 returns-3 c =
     let a = c .before .before .before .before .before .before .before .before .before .before .before .before .before .before .before .before .before .args in
     asked (settingAt (a .address)) (inputsIn (now (a .bytes)) (a .parts)) (a .parts .count) (now (a .arena)) (c .before .before .before .before .before .before .before .before .before .before .before .prepare .last .1 .1 .0) (c .before .before .before .before .before .before .before .before .before .before .before .prepare .last .1 .1 .1 .1 .0) (a .requester) (now (a .name))
-    (c .before .before .before .before .before .before .before .before .before .before .before .prepare .result) (c .before .before .before .before .before .before .before .before .before .before .before .before .before .before .before .before .before .pre .1) (c .before .before .before .before .before .before .before .before .before .before .before .prepare .ensures) (c .before .before .before .before .before .before .enum-told .given .1) (omega (arith, c .before .before .before .before .before .if1 .left)) (c .before .before .before .before .before .before .before .before .before .before .before .prepare .kept .1 .1 .0) (c .reply-of .result)
+    (c .before .before .before .before .before .before .before .before .before .before .before .prepare .result) (c .before .before .before .before .before .before .before .before .before .before .before .before .before .before .before .before .before .pre .0) (c .before .before .before .before .before .before .before .before .before .before .before .before .before .before .before .before .before .pre .2) (c .before .before .before .before .before .before .before .before .before .before .before .prepare .ensures) (c .before .before .before .before .before .before .enum-told .given .1) (omega (arith, c .before .before .before .before .before .if1 .left)) (c .before .before .before .before .before .before .before .before .before .before .before .prepare .kept .1 .1 .0) (c .reply-of .result)
     (c .reply-of .ensures ∙ ap (λ (s : Scoped). replyOf (scopedOf s)) (rw (c .before .before .before .before .gnu-hash .ensures) at (c .before .resolve .ensures)))
 
 pub ask-set-spec : {M : Type 1} → statement M
