@@ -11,6 +11,7 @@ use Rattle.words.specs.Choice.{pick}
 use Rattle.words.specs.Memory.{tab}
 use Rattle.model.specs.Objects.{Objs}
 use Rattle.model.specs.Relocation.{placed, bound}
+use Rattle.model.specs.Symbols.{byName}
 use Rattle.model.specs.Scope.{resolve}
 use Rattle.binder.specs.declared.Policy.{Policy}
 use Rattle.binder.specs.declared.Answer.the-variants.{Bound}
@@ -87,7 +88,7 @@ pub query-one :
     (setting : Setting) (sheet bytes : List ℕ) (size requester : ℕ) (name : List ℕ)
     → queryOf setting sheet bytes size requester name
     ≡ repliedOf size (first (sheetVerdict setting sheet bytes size) (unless (ltb requester (length (setOf sheet bytes))) 13 0))
-    (replyOf (resolve (objectsIn setting (setOf sheet bytes)) requester name)) (tab size (placed (objectsIn setting (setOf sheet bytes))))
+    (replyOf (resolve (objectsIn setting (setOf sheet bytes)) requester (byName name))) (tab size (placed (objectsIn setting (setOf sheet bytes))))
 unfolding queryOf askSet repliedOf unless
 query-one setting sheet bytes size requester name = go (sheetOk sheet (length bytes))
   where

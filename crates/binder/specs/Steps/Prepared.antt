@@ -73,4 +73,4 @@ pub record Prepared (setting : Setting) (os : List Input) (before after seats : 
   pub table : r ≡ Passed → Seated seats 0 0 (filesOf os)
   pub filtered : r ≡ Passed → Filtered seats
   pub counted : r ≡ Passed → countIn seats ≡ length os
-  pub addressed : r ≡ Passed → addressIn seats ≡ address
+  pub addressed : r ≡ Passed → addressIn seats ≡ setting .address

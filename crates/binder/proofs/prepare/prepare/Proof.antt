@@ -1,5 +1,6 @@
 -- `binder::prepare::prepare` meets its contract. Assumes nothing.
 use mathlib.Core.Path.{sym, _∙_}
+use native.Mathlib.Omega.{arith}
 use borrow.Author.Tests.{not-true, not-false}
 use denote.Ref.{now}
 use Rattle.sheet.specs.Steps.Parts.{inputsIn}

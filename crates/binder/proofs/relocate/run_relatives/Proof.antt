@@ -28,7 +28,7 @@ run-relatives-spec =
     tie.close
     (tie.spec
     (λ c κs. search needs)
-    (λ c. (omega arith, c .before .before .before .pre, λ _ _ _ r _ _ _ _ _. (refl, kept-none _ r _)))
+    (λ c. (omega arith, c .before .before .before .pre, λ _ r _ _ _ _ _. (refl, kept-none _ r _)))
     (λ c. let g = c .before .in-reach .ensures (not-false _ (c .if1 .left)) in search (needs, g .span))
     (λ c. let g = c .before .in-reach .ensures (not-false _ (c .if1 .left)) in search (needs, g .span))
     (λ c. search needs)
