@@ -282,6 +282,6 @@ lengths =
           bind-lengths size words _ _ _ x arena report (length-tab size _)
           (room (objectsIn setting (setOf sheet bytes)) (filesOf (setOf sheet bytes)) (orderIn (setOf sheet bytes)) policy words
           (sheetVerdict setting sheet bytes size)) (sym (bind-one setting sheet bytes size policy words) ∙ e);
-      query = λ setting sheet bytes size requester name r arena e. 
+      query = λ setting sheet bytes size requester name r arena e.
           query-length size _ _ _ r arena (length-tab size _) (sym (query-one setting sheet bytes size requester name) ∙ e);
     }
