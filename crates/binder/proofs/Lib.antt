@@ -31,4 +31,3 @@ pub mod SymbolicLaws
 pub mod BitLaws
 pub mod BindIs
 pub mod LoadsSame
-pub mod TextsBefore
