@@ -15,7 +15,8 @@ use Rattle.object.specs.Placed.{objectSpan}
 use Rattle.object.specs.declared.hash_tables.Definition.{Definition}
 use Rattle.binder.specs.Instance.{File, fileImage, fileRecord, symOf, objectAt}
 use Rattle.binder.specs.Setting.{Setting}
-use Rattle.binder.specs.Verdict.{passed, noFile, copyOk}
+use Rattle.binder.specs.Verdict.{noFile, copyOk}
+use Rattle.binder.specs.declared.Verdict.the-variants.{Passed}
 use Rattle.scope.specs.Steps.Seats.{seatAt}
 use Rattle.binder.specs.Steps.Prepared.{loadFrom, seatOf, placeFiles, Seated}
 use Rattle.scope.specs.Steps.ScopeCode.{imageAt}
@@ -38,7 +39,7 @@ module _ (setting : Setting) (size : ℕ) (table : List ℕ) (h p : File) (fs : 
   -- refusals 2 and 4 to 12 were passed, and the table has the seats
   pub record LoadedSet : Type 0 where
     pub others : (k : ℕ) → 1 ≤ k → k < count set → fileAt k .host ≡ false
-    pub loads : loadFrom size 0 0 files ≡ passed
+    pub loads : loadFrom size 0 0 files ≡ Passed
     pub seats : Seated table 0 0 files
     pub end : address + size ≤ 2 ^ 63
     pub small : size ≤ 2 ^ 28
