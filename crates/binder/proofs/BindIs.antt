@@ -20,18 +20,18 @@ use Rattle.sheet.specs.declared.sheet.Parts.{Parts}
 use Rattle.sheet.proofs.PartLaws.{handed-in}
 use Rattle.binder.specs.Setting.{Setting}
 use Rattle.binder.specs.Instance.{File, objectAt}
-use Rattle.binder.specs.Verdict.{Verdict, noFile, passed, refused, orderVerdict}
+use Rattle.binder.specs.Verdict.{noFile, orderVerdict}
+use Rattle.binder.specs.declared.Verdict.{Verdict}
+use Rattle.binder.specs.declared.Verdict.the-variants.{Passed, Refused}
 use Rattle.binder.specs.Report.{orderWords, firstUndefined}
 use Rattle.binder.specs.SetOrder.{setOrder}
 use Rattle.binder.specs.Bind.{filesOf, namesOf, objectsOf, unless, allows, prepareVerdict, relocateVerdict, refusedBind, outcomeOf, bindIn, bindSet, bindOf}
-use Rattle.binder.specs.Steps.Prepared.{metBy, Prepared}
+use Rattle.binder.specs.Steps.Prepared.{Prepared}
 use Rattle.binder.specs.Steps.Settled.{endsBy, settledOf, Relocated, BoundSet}
 use Rattle.binder.specs.Steps.Needed.{Arranged}
 use Rattle.model.specs.Order.{OnceEach}
 use Rattle.binder.proofs.OrderIs.{order-is, names-length}
 use Rattle.binder.specs.declared.Policy.{Policy}
-use Rattle.binder.specs.declared.prepare.Met.{Met}
-use Rattle.binder.specs.declared.prepare.Met.the-variants.{Passed, Refused}
 use Rattle.binder.specs.declared.order.Order.{Order}
 use Rattle.binder.specs.declared.report.Progress.{Progress}
 use Rattle.binder.proofs.OutcomeLaws.{refused-not, first-passed, unless-passed}
@@ -50,17 +50,17 @@ use Rattle.binder.proofs.NeedsIs.{order-loaded}
 
 -- the refusal that was met leaves zeros; none leaves the arena and the report
 pub settled :
-    (size words : ℕ) (m : Met) (arena report arena′ report′ : List ℕ) → length arena′ ≡ size → length report′ ≡ words
-    → (metBy m ≡ passed → (arena′ ≡ arena) × (report′ ≡ report ++ replicate (words - length report) 0))
-    → settledOf m arena′ report′ ≡ outcomeOf size words (metBy m) arena report
+    (size words : ℕ) (m : Verdict) (arena report arena′ report′ : List ℕ) → length arena′ ≡ size → length report′ ≡ words
+    → (m ≡ Passed → (arena′ ≡ arena) × (report′ ≡ report ++ replicate (words - length report) 0))
+    → settledOf m arena′ report′ ≡ outcomeOf size words m arena report
 unfolding settledOf outcomeOf
 settled size words Passed arena report arena′ report′ la lr same = let s = same refl in rw (s .0, s .1)
 settled size words (Refused n k) arena report arena′ report′ la lr same = cc
 
 -- the same where the refusal is known
 pub settled-by :
-    (size words : ℕ) (m : Met) (v : Verdict) (arena report arena′ report′ : List ℕ) → metBy m ≡ v → length arena′ ≡ size → length report′ ≡ words
-    → (v ≡ passed → (arena′ ≡ arena) × (report′ ≡ report ++ replicate (words - length report) 0))
+    (size words : ℕ) (m v : Verdict) (arena report arena′ report′ : List ℕ) → m ≡ v → length arena′ ≡ size → length report′ ≡ words
+    → (v ≡ Passed → (arena′ ≡ arena) × (report′ ≡ report ++ replicate (words - length report) 0))
     → settledOf m arena′ report′ ≡ outcomeOf size words v arena report
 settled-by size words m v arena report arena′ report′ e la lr same =
     subst
@@ -104,12 +104,12 @@ module _ (setting : Setting) (size : ℕ) (table : List ℕ) (hf pf : File) (fs 
     ends = go (orderVerdict S files order) refl
       where
         go : (v : Verdict) → orderVerdict S files order ≡ v → endsBy policy p ≡ relocateVerdict S files order policy words
-        go passed q =
+        go Passed q =
             let g = ended .bound-is q .2 in
             rw (ended .verdict-is, q, g .undefined, g .full, not-full (length (orderWords S files order)) words)
-        go (refused n k) q = rw (ended .verdict-is, q)
+        go (Refused n k) q = rw (ended .verdict-is, q)
 
-    room : relocateVerdict S files order policy words ≡ passed → (orderVerdict S files order ≡ passed) × (length (orderWords S files order) ≤ words)
+    room : relocateVerdict S files order policy words ≡ Passed → (orderVerdict S files order ≡ Passed) × (length (orderWords S files order) ≤ words)
     unfolding relocateVerdict
     room e =
         let a = first-passed (orderVerdict S files order) _ e in
@@ -117,7 +117,7 @@ module _ (setting : Setting) (size : ℕ) (table : List ℕ) (hf pf : File) (fs 
         (a .0, leb-true _ _ (unless-passed (leb (length (orderWords S files order)) words) 20 0 (b .1)))
 
     pub relocated-set :
-        (m : Met) → metBy m ≡ endsBy policy p → settledOf m a report
+        (m : Verdict) → m ≡ endsBy policy p → settledOf m a report
         ≡ outcomeOf size words (relocateVerdict S files order policy words) (tab size (bound S order)) (orderWords S files order)
     relocated-set m e =
         settled-by size words m _ _ _ a report (e ∙ ends) (ended .lengths .0) (ended .lengths .1)
@@ -142,15 +142,15 @@ bytes-of (o ∷ ls) (suc j) l = bytes-of ls j (omega arith)
 
 -- refusals 2 to 12
 pub prepare-refused :
-    (setting : Setting) (os : List Input) (size : ℕ) (policy : Policy) (words : ℕ) (m : Met) (a report : List ℕ) → metBy m ≡ prepareVerdict setting os size
+    (setting : Setting) (os : List Input) (size : ℕ) (policy : Policy) (words : ℕ) (m : Verdict) (a report : List ℕ) → m ≡ prepareVerdict setting os size
     → (n k : ℕ) → m ≡ Refused n k → length a ≡ size → length report ≡ words → BoundSet setting os size policy words a report m
 unfolding bindSet bindIn
 prepare-refused setting os size policy words m a report e n k z la lr =
-    rw (sym e ∙ ap metBy z) (settled-by size words m (refused n k) _ _ a report (ap metBy z) la lr (λ q. refused-not n k q))
+    rw (sym e ∙ z) (settled-by size words m (Refused n k) _ _ a report z la lr (λ q. refused-not n k q))
 
 -- a set that was loaded
 module _
-    (setting : Setting) (size : ℕ) (table : List ℕ) (h p : Input) (ls : List Input) (arena a : List ℕ) (r : Met) (len : length arena ≡ size)
+    (setting : Setting) (size : ℕ) (table : List ℕ) (h p : Input) (ls : List Input) (arena a : List ℕ) (r : Verdict) (len : length arena ≡ size)
     (kept : length a ≡ length arena) (made : Prepared setting (h ∷ (p ∷ ls)) arena a table r) (z : r ≡ Passed)
   where
     passed-it : Ready setting (h ∷ (p ∷ ls)) size
@@ -210,7 +210,7 @@ module _
     -- 14 to 20: the objects were relocated in an order that has each once
     pub bound-in :
         (policy : Policy) (words : ℕ) (order : List ℕ) → OnceEach (objects.count made-set) order → (report : List ℕ) → report ≡ replicate words 0
-        → (a′ report′ : List ℕ) (m : Met) → Relocated (h ∷ (p ∷ ls)) table order a policy report a′ report′ m
+        → (a′ report′ : List ℕ) (m : Verdict) → Relocated (h ∷ (p ∷ ls)) table order a policy report a′ report′ m
         → settledOf m a′ report′ ≡ bindIn setting (prepareVerdict setting (h ∷ (p ∷ ls)) size) (filesOf (h ∷ (p ∷ ls))) order size policy words
     unfolding filesOf bindIn objectsOf
     bound-in policy words order once report zeros a′ report′ m g =
@@ -229,10 +229,10 @@ module _
 
 -- whatever objects the table of parts names
 pub bind-is :
-    (setting : Setting) (os : List Input) (count : ℕ) (arena a table : List ℕ) (r : Met) → 2 ≤ count → length os ≡ count → length a ≡ length arena
+    (setting : Setting) (os : List Input) (count : ℕ) (arena a table : List ℕ) (r : Verdict) → 2 ≤ count → length os ≡ count → length a ≡ length arena
     → Prepared setting os arena a table r → r ≡ Passed → (order : Order) → Arranged os count a table order
     → (policy : Policy) (report : List ℕ) → report ≡ replicate (length report) 0
-    → (a′ report′ : List ℕ) (m : Met) → Relocated os table (take (order .count) (order .list)) a policy report a′ report′ m
+    → (a′ report′ : List ℕ) (m : Verdict) → Relocated os table (take (order .count) (order .list)) a policy report a′ report′ m
     → BoundSet setting os (length arena) policy (length report) a′ report′ m
 unfolding bindSet
 bind-is setting [] count arena a table r two many kept made z order o policy report zeros a′ report′ m g =

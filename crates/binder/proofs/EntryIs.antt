@@ -30,7 +30,9 @@ use Rattle.object.specs.declared.entry_symbol.CheckedSymbol.the-variants.{Refus
 use Rattle.object.specs.declared.hash_tables.Definition.{Definition}
 use Rattle.binder.specs.Instance.{File, fileImage, fileRecord, symOf, entryBy, wantedBy}
 use Rattle.binder.specs.Setting.{Setting}
-use Rattle.binder.specs.Verdict.{Verdict, passed, verdict, writtenRefusal, copyOk, copyRefusal, symbolThen, refusalBy}
+use Rattle.binder.specs.Verdict.{verdict, writtenRefusal, copyOk, copyRefusal, symbolThen, refusalBy}
+use Rattle.binder.specs.declared.Verdict.{Verdict}
+use Rattle.binder.specs.declared.Verdict.the-variants.{Passed}
 use Rattle.binder.specs.Report.{reportWord, unresolved, undefinedBy, isPassed}
 use Rattle.scope.specs.Steps.Seats.{seatAt}
 use Rattle.binder.specs.Steps.ScopeModel.{scopedOf}
@@ -169,7 +171,7 @@ module _ (setting : Setting) (size : ℕ) (table : List ℕ) (h pr : File) (fs :
 
       -- no refusal, and no word
       pub plain :
-          (v : Verdict) (m′ : Mem) (a′ : List ℕ) → v ≡ passed → Written setting size table h pr fs a₀ a′ k → mem a′ ≡ m′
+          (v : Verdict) (m′ : Mem) (a′ : List ℕ) → v ≡ Passed → Written setting size table h pr fs a₀ a′ k → mem a′ ≡ m′
           → Ran size n v (Doing (ws ++ []) (earlier u 0) m′) (left p a′ report)
       plain v m′ a′ e w same =
           ran-passed size n v (Doing (ws ++ []) (earlier u 0) m′) p a′ report e (d .going .refusal) (w .steady .size-is)
@@ -178,7 +180,7 @@ module _ (setting : Setting) (size : ℕ) (table : List ℕ) (h pr : File) (fs :
 
       -- no refusal, and what was noted
       with-words :
-          (v : Verdict) (vs : List ℕ) (u′ : ℕ) (m′ : Mem) (a′ : List ℕ) (q : Noted) → v ≡ passed → NotedGoing vs u′ n q
+          (v : Verdict) (vs : List ℕ) (u′ : ℕ) (m′ : Mem) (a′ : List ℕ) (q : Noted) → v ≡ Passed → NotedGoing vs u′ n q
           → KeptAs (p .last) (p .address) q → Written setting size table h pr fs a₀ a′ k → mem a′ ≡ m′
           → Ran size n v (Doing vs u′ m′) (withArena a′ q)
       with-words v vs u′ m′ a′ (noted p′ report′) e g z w same =
@@ -187,7 +189,7 @@ module _ (setting : Setting) (size : ℕ) (table : List ℕ) (h pr : File) (fs :
 
       -- no refusal, no word, and an answer is kept
       with-answer :
-          (v : Verdict) (last found : ℕ) (m′ : Mem) (a′ : List ℕ) → v ≡ passed → RightlyKept (keeps last found p)
+          (v : Verdict) (last found : ℕ) (m′ : Mem) (a′ : List ℕ) → v ≡ Passed → RightlyKept (keeps last found p)
           → Written setting size table h pr fs a₀ a′ k → mem a′ ≡ m′
           → Ran size n v (Doing (ws ++ []) (earlier u 0) m′) (left (keeps last found p) a′ report)
       with-answer v last found m′ a′ e z w same =

@@ -42,7 +42,8 @@ use Rattle.object.specs.declared.program_header.Dynamic.{Dynamic}
 use Rattle.object.specs.declared.program_header.Dynamic.the-variants.{Missing, At}
 use Rattle.object.proofs.RefusalLaws.{required}
 use Rattle.binder.specs.Instance.{fileRecord, placesOf, wantedBy, entryBy, entryOf}
-use Rattle.binder.specs.Verdict.{passed, verdict, wordRefusal, writtenRefusal, copyOk, copyRefusal, symbolThen, refusalBy, entryRefusal, wordsVerdict, entriesVerdict}
+use Rattle.binder.specs.Verdict.{verdict, wordRefusal, writtenRefusal, copyOk, copyRefusal, symbolThen, refusalBy, entryRefusal, wordsVerdict, entriesVerdict}
+use Rattle.binder.specs.declared.Verdict.the-variants.{Passed}
 use Rattle.binder.proofs.OutcomeLaws.{first-passed, verdict-passed}
 
 -- ---- a range inside one writable segment ends within the span
@@ -79,7 +80,7 @@ writable-inside host file p n e =
 -- ---- RELR
 
 pub words-inside :
-    (k : ℕ) (r : Record) (ws : List Word) → wordsVerdict k r ws ≡ passed → (p : ℕ) → List·Memᴰ p (placesOf ws)
+    (k : ℕ) (r : Record) (ws : List Word) → wordsVerdict k r ws ≡ Passed → (p : ℕ) → List·Memᴰ p (placesOf ws)
     → inWritable (r .segments) p 8 ≡ true
 unfolding wordsVerdict placesOf
 words-inside k r [] e p m = absurd (List·Memᴰ·not-nil m)
@@ -147,7 +148,7 @@ module _ (S : Objs) (k : ℕ) (image : List ℕ) (r : Record) (base : ℕ)
       (checked-then (e .symbol) (λ y. copyRefusal S k r (e .place) (y .size) found) z)
 
   pub entries-inside :
-      (es : List Rela) → entriesVerdict S k image r es ≡ passed → (x : Entry) → List·Memᴰ x (map (entryOf image r base) es)
+      (es : List Rela) → entriesVerdict S k image r es ≡ Passed → (x : Entry) → List·Memᴰ x (map (entryOf image r base) es)
       → Inside S k x
   unfolding entriesVerdict
   entries-inside [] v x m = absurd (List·Memᴰ·not-nil m)

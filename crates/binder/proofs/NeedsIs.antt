@@ -28,7 +28,8 @@ use Rattle.object.proofs.RefusalLaws.{required, after-zero}
 use Rattle.sheet.specs.Sheet.{Input, noInput}
 use Rattle.binder.specs.Instance.{File, fileImage, fileRecord, objectAt}
 use Rattle.binder.specs.Setting.{Setting}
-use Rattle.binder.specs.Verdict.{passed, verdict, noFile}
+use Rattle.binder.specs.Verdict.{verdict, noFile}
+use Rattle.binder.specs.declared.Verdict.the-variants.{Passed}
 use Rattle.binder.specs.Steps.Prepared.{loadFrom}
 use Rattle.binder.specs.Bind.{filesOf, namesOf}
 use Rattle.binder.specs.SetOrder as sets
@@ -52,7 +53,7 @@ abbrev ReadFrom : File → Type 0
 ReadFrom f = readRefusal (f .host) (fileImage f) (segmentsOf (f .host) (f .bytes)) (dynamicOf (f .bytes)) ≡ 0
 
 read-passed :
-    (size : ℕ) (files : List File) (n off k : ℕ) → loadFrom size n off files ≡ passed → k < length files → ReadFrom (getD files k noFile)
+    (size : ℕ) (files : List File) (n off k : ℕ) → loadFrom size n off files ≡ Passed → k < length files → ReadFrom (getD files k noFile)
 unfolding loadFrom loading.objectRefusal
 read-passed size [] n off k v h = absurd (omega arith)
 read-passed size (f ∷ fs) n off zero v h =
@@ -89,7 +90,7 @@ numbers-are os f image strings d ei es ed read =
 -- ---- a loaded set
 
 module _
-    (size : ℕ) (table arena : List ℕ) (os : List Input) (loads : loadFrom size 0 0 (filesOf os) ≡ passed)
+    (size : ℕ) (table arena : List ℕ) (os : List Input) (loads : loadFrom size 0 0 (filesOf os) ≡ Passed)
     (views : (k : ℕ) → 2 ≤ k → k < length os → seatAt table k .view ≡ viewOf (fileRecord (getD (filesOf os) k noFile)))
     (images : (k : ℕ) → 2 ≤ k → k < length os → imageAt arena (seatAt table k) ≡ fileImage (getD (filesOf os) k noFile))
   where

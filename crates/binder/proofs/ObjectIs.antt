@@ -15,7 +15,8 @@ use Rattle.model.proofs.OrderLaws.{decide}
 use Rattle.object.specs.Record.{Record}
 use Rattle.binder.specs.Instance.{File, fileImage, fileRecord, placesOf, namedWords, relasOf, entryOf, objectAt}
 use Rattle.binder.specs.Setting.{Setting}
-use Rattle.binder.specs.Verdict.{Verdict, first, entriesVerdict, objectVerdict}
+use Rattle.binder.specs.Verdict.{first, entriesVerdict, objectVerdict}
+use Rattle.binder.specs.declared.Verdict.{Verdict}
 use Rattle.binder.specs.Report.{reportWord, entryReport, objectWords, hasUndefined}
 use Rattle.binder.specs.Steps.Relocating.{left, Noted, noted, Summed, summed, refusedBy, keeps, reportSum, noteOf, runRelrs, turnOf, imageIn, againRefusal, runTables, thenTables, runObject, runAt}
 use Rattle.binder.specs.declared.turn.Turn.{Turn}

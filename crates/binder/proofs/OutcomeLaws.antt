@@ -17,7 +17,9 @@ use Rattle.binder.specs.declared.Policy.{Policy}
 use Rattle.binder.specs.declared.Answer.the-variants.{Bound}
 use Rattle.sheet.specs.Sheet.{Input, sheetOk, setOf, arenaOk, twinOf}
 use Rattle.binder.specs.Setting.{Setting}
-use Rattle.binder.specs.Verdict.{Verdict, passed, refused, first, verdict, loadVerdict, orderVerdict}
+use Rattle.binder.specs.Verdict.{first, verdict, loadVerdict, orderVerdict}
+use Rattle.binder.specs.declared.Verdict.{Verdict}
+use Rattle.binder.specs.declared.Verdict.the-variants.{Passed, Refused}
 use Rattle.binder.specs.Steps.Prepared.{loadFrom}
 use Rattle.binder.specs.Report.{orderWords}
 use Rattle.binder.specs.SetOrder.{setOrder}
@@ -26,22 +28,22 @@ use Rattle.binder.proofs.LoadsSame.{loads-same}
 
 -- ---- verdicts that passed
 
-pub refused-not : {P : Type 0} (n k : ℕ) → refused n k ≡ passed → P
+pub refused-not : {P : Type 0} (n k : ℕ) → Refused n k ≡ Passed → P
 refused-not n k e = let z : _≡_ {A = ℕ} 0 1 = cc in absurd (omega arith)
 
-pub first-passed : (v w : Verdict) → first v w ≡ passed → (v ≡ passed) × (w ≡ passed)
-first-passed passed w e = (refl, e)
-first-passed (refused n k) w e = refused-not n k e
+pub first-passed : (v w : Verdict) → first v w ≡ Passed → (v ≡ Passed) × (w ≡ Passed)
+first-passed Passed w e = (refl, e)
+first-passed (Refused n k) w e = refused-not n k e
 
-picked : (t : Bool) (n k : ℕ) → pick t passed (refused n k) ≡ passed → t ≡ true
+picked : (t : Bool) (n k : ℕ) → pick t Passed (Refused n k) ≡ Passed → t ≡ true
 picked true n k e = refl
 picked false n k e = refused-not n k e
 
-pub unless-passed : (t : Bool) (n k : ℕ) → unless t n k ≡ passed → t ≡ true
+pub unless-passed : (t : Bool) (n k : ℕ) → unless t n k ≡ Passed → t ≡ true
 unfolding unless
 unless-passed t n k e = picked t n k e
 
-pub verdict-passed : (n k : ℕ) → verdict n k ≡ passed → n ≡ 0
+pub verdict-passed : (n k : ℕ) → verdict n k ≡ Passed → n ≡ 0
 unfolding verdict
 verdict-passed n k e = eqb-true n 0 (picked (eqb n 0) n k e)
 
@@ -49,10 +51,10 @@ verdict-passed n k e = eqb-true n 0 (picked (eqb n 0) n k e)
 
 bound-outcome :
     (size words : ℕ) (v : Verdict) (a r arena report : List ℕ) → outcomeOf size words v a r ≡ outcome Bound arena report
-    → (v ≡ passed) × (arena ≡ a) × (report ≡ r ++ replicate (words - length r) 0)
+    → (v ≡ Passed) × (arena ≡ a) × (report ≡ r ++ replicate (words - length r) 0)
 unfolding outcomeOf
-bound-outcome size words passed a r arena report e = (refl, cc, cc)
-bound-outcome size words (refused n k) a r arena report e = let z : _≡_ {A = ℕ} 0 1 = cc in absurd (omega arith)
+bound-outcome size words Passed a r arena report e = (refl, cc, cc)
+bound-outcome size words (Refused n k) a r arena report e = let z : _≡_ {A = ℕ} 0 1 = cc in absurd (omega arith)
 
 -- the order of a set
 abbrev pub orderIn : List Input → List ℕ
@@ -98,18 +100,18 @@ query-one setting sheet bytes size requester name = go (sheetOk sheet (length by
     go :
         (t : Bool) → pick t (askSet setting os size requester name) (refusedQuery size 1 0)
         ≡ repliedOf size (first (first (unless t 1 0) (prepareVerdict setting os size)) (unless (ltb requester (length os)) 13 0))
-        (replyOf (resolve (objectsIn setting os) requester name)) (tab size (placed (objectsIn setting os)))
+        (replyOf (resolve (objectsIn setting os) requester (byName name))) (tab size (placed (objectsIn setting os)))
     go true = refl
     go false = refl
 
 -- ---- a set that is bound
 
-pub record Passed (setting : Setting) (sheet bytes : List ℕ) (size words : ℕ) (arena report : List ℕ) : Type 0 where
+pub record AllPassed (setting : Setting) (sheet bytes : List ℕ) (size words : ℕ) (arena report : List ℕ) : Type 0 where
   pub sheet-ok : sheetOk sheet (length bytes) ≡ true
   pub arena-ok : arenaOk size (setting .address) ≡ true
   pub no-twin : twinOf (setOf sheet bytes) ≡ 0
-  pub loads : loadFrom size 0 0 (filesOf (setOf sheet bytes)) ≡ passed
-  pub relocates : orderVerdict (objectsIn setting (setOf sheet bytes)) (filesOf (setOf sheet bytes)) (orderIn (setOf sheet bytes)) ≡ passed
+  pub loads : loadFrom size 0 0 (filesOf (setOf sheet bytes)) ≡ Passed
+  pub relocates : orderVerdict (objectsIn setting (setOf sheet bytes)) (filesOf (setOf sheet bytes)) (orderIn (setOf sheet bytes)) ≡ Passed
   pub arena-is : arena ≡ tab size (bound (objectsIn setting (setOf sheet bytes)) (orderIn (setOf sheet bytes)))
   pub report-is :
       report
@@ -119,7 +121,7 @@ pub record Passed (setting : Setting) (sheet bytes : List ℕ) (size words : ℕ
 pub bound-passed :
     (setting : Setting) (sheet bytes : List ℕ) (size : ℕ) (policy : Policy) (words : ℕ) (arena report : List ℕ)
     → bindOf setting sheet bytes size policy words ≡ outcome Bound arena report
-    → Passed setting sheet bytes size words arena report
+    → AllPassed setting sheet bytes size words arena report
 unfolding bindIn prepareVerdict relocateVerdict
 bound-passed setting sheet bytes size policy words arena report e =
     let os : List Input = setOf sheet bytes in

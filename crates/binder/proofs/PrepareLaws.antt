@@ -31,13 +31,13 @@ use Rattle.sheet.specs.declared.sheet.Parts.{Parts}
 use Rattle.sheet.proofs.PartLaws.{two-parts}
 use Rattle.binder.specs.Setting.{Setting}
 use Rattle.binder.specs.Instance.{File, fileRecord}
-use Rattle.binder.specs.Verdict.{passed, refused, first, verdict, noFile, loadVerdict}
+use Rattle.binder.specs.Verdict.{first, verdict, noFile, loadVerdict}
+use Rattle.binder.specs.declared.Verdict.{Verdict}
+use Rattle.binder.specs.declared.Verdict.the-variants.{Passed, Refused}
 use Rattle.binder.specs.Bind.{filesOf, objectsOf, unless, prepareVerdict}
 use Rattle.scope.specs.Steps.Seats.{seatAt, countIn, addressIn, FilteredBelow, Filtered}
-use Rattle.binder.specs.Steps.Prepared.{loadFrom, metBy, seatOf, placeFiles, Seated, SeatedAt, LoadedAt, LoadedFiles, Prepared}
+use Rattle.binder.specs.Steps.Prepared.{loadFrom, seatOf, placeFiles, Seated, SeatedAt, LoadedAt, LoadedFiles, Prepared}
 use Rattle.scope.specs.declared.seats.Seat.{Seat}
-use Rattle.binder.specs.declared.prepare.Met.{Met}
-use Rattle.binder.specs.declared.prepare.Met.the-variants.{Passed, Refused}
 use Rattle.binder.specs.declared.prepare.Loaded.{Loaded}
 use Rattle.binder.specs.declared.prepare.Loaded as loads
 use Rattle.binder.proofs.OutcomeLaws.{refused-not, first-passed, unless-passed}
@@ -188,9 +188,9 @@ module _ (os : List Input) (a₀ a table : List ℕ) (off k : ℕ) (h : Loading 
           subst (λ (x : Loaded). LoadedAt (eqb k 0) (getD os k noInput .file) off a a′ x) e r in
           record {
             met = sym (h .met ∙ rw (left, ← h .same, ← g .0, ne-eqb n 0 (g .1)));
-            arena = λ z. refused-not n k (ap metBy z);
-            table = λ z. refused-not n k (ap metBy z);
-            filtered = λ z. refused-not n k (ap metBy z);
+            arena = λ z. refused-not n k z;
+            table = λ z. refused-not n k z;
+            filtered = λ z. refused-not n k z;
           }
 
       seated : (s : Seat) → p ≡ loads.the-variants.At s → SeatedAt (eqb k 0) (getD os k noInput .file) off a a′ s
@@ -253,15 +253,15 @@ seated-same t t′ k off (f ∷ fs) same s = (
 module _ (setting : Setting) (os : List Input) (arena : List ℕ) where
   -- a refusal before anything is loaded
   refuses :
-      (n k : ℕ) → prepareVerdict setting os (length arena) ≡ refused n k → (arena′ table : List ℕ) → Prepared setting os arena arena′ table (Refused n k)
+      (n k : ℕ) → prepareVerdict setting os (length arena) ≡ Refused n k → (arena′ table : List ℕ) → Prepared setting os arena arena′ table (Refused n k)
   refuses n k e arena′ table =
       record {
         met = sym e;
-        arena = λ z. refused-not n k (ap metBy z);
-        table = λ z. refused-not n k (ap metBy z);
-        filtered = λ z. refused-not n k (ap metBy z);
-        counted = λ z. refused-not n k (ap metBy z);
-        addressed = λ z. refused-not n k (ap metBy z);
+        arena = λ z. refused-not n k z;
+        table = λ z. refused-not n k z;
+        filtered = λ z. refused-not n k z;
+        counted = λ z. refused-not n k z;
+        addressed = λ z. refused-not n k z;
       }
 
   pub prepare-two :
@@ -276,7 +276,7 @@ module _ (setting : Setting) (os : List Input) (arena : List ℕ) where
 
     -- the table `t` with the set's count and the address is `t′`
     pub prepare-loads :
-        twinOf os ≡ 0 → (arena′ t t′ : List ℕ) (r : Met) → LoadedFiles (filesOf os) arena arena′ t r → length os ≤ 64
+        twinOf os ≡ 0 → (arena′ t t′ : List ℕ) (r : Verdict) → LoadedFiles (filesOf os) arena arena′ t r → length os ≤ 64
         → countIn t′ ≡ length os → addressIn t′ ≡ setting .address → ((k : ℕ) → k < 64 → seatAt t′ k ≡ seatAt t k)
         → (FilteredBelow t (length os) → Filtered t′)
         → Prepared setting os arena arena′ t′ r
@@ -293,12 +293,12 @@ module _ (setting : Setting) (os : List Input) (arena : List ℕ) where
 
 -- a set that passed
 pub record Ready (setting : Setting) (os : List Input) (size : ℕ) : Type 0 where
-  pub verdict-is : prepareVerdict setting os size ≡ passed
-  pub loads : loadFrom size 0 0 (filesOf os) ≡ passed
+  pub verdict-is : prepareVerdict setting os size ≡ Passed
+  pub loads : loadFrom size 0 0 (filesOf os) ≡ Passed
   pub end : setting .address + size ≤ 2 ^ 63
   pub small : size ≤ 2 ^ 28
 
-pub ready : (setting : Setting) (os : List Input) (size : ℕ) → prepareVerdict setting os size ≡ passed → Ready setting os size
+pub ready : (setting : Setting) (os : List Input) (size : ℕ) → prepareVerdict setting os size ≡ Passed → Ready setting os size
 unfolding prepareVerdict sheets.arenaOk
 ready setting os size e =
     let b = first-passed (unless (arenaOk size (setting .address)) 2 0) _ e in
@@ -313,9 +313,9 @@ ready setting os size e =
     }
 
 pub passes :
-    (setting : Setting) (os : List Input) (arena arena′ table : List ℕ) (r : Met) → Prepared setting os arena arena′ table r → r ≡ Passed
+    (setting : Setting) (os : List Input) (arena arena′ table : List ℕ) (r : Verdict) → Prepared setting os arena arena′ table r → r ≡ Passed
     → Ready setting os (length arena)
-passes setting os arena arena′ table r made z = ready setting os (length arena) (sym (made .met) ∙ ap metBy z)
+passes setting os arena arena′ table r made z = ready setting os (length arena) (sym (made .met) ∙ z)
 
 -- a table of parts names as many objects as it counts
 pub many-parts : {sheet : List ℕ} {n : ℕ} {p : Parts} → Tabled sheet n p → (bytes : List ℕ) → length (inputsIn bytes p) ≡ p .count

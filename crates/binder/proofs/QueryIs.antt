@@ -26,13 +26,12 @@ use Rattle.binder.specs.Instance.{File, objectAt}
 use Rattle.binder.specs.Bind.{filesOf, objectsOf, unless, prepareVerdict, replied, replyOf, refusedQuery, repliedOf, askSet, queryOf}
 use Rattle.scope.specs.Steps.ScopeCode.{resolveSeats}
 use Rattle.binder.specs.Steps.ScopeModel.{scopedOf}
-use Rattle.binder.specs.Steps.Prepared.{metBy, Prepared}
+use Rattle.binder.specs.Steps.Prepared.{Prepared}
 use Rattle.binder.specs.declared.Reply.{Reply}
-use Rattle.binder.specs.declared.Reply.the-variants.{Refused}
+use Rattle.binder.specs.declared.Reply as replies
 use Rattle.scope.specs.declared.scope.Scoped.{Scoped}
-use Rattle.binder.specs.declared.prepare.Met as mets
-use Rattle.binder.specs.declared.prepare.Met.{Met}
-use Rattle.binder.specs.declared.prepare.Met.the-variants.{Passed}
+use Rattle.binder.specs.declared.Verdict.{Verdict}
+use Rattle.binder.specs.declared.Verdict.the-variants.{Passed, Refused}
 use Rattle.binder.proofs.PrepareLaws.{Ready, passes, sheet-refused, sheet-passed}
 use Rattle.binder.proofs.SoundLaws.{count-is}
 use Rattle.binder.proofs.ScopeIs.{resolve-is}
@@ -42,27 +41,27 @@ use Rattle.binder.proofs.QueryLaws.{placed-is, seated-for}
 
 module _ (setting : Setting) (os : List Input) (size requester : ℕ) (name : List ℕ) where
   pub ask-refused :
-      (r : Met) → metBy r ≡ prepareVerdict setting os size → (n k : ℕ) → r ≡ mets.the-variants.Refused n k
-      → askSet setting os size requester name ≡ replied (Refused n k) (replicate size 0)
+      (r : Verdict) → r ≡ prepareVerdict setting os size → (n k : ℕ) → r ≡ Refused n k
+      → askSet setting os size requester name ≡ replied (replies.the-variants.Refused n k) (replicate size 0)
   unfolding askSet repliedOf
-  ask-refused r e n k z = rw (sym e ∙ ap metBy z)
+  ask-refused r e n k z = rw (sym e ∙ z)
 
   pub ask-thirteen :
-      (r : Met) → metBy r ≡ prepareVerdict setting os size → r ≡ Passed → length os ≤ requester
-      → askSet setting os size requester name ≡ replied (Refused 13 0) (replicate size 0)
+      (r : Verdict) → r ≡ prepareVerdict setting os size → r ≡ Passed → length os ≤ requester
+      → askSet setting os size requester name ≡ replied (replies.the-variants.Refused 13 0) (replicate size 0)
   unfolding askSet repliedOf unless
-  ask-thirteen r e z l = rw (sym e ∙ ap metBy z, le-ltb requester (length os) l)
+  ask-thirteen r e z l = rw (sym e ∙ z, le-ltb requester (length os) l)
 
   pub ask-found :
-      (r : Met) → metBy r ≡ prepareVerdict setting os size → r ≡ Passed → requester < length os
+      (r : Verdict) → r ≡ prepareVerdict setting os size → r ≡ Passed → requester < length os
       → askSet setting os size requester name
       ≡ replied (replyOf (resolve (objectsOf setting (filesOf os)) requester (byName name))) (tab size (placed (objectsOf setting (filesOf os))))
   unfolding askSet repliedOf unless
-  ask-found r e z l = rw (sym e ∙ ap metBy z, lt-ltb requester (length os) l)
+  ask-found r e z l = rw (sym e ∙ z, lt-ltb requester (length os) l)
 
 -- the objects that were loaded answer as the model says
 pub asked :
-    (setting : Setting) (os : List Input) (count : ℕ) (arena arena′ table : List ℕ) (requester : ℕ) (name : List ℕ) (r : Met)
+    (setting : Setting) (os : List Input) (count : ℕ) (arena arena′ table : List ℕ) (requester : ℕ) (name : List ℕ) (r : Verdict)
     → 2 ≤ count → length os ≡ count → Prepared setting os arena arena′ table r → r ≡ Passed → requester < count
     → length arena′ ≡ length arena
     → (x : Reply) → x ≡ replyOf (scopedOf (resolveSeats arena′ table requester name (gnuHash name) (elfHash name)))

@@ -21,7 +21,8 @@ use Rattle.object.specs.HashTable.{answerIn}
 use Rattle.binder.specs.Setting.{Setting}
 use Rattle.model.specs.Symbols.{byName}
 use Rattle.binder.specs.Instance.{File, fileImage, fileRecord, definitionFound, objectAt}
-use Rattle.binder.specs.Verdict.{passed, verdict, noFile}
+use Rattle.binder.specs.Verdict.{verdict, noFile}
+use Rattle.binder.specs.declared.Verdict.the-variants.{Passed}
 use Rattle.scope.specs.Steps.Seats.{seatAt}
 use Rattle.binder.specs.Steps.Prepared.{loadFrom, seatOf, placeFiles, Seated}
 use Rattle.scope.specs.Steps.ScopeCode as searches
@@ -75,7 +76,7 @@ same n off m arena fits bytes =
 
 module _ (setting : Setting) (size : ℕ) (table : List ℕ) where
   sits :
-      (files : List File) (n off j : ℕ) (d : Obj) (m : Mem) → off ≤ size → loadFrom size n off files ≡ passed → Seated table n off files
+      (files : List File) (n off j : ℕ) (d : Obj) (m : Mem) → off ≤ size → loadFrom size n off files ≡ Passed → Seated table n off files
       → j < length files
       → Sits setting size table (placeFiles files off m) (n + j) (getD files j noFile) (getD (layout (objectAt setting) files off) j d)
   unfolding loadFrom layouts.layout objectAt Seated placeFiles
@@ -108,7 +109,7 @@ module _ (setting : Setting) (size : ℕ) (table : List ℕ) where
 
   -- object `k` of a loaded set
   pub sits-at :
-      (h p : File) (fs : List File) (m : Mem) → loadFrom size 0 0 (h ∷ (p ∷ fs)) ≡ passed → Seated table 0 0 (h ∷ (p ∷ fs))
+      (h p : File) (fs : List File) (m : Mem) → loadFrom size 0 0 (h ∷ (p ∷ fs)) ≡ Passed → Seated table 0 0 (h ∷ (p ∷ fs))
       → (k : ℕ) → k < count (objsOf (objectAt setting) h p fs)
       → Sits setting size table (placeFiles (h ∷ (p ∷ fs)) 0 m) k (getD (h ∷ (p ∷ fs)) k noFile) (obj (objsOf (objectAt setting) h p fs) k)
   unfolding layouts.objsOf layouts.layout objectAt
@@ -150,7 +151,7 @@ module _ (setting : Setting) (size : ℕ) (table : List ℕ) where
   -- every object of a loaded set has its seat, and is asked there
   pub seated-for :
       (h p : File) (fs : List File) (arena : List ℕ) (m : Mem) → length arena ≡ size → setting .address + size < 2 ^ 64
-      → loadFrom size 0 0 (h ∷ (p ∷ fs)) ≡ passed → Seated table 0 0 (h ∷ (p ∷ fs)) → mem arena ≡ placeFiles (h ∷ (p ∷ fs)) 0 m
+      → loadFrom size 0 0 (h ∷ (p ∷ fs)) ≡ Passed → Seated table 0 0 (h ∷ (p ∷ fs)) → mem arena ≡ placeFiles (h ∷ (p ∷ fs)) 0 m
       → SeatedFor (setting .address) arena table (objsOf (objectAt setting) h p fs)
   seated-for h p fs arena m len small v s e k l =
       let f : File = getD (h ∷ (p ∷ fs)) k noFile in

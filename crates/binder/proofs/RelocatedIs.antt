@@ -20,7 +20,8 @@ use Rattle.model.proofs.Orders.{times-tail}
 use Rattle.sheet.specs.Sheet.{Input, noInput}
 use Rattle.binder.specs.Instance.{File}
 use Rattle.binder.specs.Setting.{Setting}
-use Rattle.binder.specs.Verdict.{passed, verdict, noFile, objectVerdict, orderVerdict}
+use Rattle.binder.specs.Verdict.{verdict, noFile, objectVerdict, orderVerdict}
+use Rattle.binder.specs.declared.Verdict.the-variants.{Passed}
 use Rattle.binder.specs.Report.{objectWords, orderWords, hasUndefined, firstUndefined}
 use Rattle.binder.specs.Steps.Relocating.{left, started, runAt, runOrder}
 use Rattle.binder.specs.declared.report.Progress.{Progress}
@@ -92,7 +93,7 @@ module _ (setting : Setting) (size : ℕ) (table : List ℕ) (h pr : File) (fs :
   pub record Ended (order : List ℕ) (n : ℕ) (p′ : Progress) (a′ report′ : List ℕ) : Type 0 where
     pub verdict-is : verdict (p′ .refusal) (p′ .object) ≡ orderVerdict S fl order
     pub bound-is :
-        orderVerdict S fl order ≡ passed
+        orderVerdict S fl order ≡ Passed
         → (mem a′ ≡ bound S order) × (length a′ ≡ size) × Going (orderWords S fl order) (firstUndefined S fl order) n p′ report′
     pub lengths : (length a′ ≡ size) × (length report′ ≡ n)
 
@@ -143,7 +144,7 @@ module _ (setting : Setting) (size : ℕ) (table : List ℕ) (h pr : File) (fs :
         (runOrder table os ks (left p a report))
     unfolding orderVerdict orderWords firstUndefined run runOrder
     order-ran [] o ws u m p a report b =
-        ran-passed size n passed (Before [] (ws ++ []) (earlier u 0) m) p a report refl (b .going .refusal) (b .steady .size-is)
+        ran-passed size n Passed (Before [] (ws ++ []) (earlier u 0) m) p a report refl (b .going .refusal) (b .steady .size-is)
         (going-length ws u n p report (b .going))
         record { going = rw (append-nil ws, earlier-none u) (b .going); memory = b .memory; steady = b .steady; rest = b .rest }
     order-ran (k ∷ ks) o ws u m p a report b =

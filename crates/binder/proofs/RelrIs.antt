@@ -27,7 +27,9 @@ use Rattle.binder.specs.declared.turn.Turn.{Turn}
 use Rattle.binder.specs.declared.relr.Moved.{Moved}
 use Rattle.binder.specs.Instance.{File, fileImage, fileRecord, placesOf, namedWords}
 use Rattle.binder.specs.Setting.{Setting}
-use Rattle.binder.specs.Verdict.{Verdict, passed, refused, first, verdict, wordRefusal, wordsVerdict}
+use Rattle.binder.specs.Verdict.{first, verdict, wordRefusal, wordsVerdict}
+use Rattle.binder.specs.declared.Verdict.{Verdict}
+use Rattle.binder.specs.declared.Verdict.the-variants.{Passed, Refused}
 use Rattle.binder.specs.Steps.Relocating.{imageIn, far, cutTo32, Summed, summed, Shifted, shifted, wordAdded, addBits, bitsAdded, addRelr, thenRelr, addRelrs, summedIn, runRelrs, partOf, withPart, turnOf}
 use Rattle.binder.proofs.PartLaws.{with-same, part-with, with-again, word-added}
 use Rattle.binder.proofs.Steady as steady
@@ -36,8 +38,8 @@ use Rattle.binder.proofs.SteadyLaws as laws
 -- ---- words one after another
 
 pub first-assoc : (u v w : Verdict) → first (first u v) w ≡ first u (first v w)
-first-assoc passed v w = refl
-first-assoc (refused n k) v w = refl
+first-assoc Passed v w = refl
+first-assoc (Refused n k) v w = refl
 
 verdict-append : (k : ℕ) (r : Record) (ws vs : List Word) → wordsVerdict k r (ws ++ vs) ≡ first (wordsVerdict k r ws) (wordsVerdict k r vs)
 unfolding wordsVerdict

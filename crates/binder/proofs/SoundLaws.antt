@@ -25,7 +25,8 @@ use Rattle.object.proofs.RefusalLaws.{after-zero}
 use Rattle.object.proofs.LoadedLaws.{place-fits}
 use Rattle.binder.specs.Setting.{Setting}
 use Rattle.binder.specs.Instance.{File, fileImage, fileRecord, placesOf, namedWords, relasOf, entryOf, objectAt}
-use Rattle.binder.specs.Verdict.{passed, verdict, noFile, wordsVerdict, entriesVerdict, objectVerdict, orderVerdict}
+use Rattle.binder.specs.Verdict.{verdict, noFile, wordsVerdict, entriesVerdict, objectVerdict, orderVerdict}
+use Rattle.binder.specs.declared.Verdict.the-variants.{Passed}
 use Rattle.binder.specs.Steps.Prepared.{loadFrom}
 use Rattle.binder.proofs.OutcomeLaws.{first-passed, verdict-passed}
 use Rattle.binder.proofs.InsideLaws.{writable-inside, words-inside, entries-inside}
@@ -45,7 +46,7 @@ record Stands (setting : Setting) (size : ℕ) (f : File) (o : Obj) : Type 0 whe
 
 module _ (setting : Setting) (size : ℕ) where
   stands :
-      (files : List File) (n off k : ℕ) (d : Obj) → off ≤ size → loadFrom size n off files ≡ passed → k < length files
+      (files : List File) (n off k : ℕ) (d : Obj) → off ≤ size → loadFrom size n off files ≡ Passed → k < length files
       → Stands setting size (getD files k noFile) (getD (layout (objectAt setting) files off) k d)
   unfolding loadFrom layouts.layout objectAt
   stands [] n off k d l v h = absurd (omega arith)
@@ -68,7 +69,7 @@ module _ (setting : Setting) (size : ℕ) where
   count-is h p fs = omega (arith, layout-length fs (layouts.nextFree (objectAt setting) p (layouts.nextFree (objectAt setting) h 0)))
 
   object-is :
-      (h p : File) (fs : List File) → loadFrom size 0 0 (h ∷ (p ∷ fs)) ≡ passed → (k : ℕ) → k < count (objsOf (objectAt setting) h p fs)
+      (h p : File) (fs : List File) → loadFrom size 0 0 (h ∷ (p ∷ fs)) ≡ Passed → (k : ℕ) → k < count (objsOf (objectAt setting) h p fs)
       → Stands setting size (getD (h ∷ (p ∷ fs)) k noFile) (obj (objsOf (objectAt setting) h p fs) k)
   unfolding layouts.objsOf layouts.layout
   object-is h p fs v k l =
@@ -76,7 +77,7 @@ module _ (setting : Setting) (size : ℕ) where
 
   -- the objects fit the arena
   pub set-fits :
-      (h p : File) (fs : List File) → loadFrom size 0 0 (h ∷ (p ∷ fs)) ≡ passed → Fits (objsOf (objectAt setting) h p fs) size
+      (h p : File) (fs : List File) → loadFrom size 0 0 (h ∷ (p ∷ fs)) ≡ Passed → Fits (objsOf (objectAt setting) h p fs) size
   unfolding objectAt
   set-fits h p fs v k l =
       let s = object-is h p fs v k l in
@@ -87,14 +88,14 @@ module _ (setting : Setting) (size : ℕ) where
 -- ---- every object of the order is checked
 
 order-checked :
-    (S : Objs) (files : List File) (order : List ℕ) → orderVerdict S files order ≡ passed → (k : ℕ) → 0 < times k order
-    → objectVerdict S k (getD files k noFile) ≡ passed
+    (S : Objs) (files : List File) (order : List ℕ) → orderVerdict S files order ≡ Passed → (k : ℕ) → 0 < times k order
+    → objectVerdict S k (getD files k noFile) ≡ Passed
 unfolding orderVerdict
 order-checked S files [] v k h = absurd (omega arith)
 order-checked S files (j ∷ js) v k h =
     let a = first-passed (objectVerdict S j (getD files j noFile)) (orderVerdict S files js) v in
     ⊎-elim
-    (λ (t : eqb j k ≡ true). subst (λ (i : ℕ). objectVerdict S i (getD files i noFile) ≡ passed) (eqb-true j k t) (a .0))
+    (λ (t : eqb j k ≡ true). subst (λ (i : ℕ). objectVerdict S i (getD files i noFile) ≡ Passed) (eqb-true j k t) (a .0))
     (λ (t : eqb j k ≡ false). order-checked S files js (a .1) k (rw t at h))
     (decide (eqb j k))
 
@@ -124,9 +125,9 @@ from-pick false xs m = m
 
 -- ---- the set
 
-module _ (setting : Setting) (size : ℕ) (h p : File) (fs : List File) (v : loadFrom size 0 0 (h ∷ (p ∷ fs)) ≡ passed) (order : List ℕ)
+module _ (setting : Setting) (size : ℕ) (h p : File) (fs : List File) (v : loadFrom size 0 0 (h ∷ (p ∷ fs)) ≡ Passed) (order : List ℕ)
     (once : OnceEach (count (objsOf (objectAt setting) h p fs)) order)
-    (w : orderVerdict (objsOf (objectAt setting) h p fs) (h ∷ (p ∷ fs)) order ≡ passed) where
+    (w : orderVerdict (objsOf (objectAt setting) h p fs) (h ∷ (p ∷ fs)) order ≡ Passed) where
   abbrev set : Objs
   set = objsOf (objectAt setting) h p fs
 
@@ -135,8 +136,8 @@ module _ (setting : Setting) (size : ℕ) (h p : File) (fs : List File) (v : loa
 
   checked :
       (k : ℕ) → 1 ≤ k → k < count set
-      → (wordsVerdict k (fileRecord (file k)) (namedWords (fileImage (file k)) (fileRecord (file k))) ≡ passed)
-      × (entriesVerdict set k (fileImage (file k)) (fileRecord (file k)) (relasOf (fileImage (file k)) (fileRecord (file k))) ≡ passed)
+      → (wordsVerdict k (fileRecord (file k)) (namedWords (fileImage (file k)) (fileRecord (file k))) ≡ Passed)
+      × (entriesVerdict set k (fileImage (file k)) (fileRecord (file k)) (relasOf (fileImage (file k)) (fileRecord (file k))) ≡ Passed)
   unfolding objectVerdict
   checked k a b =
       first-passed (wordsVerdict k (fileRecord (file k)) (namedWords (fileImage (file k)) (fileRecord (file k)))) _

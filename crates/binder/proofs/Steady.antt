@@ -16,7 +16,8 @@ use Rattle.object.specs.declared.hash_tables.Definition.{Definition}
 use Rattle.model.specs.Symbols.{byName}
 use Rattle.binder.specs.Instance.{File, fileImage, fileRecord, symOf, objectAt}
 use Rattle.binder.specs.Setting.{Setting}
-use Rattle.binder.specs.Verdict.{passed, noFile, copyOk}
+use Rattle.binder.specs.Verdict.{noFile, copyOk}
+use Rattle.binder.specs.declared.Verdict.the-variants.{Passed}
 use Rattle.scope.specs.Steps.Seats.{seatAt, countIn, addressIn}
 use Rattle.binder.specs.Steps.Prepared.{loadFrom, seatOf, placeFiles, Seated}
 use Rattle.scope.specs.Steps.ScopeCode.{imageAt}
@@ -39,7 +40,7 @@ module _ (setting : Setting) (size : ℕ) (table : List ℕ) (h p : File) (fs : 
   -- refusals 2 and 4 to 12 were passed, and the table has the seats, the count and the address
   pub record LoadedSet : Type 0 where
     pub others : (k : ℕ) → 1 ≤ k → k < count set → fileAt k .host ≡ false
-    pub loads : loadFrom size 0 0 files ≡ passed
+    pub loads : loadFrom size 0 0 files ≡ Passed
     pub seats : Seated table 0 0 files
     pub counted : countIn table ≡ count set
     pub addressed : addressIn table ≡ address

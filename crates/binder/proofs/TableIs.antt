@@ -16,7 +16,8 @@ use Rattle.object.specs.Record.{Record}
 use Rattle.object.specs.declared.relocate.Rela.{Rela}
 use Rattle.binder.specs.Instance.{File, fileImage, fileRecord, relasOf, entryOf}
 use Rattle.binder.specs.Setting.{Setting}
-use Rattle.binder.specs.Verdict.{passed, first, verdict, entryRefusal, entriesVerdict}
+use Rattle.binder.specs.Verdict.{first, verdict, entryRefusal, entriesVerdict}
+use Rattle.binder.specs.declared.Verdict.the-variants.{Passed}
 use Rattle.binder.specs.Report.{reportWord, isUndefined, isPassed, entryReport}
 use Rattle.binder.specs.Steps.Relocating.{left, imageIn, cutTo32, turnOf, runAction, runTable, runTables}
 use Rattle.binder.specs.declared.turn.Turn.{Turn}
@@ -165,7 +166,7 @@ module _ (setting : Setting) (size : ℕ) (table : List ℕ) (h pr : File) (fs :
         (runTable table t r at start c j (left p a report))
     unfolding runTable relasFrom entriesVerdict entryReport some effects
     table-ran zero i j e b ws u m p a report d =
-        plain setting size table h pr fs L k lo hi n a₀ ws u m p a report d passed m a refl (d .written) (d .memory)
+        plain setting size table h pr fs L k lo hi n a₀ ws u m p a report d Passed m a refl (d .written) (d .memory)
     table-ran (suc c) i j e b ws u m p a report d =
         ran-then size n (verdict (entryRefusal S k image r (relaAt image at j)) k) (entriesVerdict S k image r (relasFrom image at (j + 1) c))
         (Does (ws ++ entryWord S k image r i (relaAt image at j)) (earlier u (pick (isUndefined S k image r (relaAt image at j)) k 0))

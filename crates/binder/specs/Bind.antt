@@ -23,7 +23,9 @@ use Rattle.binder.specs.declared.Reply as replies
 use Rattle.sheet.specs.Sheet.{Input, sheetOk, setOf, arenaOk, twinOf}
 use Rattle.binder.specs.Setting.{Setting}
 use Rattle.binder.specs.Instance.{File, objectAt}
-use Rattle.binder.specs.Verdict.{Verdict, passed, refused, first, noFile, loadVerdict, orderVerdict}
+use Rattle.binder.specs.Verdict.{first, noFile, loadVerdict, orderVerdict}
+use Rattle.binder.specs.declared.Verdict.{Verdict}
+use Rattle.binder.specs.declared.Verdict.the-variants.{Passed, Refused}
 use Rattle.binder.specs.Report.{orderWords, firstUndefined}
 use Rattle.binder.specs.SetOrder.{setOrder}
 
@@ -45,7 +47,7 @@ objectsOf setting (h ∷ (p ∷ fs)) = objsOf (objectAt setting) h p fs
 
 -- refusal `n`, object `k`, unless the test holds
 unfoldable pub unless : Bool → ℕ → ℕ → Verdict
-unless t n k = pick t passed (refused n k)
+unless t n k = pick t Passed (Refused n k)
 
 -- 2 to 12 of a set, which a query meets too
 unfoldable pub prepareVerdict : Setting → List Input → ℕ → Verdict
@@ -78,8 +80,8 @@ refusedBind size words n k = outcome (answers.the-variants.Refused n k) (replica
 
 -- a refusal; else the arena and the report, "Unused words are 0"
 unfoldable pub outcomeOf : ℕ → ℕ → Verdict → List ℕ → List ℕ → Outcome
-outcomeOf size words (refused n k) arena report = refusedBind size words n k
-outcomeOf size words passed arena report = outcome answers.the-variants.Bound arena (report ++ replicate (words - length report) 0)
+outcomeOf size words (Refused n k) arena report = refusedBind size words n k
+outcomeOf size words Passed arena report = outcome answers.the-variants.Bound arena (report ++ replicate (words - length report) 0)
 
 -- a set bound in an order, in an arena of `size` bytes and with a report of `words` words
 unfoldable pub bindIn : Setting → Verdict → List File → List ℕ → ℕ → Policy → ℕ → Outcome
@@ -113,8 +115,8 @@ refusedQuery size n k = replied (replies.the-variants.Refused n k) (replicate si
 
 -- "after an answer the arena holds the placed, unrelocated bytes"
 unfoldable pub repliedOf : ℕ → Verdict → Reply → List ℕ → Replied
-repliedOf size (refused n k) reply arena = refusedQuery size n k
-repliedOf size passed reply arena = replied reply arena
+repliedOf size (Refused n k) reply arena = refusedQuery size n k
+repliedOf size Passed reply arena = replied reply arena
 
 -- a set that is asked: it "meets only refusals 1 to 13", 2 to 13 here
 unfoldable pub askSet : Setting → List Input → ℕ → ℕ → List ℕ → Replied

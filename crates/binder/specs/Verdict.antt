@@ -19,28 +19,25 @@ use Rattle.object.specs.Loaded.{objectRefusal}
 use Rattle.object.specs.declared.symbol.Symbol.{Symbol}
 use Rattle.object.specs.declared.relocate.Rela.{Rela}
 use Rattle.object.specs.declared.entry_symbol.CheckedSymbol.{CheckedSymbol}
-use Rattle.object.specs.declared.entry_symbol.CheckedSymbol.the-variants.{Refused, Checked}
+use Rattle.object.specs.declared.entry_symbol.CheckedSymbol as checked
+use Rattle.binder.specs.declared.Verdict.{Verdict}
+use Rattle.binder.specs.declared.Verdict.the-variants.{Passed, Refused}
 use Rattle.binder.specs.Instance.{File, fileImage, fileRecord, namedWords, relasOf, wantedBy}
-
--- a refusal with its object, or none
-pub data Verdict : Type 0 where
-  passed : Verdict
-  refused : (number object : ℕ) → Verdict
 
 -- the first refusal of two
 abbrev pub first : Verdict → Verdict → Verdict
-first passed v = v
-first (refused n k) v = refused n k
+first Passed v = v
+first (Refused n k) v = Refused n k
 
 -- a refusal of object `k`; 0 is none
 unfoldable pub verdict : ℕ → ℕ → Verdict
-verdict n k = pick (eqb n 0) passed (refused n k)
+verdict n k = pick (eqb n 0) Passed (Refused n k)
 
 -- ---- 4 to 12: "object by object"
 
 -- the files from object `k` on, each at its object's offset in an arena of `size` bytes
 unfoldable pub loadVerdict : Objs → ℕ → ℕ → List File → Verdict
-loadVerdict S size k [] = passed
+loadVerdict S size k [] = Passed
 loadVerdict S size k (f ∷ fs) =
     first (verdict (objectRefusal (f .host) (size - (obj S k) .offset) (f .bytes)) k) (loadVerdict S size (k + 1) fs)
 
@@ -71,8 +68,8 @@ copyRefusal S k r p size (answer d s a) =
 
 -- 14 and 15 of the entry's symbol, else what follows
 abbrev pub symbolThen : CheckedSymbol → (Symbol → ℕ) → ℕ
-symbolThen (Refused n) rest = n
-symbolThen (Checked y) rest = rest y
+symbolThen (checked.the-variants.Refused n) rest = n
+symbolThen (checked.the-variants.Checked y) rest = rest y
 
 -- 14 to 18 of an entry, by the row of its type
 unfoldable pub refusalBy : Objs → ℕ → List ℕ → Record → Rela → Row → ℕ
@@ -89,11 +86,11 @@ entryRefusal S k image r e = refusalBy S k image r e (rowOf (e .rtype))
 
 -- the words that RELR names, then the entries of RELA and PLT
 unfoldable pub wordsVerdict : ℕ → Record → List Word → Verdict
-wordsVerdict k r [] = passed
+wordsVerdict k r [] = Passed
 wordsVerdict k r (w ∷ ws) = first (verdict (wordRefusal r w) k) (wordsVerdict k r ws)
 
 unfoldable pub entriesVerdict : Objs → ℕ → List ℕ → Record → List Rela → Verdict
-entriesVerdict S k image r [] = passed
+entriesVerdict S k image r [] = Passed
 entriesVerdict S k image r (e ∷ es) = first (verdict (entryRefusal S k image r e) k) (entriesVerdict S k image r es)
 
 unfoldable pub objectVerdict : Objs → ℕ → File → Verdict
@@ -107,5 +104,5 @@ noFile = record { host = true; bytes = [] }
 
 -- the objects of an order, one after another
 unfoldable pub orderVerdict : Objs → List File → List ℕ → Verdict
-orderVerdict S files [] = passed
+orderVerdict S files [] = Passed
 orderVerdict S files (k ∷ ks) = first (objectVerdict S k (getD files k noFile)) (orderVerdict S files ks)

@@ -8,11 +8,10 @@ ghost use Rattle.binder.specs.Setting.{settingAt};
 ghost use Rattle.binder.specs.Bind.{outcome, bindOf, allows};
 ghost use Rattle.scope.specs.Steps.Seats.{Filtered};
 ghost use Rattle.binder.specs.Steps.Settled.{endsBy, Relocated, BoundSet, settledOf};
-ghost use Rattle.binder.specs.Steps.Prepared.{metBy};
 use crate::Answer;
 use crate::Policy;
+use crate::Verdict;
 use crate::order::Order;
-use crate::prepare::Met;
 use crate::report::Progress;
 use sheet::sheet::Parts;
 
@@ -36,28 +35,28 @@ fn is_zero(n: u32) -> bool
 }
 
 // The refusal of relocating: 14 to 18, then 19, then 20.
-fn end(p: Progress, policy: Policy) -> Met
-    ensures { λ r. ⌜ metBy r ≡ endsBy policy p ⌝ }
+fn end(p: Progress, policy: Policy) -> Verdict
+    ensures { λ r. ⌜ r ≡ endsBy policy p ⌝ }
 {
     if p.refusal != 0 {
-        return Met::Refused {
+        return Verdict::Refused {
             number: p.refusal,
             object: p.object,
         };
     }
     if !allows_undefined(policy, p.undefined) {
-        return Met::Refused {
+        return Verdict::Refused {
             number: 19,
             object: p.undefined,
         };
     }
     if p.full {
-        return Met::Refused {
+        return Verdict::Refused {
             number: 20,
             object: 0,
         };
     }
-    Met::Passed
+    Verdict::Passed
 }
 
 // Refusals 14 to 20 of the objects that the table of parts names, which are loaded: they are relocated in any order of them.
@@ -69,7 +68,7 @@ fn bind_in(
     report: &mut [u32],
     table: &[u64],
     order: Order,
-) -> Met
+) -> Verdict
     requires { ⌜ (order .count ≤ 64) × Filtered (now table) ⌝ }
     ensures { λ r. ⌜ Relocated (inputsIn (now (bytes .entry)) parts) (now (table .entry)) (take (order .count) (order .list)) (now (arena .entry)) policy (now (report .entry)) (now (arena .exit)) (now (report .exit)) r ⌝ }
 {
@@ -85,13 +84,13 @@ fn bind_set(
     address: u64,
     policy: Policy,
     report: &mut [u32],
-) -> Met
+) -> Verdict
     requires { ⌜ (2 ≤ parts .count) × (parts .count ≤ 64) × (length (inputsIn (now bytes) parts) ≡ parts .count) × (now report ≡ replicate (length (now report)) 0) ⌝ }
     ensures { λ r. ⌜ BoundSet (settingAt address) (inputsIn (now (bytes .entry)) parts) (length (now (arena .entry))) policy (length (now (report .entry))) (now (arena .exit)) (now (report .exit)) r ⌝ }
 {
     let mut table = [0u64; 1026];
     let m = crate::prepare::prepare(bytes, parts, arena, address, &mut table);
-    let Met::Passed = m else {
+    let Verdict::Passed = m else {
         return m;
     };
     let order = crate::needs::order_of(bytes, parts, arena, &table);
@@ -99,10 +98,10 @@ fn bind_set(
 }
 
 // The answer; a refusal leaves zeros. No other function clears after a refusal of `bind`.
-fn settle(m: Met, arena: &mut [u8], report: &mut [u32]) -> Answer
+fn settle(m: Verdict, arena: &mut [u8], report: &mut [u32]) -> Answer
     ensures { λ r. ⌜ outcome r (now (arena .exit)) (now (report .exit)) ≡ settledOf m (now (arena .entry)) (now (report .entry)) ⌝ }
 {
-    let Met::Refused { number, object } = m else {
+    let Verdict::Refused { number, object } = m else {
         return Answer::Bound;
     };
     words::bytes::clear(arena);
@@ -127,7 +126,7 @@ pub fn bind(
     words::bytes::clear_words(report);
     let parts = sheet::sheet::parts_of(sheet, bytes.len());
     if parts.count < 2 {
-        let one = Met::Refused {
+        let one = Verdict::Refused {
             number: 1,
             object: 0,
         };

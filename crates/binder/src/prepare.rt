@@ -6,14 +6,9 @@ ghost use Rattle.sheet.specs.Steps.Parts.{inputsIn};
 ghost use Rattle.binder.specs.Setting.{settingAt};
 ghost use Rattle.binder.specs.Bind.{filesOf};
 ghost use Rattle.binder.specs.Steps.Prepared.{LoadedAt, LoadedFiles, Prepared};
+use crate::Verdict;
 use scope::seats::Seat;
 use sheet::sheet::Parts;
-
-// The checks of a set: passed, or the first refusal with its object.
-pub enum Met {
-    Passed,
-    Refused { number: u32, object: u32 },
-}
 
 // One object: its refusal, or its seat.
 pub enum Loaded {
@@ -42,7 +37,7 @@ fn load_at(arena: &mut [u8], off: usize, file: &[u8], host: bool) -> Loaded
 }
 
 // Loads the objects that the table of parts names, one after another, writes zeros behind the last, and fills the table of seats.
-fn load_all(bytes: &[u8], parts: Parts, arena: &mut [u8], table: &mut [u64]) -> Met
+fn load_all(bytes: &[u8], parts: Parts, arena: &mut [u8], table: &mut [u64]) -> Verdict
     requires { ⌜ (parts .count ≤ 64) × (length (inputsIn (now bytes) parts) ≡ parts .count) × (1024 ≤ length (now table)) ⌝ }
     ensures { λ r. ⌜ LoadedFiles (filesOf (inputsIn (now (bytes .entry)) parts)) (now (arena .entry)) (now (arena .exit)) (now (table .exit)) r ⌝ }
 {
@@ -54,7 +49,7 @@ fn load_all(bytes: &[u8], parts: Parts, arena: &mut [u8], table: &mut [u64]) -> 
         let p = load_at(arena, off, file, k == 0);
         match p {
             Loaded::Refused(number) => {
-                return Met::Refused {
+                return Verdict::Refused {
                     number: number,
                     object: k as u32,
                 };
@@ -67,7 +62,7 @@ fn load_all(bytes: &[u8], parts: Parts, arena: &mut [u8], table: &mut [u64]) -> 
         }
     }
     words::bytes::zero(arena, off, arena.len() - off);
-    Met::Passed
+    Verdict::Passed
 }
 
 // Refusals 2 to 12 of the objects that the table of parts names; what passes is loaded, whatever the arena holds before, and its seats,
@@ -78,19 +73,19 @@ pub(crate) fn prepare(
     arena: &mut [u8],
     address: u64,
     table: &mut [u64],
-) -> Met
+) -> Verdict
     requires { ⌜ (parts .count ≤ 64) × (length (inputsIn (now bytes) parts) ≡ parts .count) × (1026 ≤ length (now table)) ⌝ }
     ensures { λ r. ⌜ Prepared (settingAt address) (inputsIn (now (bytes .entry)) parts) (now (arena .entry)) (now (arena .exit)) (now (table .exit)) r ⌝ }
 {
     if !sheet::sheet::arena_ok(arena.len(), address) {
-        return Met::Refused {
+        return Verdict::Refused {
             number: 2,
             object: 0,
         };
     }
     let t = sheet::sheet::twin(bytes, parts);
     if t != 0 {
-        return Met::Refused {
+        return Verdict::Refused {
             number: 3,
             object: t as u32,
         };

@@ -8,7 +8,7 @@ ghost use Rattle.binder.specs.Setting.{settingAt};
 ghost use Rattle.binder.specs.Bind.{replied, replyOf, askSet, queryOf};
 ghost use Rattle.binder.specs.declared.Reply.the-variants.{Refused};
 use crate::Reply;
-use crate::prepare::Met;
+use crate::Verdict;
 use scope::scope::Scoped;
 use sheet::sheet::Parts;
 
@@ -57,7 +57,7 @@ fn ask_set(
     let count = parts.count;
     let mut table = [0u64; 1026];
     let m = crate::prepare::prepare(bytes, parts, arena, address, &mut table);
-    if let Met::Refused { number, object } = m {
+    if let Verdict::Refused { number, object } = m {
         return refuse(number, object, arena);
     }
     if count <= requester {

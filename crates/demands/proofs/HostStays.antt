@@ -23,7 +23,9 @@ use Rattle.binder.specs.declared.Reply as replies
 use Rattle.binder.specs.declared.Reply.{Reply}
 use Rattle.binder.specs.Setting.{Setting}
 use Rattle.binder.specs.Instance.{File, objectAt}
-use Rattle.binder.specs.Verdict.{Verdict, passed, refused, orderVerdict}
+use Rattle.binder.specs.Verdict.{orderVerdict}
+use Rattle.binder.specs.declared.Verdict.{Verdict}
+use Rattle.binder.specs.declared.Verdict.the-variants.{Passed, Refused}
 use Rattle.binder.specs.SetOrder.{setOrder}
 use Rattle.binder.specs.Steps.Prepared.{loadFrom, placeFiles}
 use Rattle.binder.specs.Bind.{filesOf, namesOf, objectsOf, replied, repliedOf, queryOf}
@@ -79,11 +81,11 @@ first-bytes file size m l same =
     many : length (take (length file) (tab size m)) ≡ length file
     many = simp (length-take, length-tab) (omega arith)
 
-module _ (setting : Setting) (size : ℕ) (h p : Input) (ls : List Input) (v : loadFrom size 0 0 (filesOf (h ∷ (p ∷ ls))) ≡ passed) where
+module _ (setting : Setting) (size : ℕ) (h p : Input) (ls : List Input) (v : loadFrom size 0 0 (filesOf (h ∷ (p ∷ ls))) ≡ Passed) where
   abbrev fs : List File
   fs = map fileOf ls
 
-  loads : loadFrom size 0 0 (hostFile h ∷ (fileOf p ∷ fs)) ≡ passed
+  loads : loadFrom size 0 0 (hostFile h ∷ (fileOf p ∷ fs)) ≡ Passed
   loads = rw (files-are h p ls) at v
 
   fits : length (h .file) ≤ size
@@ -95,7 +97,7 @@ module _ (setting : Setting) (size : ℕ) (h p : Input) (ls : List Input) (v : l
   placed-host i l = rw (files-are h p ls) (placed-first setting (hostFile h) (fileOf p) fs i l)
 
   bound-host :
-      orderVerdict (objectsIn setting (h ∷ (p ∷ ls))) (filesOf (h ∷ (p ∷ ls))) (orderIn (h ∷ (p ∷ ls))) ≡ passed
+      orderVerdict (objectsIn setting (h ∷ (p ∷ ls))) (filesOf (h ∷ (p ∷ ls))) (orderIn (h ∷ (p ∷ ls))) ≡ Passed
       → (i : ℕ) → i < length (h .file)
       → bound (objectsIn setting (h ∷ (p ∷ ls))) (orderIn (h ∷ (p ∷ ls))) i ≡ mem (h .file) i
   unfolding objectsOf objectSpan objectAt layouts.objsOf
@@ -108,7 +110,7 @@ module _ (setting : Setting) (size : ℕ) (h p : Input) (ls : List Input) (v : l
 
 -- ---- of a set
 
-module _ (setting : Setting) (size : ℕ) (os : List Input) (s : Shape os) (v : loadFrom size 0 0 (filesOf os) ≡ passed) where
+module _ (setting : Setting) (size : ℕ) (os : List Input) (s : Shape os) (v : loadFrom size 0 0 (filesOf os) ≡ Passed) where
   -- an arena whose first bytes are the host's
   host-in : (m : Mem) → ((i : ℕ) → i < length (s .host .file) → m i ≡ mem (s .host .file) i) → HostIn os (tab size m)
   host-in m same =
@@ -121,7 +123,7 @@ module _ (setting : Setting) (size : ℕ) (os : List Input) (s : Shape os) (v : 
       (λ i l. rw (s .is) (placed-host setting size (s .host) (s .program) (s .libs) (rw (s .is) at v) i l))
 
   bound-in :
-      orderVerdict (objectsIn setting os) (filesOf os) (orderIn os) ≡ passed → HostIn os (tab size (bound (objectsIn setting os) (orderIn os)))
+      orderVerdict (objectsIn setting os) (filesOf os) (orderIn os) ≡ Passed → HostIn os (tab size (bound (objectsIn setting os) (orderIn os)))
   bound-in w =
       host-in (bound (objectsIn setting os) (orderIn os))
       (λ i l. rw (s .is) (bound-host setting size (s .host) (s .program) (s .libs) (rw (s .is) at v) (rw (s .is) at w) i l))
@@ -130,10 +132,10 @@ module _ (setting : Setting) (size : ℕ) (os : List Input) (s : Shape os) (v : 
 answered :
     (size : ℕ) (v : Verdict) (x : Reply) (l : List ℕ) (r : Reply) (arena : List ℕ) → repliedOf size v x l ≡ replied r arena
     → ((n k : ℕ) → r ≢ replies.the-variants.Refused n k)
-    → (v ≡ passed) × (arena ≡ l)
+    → (v ≡ Passed) × (arena ≡ l)
 unfolding repliedOf
-answered size passed x l r arena e ne = (refl, cc)
-answered size (refused n k) x l r arena e ne = absurd (ne n k cc)
+answered size Passed x l r arena e ne = (refl, cc)
+answered size (Refused n k) x l r arena e ne = absurd (ne n k cc)
 
 pub host-kept : HostKept
 host-kept = record { bound = bind-host; asked = query-host }

@@ -21,7 +21,9 @@ use Rattle.binder.specs.declared.Reply.{Reply}
 use Rattle.binder.specs.declared.Reply.the-variants.{Found}
 use Rattle.binder.specs.Setting.{Setting}
 use Rattle.binder.specs.Instance.{File, objectAt}
-use Rattle.binder.specs.Verdict.{Verdict, passed, refused, first}
+use Rattle.binder.specs.Verdict.{first}
+use Rattle.binder.specs.declared.Verdict.{Verdict}
+use Rattle.binder.specs.declared.Verdict.the-variants.{Passed, Refused}
 use Rattle.binder.specs.Bind.{filesOf, objectsOf, unless, prepareVerdict, replied, replyOf, repliedOf, askSet, queryOf}
 use Rattle.demands.proofs.PassedSet.{sheet-prepared}
 use Rattle.demands.specs.LongerSet.{PassesLoading, BoundBy, setObjects, LongerQuery}
@@ -33,10 +35,10 @@ use Rattle.binder.proofs.SoundLaws.{count-is}
 -- a query that found a symbol was not refused
 found-passed :
     (size : ℕ) (v : Verdict) (r : Reply) (l arena : List ℕ) (k i a : ℕ) → repliedOf size v r l ≡ replied (Found k i a) arena
-    → (v ≡ passed) × (r ≡ Found k i a)
+    → (v ≡ Passed) × (r ≡ Found k i a)
 unfolding repliedOf
-found-passed size passed r l arena k i a e = (refl, cc)
-found-passed size (refused n j) r l arena k i a e = let z : _≡_ {A = ℕ} 0 1 = cc in absurd (omega arith)
+found-passed size Passed r l arena k i a e = (refl, cc)
+found-passed size (Refused n j) r l arena k i a e = let z : _≡_ {A = ℕ} 0 1 = cc in absurd (omega arith)
 
 -- the lookup of which it is the reply
 found-answer :

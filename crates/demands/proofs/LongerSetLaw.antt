@@ -11,7 +11,8 @@ use Rattle.model.proofs.Files.{longer-files}
 use Rattle.sheet.specs.Sheet.{Input, setOf}
 use Rattle.binder.specs.Setting.{Setting}
 use Rattle.binder.specs.Instance.{File, objectAt}
-use Rattle.binder.specs.Verdict.{passed, orderVerdict}
+use Rattle.binder.specs.Verdict.{orderVerdict}
+use Rattle.binder.specs.declared.Verdict.the-variants.{Passed}
 use Rattle.binder.specs.Steps.Prepared.{loadFrom}
 use Rattle.binder.specs.SetOrder.{setOrder}
 use Rattle.binder.specs.Bind.{filesOf, namesOf, objectsOf}
@@ -24,10 +25,10 @@ use Rattle.binder.proofs.OrderIs.{names-length, order-is}
 
 -- the two stages that a set passed, of its files and its libraries' names
 abbrev Loads : ℕ → List File → Type 0
-Loads size files = loadFrom size 0 0 files ≡ passed
+Loads size files = loadFrom size 0 0 files ≡ Passed
 
 abbrev Relocates : Setting → List File → List (List ℕ) → Type 0
-Relocates setting files names = orderVerdict (objectsOf setting files) files (setOrder files names) ≡ passed
+Relocates setting files names = orderVerdict (objectsOf setting files) files (setOrder files names) ≡ Passed
 
 -- what is claimed, of two sets in arenas of `size` and `size′` bytes
 abbrev Keeps : Setting → ℕ → List File → List (List ℕ) → ℕ → List File → List (List ℕ) → Type 0

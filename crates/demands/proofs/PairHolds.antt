@@ -37,7 +37,8 @@ use Rattle.sheet.specs.Sheet as sheets
 use Rattle.binder.specs.declared.Policy.the-variants.{Lenient}
 use Rattle.binder.specs.declared.Answer.the-variants.{Bound}
 use Rattle.binder.specs.Instance.{File, definitionFound, placesOf, namedWords, relasOf, entryBy, objectAt}
-use Rattle.binder.specs.Verdict.{passed, verdict, refusalBy, wordsVerdict, entriesVerdict, objectVerdict, orderVerdict}
+use Rattle.binder.specs.Verdict.{verdict, refusalBy, wordsVerdict, entriesVerdict, objectVerdict, orderVerdict}
+use Rattle.binder.specs.declared.Verdict.the-variants.{Passed}
 use Rattle.binder.specs.Steps.Prepared.{loadFrom}
 use Rattle.binder.specs.Report.{reportWord, isAbsent, undefinedBy, entryReport, objectWords, orderWords}
 use Rattle.binder.specs.SetOrder.{neededObjects, setOrder}
@@ -157,22 +158,22 @@ T-is = rw (host-is, program-is, a-is, b-is)
 
 load-next :
     (size k off span : ℕ) (host : Bool) (bs image : List ℕ) (r : Record) (fs : List File) → Reads host bs span image r → span ≤ size - off
-    → loadFrom size (k + 1) (off + span) fs ≡ passed
-    → loadFrom size k off (file host bs ∷ fs) ≡ passed
+    → loadFrom size (k + 1) (off + span) fs ≡ Passed
+    → loadFrom size k off (file host bs ∷ fs) ≡ Passed
 unfolding loadFrom verdict
 load-next size k off span host bs image r fs reads fits rest = rw (reads .loads (size - off) fits, reads .span-is) rest
 
-load-end : (size k off : ℕ) → loadFrom size k off [] ≡ passed
+load-end : (size k off : ℕ) → loadFrom size k off [] ≡ Passed
 unfolding loadFrom
 load-end size k off = refl
 
-S-loads : loadFrom 0x4000 0 0 files ≡ passed
+S-loads : loadFrom 0x4000 0 0 files ≡ Passed
 S-loads =
     load-next 0x4000 0 0 0x1000 true hostFile hostImage hostRecord _ host-reads (omega arith)
     (load-next 0x4000 1 0x1000 0x2000 false programFile programImage programRecord _ program-reads (omega arith)
     (load-next 0x4000 2 0x3000 0x1000 false (libraryFile 97) (libraryImage 97) libraryRecord _ a-reads (omega arith) (load-end 0x4000 3 0x4000)))
 
-T-loads : loadFrom 0x5000 0 0 longerFiles ≡ passed
+T-loads : loadFrom 0x5000 0 0 longerFiles ≡ Passed
 T-loads =
     load-next 0x5000 0 0 0x1000 true hostFile hostImage hostRecord _ host-reads (omega arith)
     (load-next 0x5000 1 0x1000 0x2000 false programFile programImage programRecord _ program-reads (omega arith)
@@ -207,20 +208,20 @@ T-order = order-two _ (rw (a-reads .record-is)) (rw (b-reads .record-is))
 
 -- ---- refusals 14 to 18: none reads another object
 
-program-verdict : (A : Objs) → objectVerdict A 1 (file false programFile) ≡ passed
+program-verdict : (A : Objs) → objectVerdict A 1 (file false programFile) ≡ Passed
 unfolding objectVerdict wordsVerdict entriesVerdict verdict refusalBy wordBytes every some tab mem byteOf leAt untilZero namedWords relrWords relrsFrom
     relasOf relasFrom relaAt rowOf checkedSymbol indexOk symbolOk isTable tableBytes tableName inWritable require below
 program-verdict A = rw (program-reads .image-is, program-reads .record-is)
 
-library-verdict : (A : Objs) (k c : ℕ) → Reads false (libraryFile c) 0x1000 (libraryImage c) libraryRecord → objectVerdict A k (file false (libraryFile c)) ≡ passed
+library-verdict : (A : Objs) (k c : ℕ) → Reads false (libraryFile c) 0x1000 (libraryImage c) libraryRecord → objectVerdict A k (file false (libraryFile c)) ≡ Passed
 unfolding objectVerdict wordsVerdict entriesVerdict namedWords relrWords relrsFrom relasOf relasFrom
 library-verdict A k c reads = rw (reads .image-is, reads .record-is)
 
-S-entries : orderVerdict S files (2 ∷ 1 ∷ []) ≡ passed
+S-entries : orderVerdict S files (2 ∷ 1 ∷ []) ≡ Passed
 unfolding orderVerdict
 S-entries = rw (library-verdict S 2 97 a-reads, program-verdict S)
 
-T-entries : orderVerdict T longerFiles (2 ∷ 3 ∷ 1 ∷ []) ≡ passed
+T-entries : orderVerdict T longerFiles (2 ∷ 3 ∷ 1 ∷ []) ≡ Passed
 unfolding orderVerdict
 T-entries = rw (library-verdict T 2 97 a-reads, library-verdict T 3 98 b-reads, program-verdict T)
 
@@ -269,7 +270,7 @@ T-words = rw (library-words T 2 97 a-reads, library-words T 3 98 b-reads, progra
 bind-passed :
     (sheet bytes : List ℕ) (size : ℕ) (os : List Input) (order ws : List ℕ) (A : Objs) → setOf sheet bytes ≡ os
     → PassesLoading setting sheet bytes size → objectsOf setting (filesOf os) ≡ A → setOrder (filesOf os) (namesOf os) ≡ order
-    → orderVerdict A (filesOf os) order ≡ passed → orderWords A (filesOf os) order ≡ ws → leb (length ws) 16 ≡ true
+    → orderVerdict A (filesOf os) order ≡ Passed → orderWords A (filesOf os) order ≡ ws → leb (length ws) 16 ≡ true
     → bindOf setting sheet bytes size Lenient 16 ≡ outcome Bound (tab size (bound A order)) (ws ++ replicate (16 - length ws) 0)
 unfolding bindOf bindSet bindIn relocateVerdict unless outcomeOf
 bind-passed sheet bytes size os order ws A s v o r e w l = rw (v .0, v .1, s, o, r, e, w, l)

@@ -13,7 +13,8 @@ use Rattle.sheet.specs.Sheet.{Input, sheetOk, setOf, arenaOk, twinOf}
 use Rattle.sheet.proofs.SheetLonger.{sheet-shape}
 use Rattle.binder.specs.Setting.{Setting}
 use Rattle.binder.specs.Instance.{File}
-use Rattle.binder.specs.Verdict.{passed, noFile, loadVerdict}
+use Rattle.binder.specs.Verdict.{noFile, loadVerdict}
+use Rattle.binder.specs.declared.Verdict.the-variants.{Passed}
 use Rattle.binder.specs.Steps.Prepared.{loadFrom}
 use Rattle.binder.specs.SetOrder.{neededObjects, setOrder}
 use Rattle.binder.specs.Bind.{filesOf, namesOf, objectsOf, unless, prepareVerdict}
@@ -28,7 +29,7 @@ module _ (sheet bytes : List ℕ) where
 
   pub record Loads (size : ℕ) : Type 0 where
     pub sheet-ok : sheetOk sheet (length bytes) ≡ true
-    pub loads : loadFrom size 0 0 (filesOf os) ≡ passed
+    pub loads : loadFrom size 0 0 (filesOf os) ≡ Passed
 
   pub prepared : (setting : Setting) (size : ℕ) → PassesLoading setting sheet bytes size → Loads size
   unfolding prepareVerdict
@@ -38,7 +39,7 @@ module _ (sheet bytes : List ℕ) where
       record { sheet-ok = v .0; loads = sym (loads-same setting size (filesOf os)) ∙ c .1 }
 
   -- of the one verdict
-  pub sheet-prepared : (setting : Setting) (size : ℕ) → sheetVerdict setting sheet bytes size ≡ passed → PassesLoading setting sheet bytes size
+  pub sheet-prepared : (setting : Setting) (size : ℕ) → sheetVerdict setting sheet bytes size ≡ Passed → PassesLoading setting sheet bytes size
   sheet-prepared setting size v =
       let a = first-passed (unless (sheetOk sheet (length bytes)) 1 0) _ v in
       (unless-passed (sheetOk sheet (length bytes)) 1 0 (a .0), a .1)

@@ -33,29 +33,12 @@ use Rattle.object.specs.declared.program_header.Dynamic.the-variants.{Missing, 
 use Rattle.object.specs.declared.symbol.Symbol.{Symbol}
 use Rattle.object.specs.declared.relocate.Rela.{Rela}
 use Rattle.object.specs.RelocationTypes.{Row, noSearch, inScope, ignored, passedOver, turnedAway, copies, writes, rowOf}
-use Rattle.object.specs.declared.entry_symbol.CheckedSymbol.the-variants.{Refused, Checked}
+use Rattle.object.specs.declared.entry_symbol.CheckedSymbol as checked
 use Rattle.sheet.specs.Sheet.{Input, noInput, named, twinFrom, twinOf}
 use Rattle.binder.specs.Instance.{File, fileImage, fileRecord, namedWords, relasOf, wantedBy}
-use Rattle.binder.specs.Verdict.{
-  Verdict,
-  passed,
-  refused,
-  first,
-  verdict,
-  noFile,
-  loadVerdict,
-  writtenRefusal,
-  wordRefusal,
-  copyOk,
-  copyRefusal,
-  symbolThen,
-  refusalBy,
-  entryRefusal,
-  wordsVerdict,
-  entriesVerdict,
-  objectVerdict,
-  orderVerdict,
-}
+use Rattle.binder.specs.Verdict.{first, verdict, noFile, loadVerdict, writtenRefusal, wordRefusal, copyOk, copyRefusal, symbolThen, refusalBy, entryRefusal, wordsVerdict, entriesVerdict, objectVerdict, orderVerdict}
+use Rattle.binder.specs.declared.Verdict.{Verdict}
+use Rattle.binder.specs.declared.Verdict.the-variants.{Passed, Refused}
 use Rattle.binder.specs.Report.{hasUndefined, firstUndefined}
 use Rattle.binder.specs.Bind.{unless}
 
@@ -151,7 +134,7 @@ unfolding checkedSymbol
 symbol-range image r i rest h =
     go (indexOk (r .known) i) (symbolOk (isTableOf r) image (r .symbols) (r .strings) i)
   where
-    go : (s t : Bool) → Range 14 18 (symbolThen (pick s (pick t (Checked (symbolAt image (r .symbols) i)) (Refused 15)) (Refused 14)) rest)
+    go : (s t : Bool) → Range 14 18 (symbolThen (pick s (pick t (checked.the-variants.Checked (symbolAt image (r .symbols) i)) (checked.the-variants.Refused 15)) (checked.the-variants.Refused 14)) rest)
     go true true = h (symbolAt image (r .symbols) i)
     go true false = λ z. omega arith
     go false t = λ z. omega arith
@@ -171,18 +154,18 @@ entry-range S k image r e copies =
 -- ---- verdicts: what holds of the number and the object, where there is a refusal
 
 abbrev pub Meets : (ℕ → ℕ → Type 0) → Verdict → Type 0
-Meets P passed = Unit {0}
-Meets P (refused n k) = P n k
+Meets P Passed = Unit {0}
+Meets P (Refused n k) = P n k
 
 module _ (P : ℕ → ℕ → Type 0) where
   pub first-meets : (v w : Verdict) → Meets P v → Meets P w → Meets P (first v w)
-  first-meets passed w a b = b
-  first-meets (refused n k) w a b = a
+  first-meets Passed w a b = b
+  first-meets (Refused n k) w a b = a
 
   -- the second is looked at where the first passed
-  pub first-then : (v w : Verdict) → Meets P v → (v ≡ passed → Meets P w) → Meets P (first v w)
-  first-then passed w a b = b refl
-  first-then (refused n k) w a b = a
+  pub first-then : (v w : Verdict) → Meets P v → (v ≡ Passed → Meets P w) → Meets P (first v w)
+  first-then Passed w a b = b refl
+  first-then (Refused n k) w a b = a
 
   pub unless-meets : (t : Bool) (n k : ℕ) → (t ≡ false → P n k) → Meets P (unless t n k)
   unfolding unless
@@ -194,7 +177,7 @@ module _ (P : ℕ → ℕ → Type 0) where
   unfolding verdict
   verdict-meets low high n k r h = go (eqb n 0) refl
     where
-      go : (t : Bool) → eqb n 0 ≡ t → Meets P (pick t passed (refused n k))
+      go : (t : Bool) → eqb n 0 ≡ t → Meets P (pick t Passed (Refused n k))
       go true e = tt
       go false e =
           let ne = eqb-false n 0 e in

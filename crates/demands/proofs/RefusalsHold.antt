@@ -24,7 +24,9 @@ use Rattle.binder.specs.declared.Reply as replies
 use Rattle.binder.specs.declared.Reply.{Reply}
 use Rattle.binder.specs.Setting.{Setting}
 use Rattle.binder.specs.Instance.{File}
-use Rattle.binder.specs.Verdict.{Verdict, passed, refused, first, orderVerdict}
+use Rattle.binder.specs.Verdict.{first, orderVerdict}
+use Rattle.binder.specs.declared.Verdict.{Verdict}
+use Rattle.binder.specs.declared.Verdict.the-variants.{Passed, Refused}
 use Rattle.binder.specs.Report.{orderWords, firstUndefined}
 use Rattle.binder.specs.Bind.{
   filesOf,
@@ -173,8 +175,8 @@ refused-outcome :
     → outcomeOf size words v a r ≡ outcome (answers.the-variants.Refused n k) arena report
     → P n k × (arena ≡ replicate size 0) × (report ≡ replicate words 0)
 unfolding outcomeOf
-refused-outcome P size words passed a r n k arena report m e = let z : _≡_ {A = ℕ} 0 1 = cc in absurd (omega arith)
-refused-outcome P size words (refused i j) a r n k arena report m e =
+refused-outcome P size words Passed a r n k arena report m e = let z : _≡_ {A = ℕ} 0 1 = cc in absurd (omega arith)
+refused-outcome P size words (Refused i j) a r n k arena report m e =
     let number : i ≡ n = cc in
     let object : j ≡ k = cc in
     (rw (number, object) at m, cc, cc)
@@ -192,8 +194,8 @@ refused-reply :
     → repliedOf size v r l ≡ replied (replies.the-variants.Refused n k) arena
     → P n k × (arena ≡ replicate size 0)
 unfolding repliedOf
-refused-reply P size passed r l n k arena m ne e = absurd (ne n k cc)
-refused-reply P size (refused i j) r l n k arena m ne e =
+refused-reply P size Passed r l n k arena m ne e = absurd (ne n k cc)
+refused-reply P size (Refused i j) r l n k arena m ne e =
     let number : i ≡ n = cc in
     let object : j ≡ k = cc in
     (rw (number, object) at m, cc)
@@ -218,16 +220,16 @@ bind-answered :
     → ((arena report : List ℕ) × (outcomeOf size words v a r ≡ outcome answers.the-variants.Bound arena report))
     ⊎ ((n k : ℕ) × (outcomeOf size words v a r ≡ outcome (answers.the-variants.Refused n k) (replicate size 0) (replicate words 0)))
 unfolding outcomeOf
-bind-answered size words passed a r = inl (a, r ++ replicate (words - length r) 0, refl)
-bind-answered size words (refused n k) a r = inr (n, k, refl)
+bind-answered size words Passed a r = inl (a, r ++ replicate (words - length r) 0, refl)
+bind-answered size words (Refused n k) a r = inr (n, k, refl)
 
 query-answered :
     (size : ℕ) (v : Verdict) (x : Reply) (l : List ℕ)
     → ((arena : List ℕ) × (repliedOf size v x l ≡ replied x arena))
     ⊎ ((n k : ℕ) × (repliedOf size v x l ≡ replied (replies.the-variants.Refused n k) (replicate size 0)))
 unfolding repliedOf
-query-answered size passed x l = inl (l, refl)
-query-answered size (refused n k) x l = inr (n, k, refl)
+query-answered size Passed x l = inl (l, refl)
+query-answered size (Refused n k) x l = inr (n, k, refl)
 
 pub answered : Answered
 unfolding bindIn
@@ -243,15 +245,15 @@ words-fit : (words : ℕ) (ws : List ℕ) → length ws ≤ words → length (ws
 words-fit words ws l = simp (length-append, length-replicate) (omega arith)
 
 bind-lengths :
-    (size words : ℕ) (v : Verdict) (a r : List ℕ) (x : Answer) (arena report : List ℕ) → length a ≡ size → (v ≡ passed → length r ≤ words)
+    (size words : ℕ) (v : Verdict) (a r : List ℕ) (x : Answer) (arena report : List ℕ) → length a ≡ size → (v ≡ Passed → length r ≤ words)
     → outcomeOf size words v a r ≡ outcome x arena report
     → (length arena ≡ size) × (length report ≡ words)
 unfolding outcomeOf
-bind-lengths size words passed a r x arena report la lr e =
+bind-lengths size words Passed a r x arena report la lr e =
     let arena-is : arena ≡ a = cc in
     let report-is : report ≡ r ++ replicate (words - length r) 0 = cc in
     (ap length arena-is ∙ la, ap length report-is ∙ words-fit words r (lr refl))
-bind-lengths size words (refused n k) a r x arena report la lr e =
+bind-lengths size words (Refused n k) a r x arena report la lr e =
     let arena-is : arena ≡ replicate size 0 = cc in
     let report-is : report ≡ replicate words 0 = cc in
     (ap length arena-is ∙ length-replicate size 0, ap length report-is ∙ length-replicate words 0)
@@ -260,13 +262,13 @@ query-length :
     (size : ℕ) (v : Verdict) (x : Reply) (l : List ℕ) (r : Reply) (arena : List ℕ) → length l ≡ size → repliedOf size v x l ≡ replied r arena
     → length arena ≡ size
 unfolding repliedOf
-query-length size passed x l r arena n e = let is : arena ≡ l = cc in ap length is ∙ n
-query-length size (refused i j) x l r arena n e = let is : arena ≡ replicate size 0 = cc in ap length is ∙ length-replicate size 0
+query-length size Passed x l r arena n e = let is : arena ≡ l = cc in ap length is ∙ n
+query-length size (Refused i j) x l r arena n e = let is : arena ≡ replicate size 0 = cc in ap length is ∙ length-replicate size 0
 
 -- 20 was passed
 room :
     (S : Objs) (files : List File) (order : List ℕ) (policy : Policy) (words : ℕ) (v : Verdict)
-    → first v (relocateVerdict S files order policy words) ≡ passed → length (orderWords S files order) ≤ words
+    → first v (relocateVerdict S files order policy words) ≡ Passed → length (orderWords S files order) ≤ words
 unfolding relocateVerdict
 room S files order policy words v e =
     let a = first-passed v _ e in
@@ -282,6 +284,6 @@ lengths =
           bind-lengths size words _ _ _ x arena report (length-tab size _)
           (room (objectsIn setting (setOf sheet bytes)) (filesOf (setOf sheet bytes)) (orderIn (setOf sheet bytes)) policy words
           (sheetVerdict setting sheet bytes size)) (sym (bind-one setting sheet bytes size policy words) ∙ e);
-      query = λ setting sheet bytes size requester name r arena e. 
+      query = λ setting sheet bytes size requester name r arena e.
           query-length size _ _ _ r arena (length-tab size _) (sym (query-one setting sheet bytes size requester name) ∙ e);
     }

@@ -16,7 +16,7 @@ use Rattle.binder.specs.declared.Answer.the-variants.{Bound}
 use Rattle.binder.specs.declared.Reply.the-variants.{Found}
 use Rattle.sheet.specs.Sheet.{sheetOk, setOf}
 use Rattle.binder.specs.Setting.{Setting}
-use Rattle.binder.specs.Verdict.{passed}
+use Rattle.binder.specs.declared.Verdict.the-variants.{Passed}
 use Rattle.binder.specs.Bind.{filesOf, objectsOf, prepareVerdict, bindOf, outcome, queryOf, replied}
 
 -- the objects of a sheet and its bytes, in a setting
@@ -45,7 +45,7 @@ LongerSet =
 -- the set meets none of refusals 1 to 12 in an arena of `size` bytes: only 13 is left to a query
 abbrev pub PassesLoading : Setting → List ℕ → List ℕ → ℕ → Type 0
 PassesLoading setting sheet bytes size =
-    (sheetOk sheet (length bytes) ≡ true) × (prepareVerdict setting (setOf sheet bytes) size ≡ passed)
+    (sheetOk sheet (length bytes) ≡ true) × (prepareVerdict setting (setOf sheet bytes) size ≡ Passed)
 
 -- demand 3's clause on names, for what `query` answers; document 01: "An answer is what a lookup yields". S and T are asked in arenas of any
 -- sizes in which they meet none of refusals 1 to 12. They need not be bound; a set that is bound can be asked in the arena of that call.

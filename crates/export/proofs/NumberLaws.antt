@@ -22,7 +22,9 @@ use Rattle.binder.specs.declared.Reply as replies
 use Rattle.binder.specs.Setting.{Setting}
 use Rattle.binder.specs.Instance.{File, fileImage, fileRecord, namedWords, relasOf}
 use Rattle.binder.specs.Verdict as verdicts
-use Rattle.binder.specs.Verdict.{Verdict, passed, refused, first, verdict, noFile, loadVerdict, wordRefusal, wordsVerdict, entryRefusal, entriesVerdict, objectVerdict, orderVerdict}
+use Rattle.binder.specs.Verdict.{first, verdict, noFile, loadVerdict, wordRefusal, wordsVerdict, entryRefusal, entriesVerdict, objectVerdict, orderVerdict}
+use Rattle.binder.specs.declared.Verdict.{Verdict}
+use Rattle.binder.specs.declared.Verdict.the-variants.{Passed, Refused}
 use Rattle.binder.specs.Report.{orderWords, firstUndefined}
 use Rattle.binder.specs.Bind as binding
 use Rattle.binder.specs.Bind.{filesOf, objectsOf, unless, allows, relocateVerdict, outcome, outcomeOf, replied, repliedOf, replyOf}
@@ -30,16 +32,16 @@ use Rattle.binder.proofs.OutcomeLaws.{refused-not, sheetVerdict, bind-one, quer
 use Rattle.export.specs.Calls.{ZeroTells}
 
 abbrev Numbered : Verdict → Type 0
-Numbered v = (n k : ℕ) → v ≡ refused n k → 0 < n
+Numbered v = (n k : ℕ) → v ≡ Refused n k → 0 < n
 
-passing : Numbered passed
+passing : Numbered Passed
 passing n k e = refused-not n k (sym e)
 
 either-one : (v w : Verdict) → Numbered v → Numbered w → Numbered (first v w)
-either-one passed w p q = q
-either-one (refused n k) w p q = p
+either-one Passed w p q = q
+either-one (Refused n k) w p q = p
 
-picked : (t : Bool) (n k : ℕ) → (t ≡ false → 0 < n) → Numbered (pick t passed (refused n k))
+picked : (t : Bool) (n k : ℕ) → (t ≡ false → 0 < n) → Numbered (pick t Passed (Refused n k))
 picked true n k h m j e = passing m j e
 picked false n k h m j e =
     let same : n ≡ m = cc in
@@ -110,8 +112,8 @@ of-outcome :
     (size words : ℕ) (v : Verdict) (a r arena report : List ℕ) (n k : ℕ) → Numbered v
     → outcomeOf size words v a r ≡ outcome (answers.the-variants.Refused n k) arena report → 0 < n
 unfolding binding.outcomeOf
-of-outcome size words passed a r arena report n k h e = let z : _≡_ {A = ℕ} 0 1 = cc in absurd (omega arith)
-of-outcome size words (refused m j) a r arena report n k h e = h n k cc
+of-outcome size words Passed a r arena report n k h e = let z : _≡_ {A = ℕ} 0 1 = cc in absurd (omega arith)
+of-outcome size words (Refused m j) a r arena report n k h e = h n k cc
 
 not-refused : {P : Type 0} (s : symbols.Answer) (a arena : List ℕ) (n k : ℕ) → replied (replyOf s) a ≡ replied (replies.the-variants.Refused n k) arena → P
 not-refused symbols.absent a arena n k e = let z : _≡_ {A = ℕ} 0 1 = cc in absurd (omega arith)
@@ -121,8 +123,8 @@ of-replied :
     (size : ℕ) (v : Verdict) (s : symbols.Answer) (a arena : List ℕ) (n k : ℕ) → Numbered v
     → repliedOf size v (replyOf s) a ≡ replied (replies.the-variants.Refused n k) arena → 0 < n
 unfolding binding.repliedOf
-of-replied size passed s a arena n k h e = not-refused s a arena n k e
-of-replied size (refused m j) s a arena n k h e = h n k cc
+of-replied size Passed s a arena n k h e = not-refused s a arena n k e
+of-replied size (Refused m j) s a arena n k h e = h n k cc
 
 pub zero-tells : ZeroTells
 unfolding binding.bindIn

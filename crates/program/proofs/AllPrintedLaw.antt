@@ -17,7 +17,9 @@ use Rattle.binder.specs.declared.Policy.{Policy}
 use Rattle.binder.specs.declared.Policy.the-variants.{Lenient}
 use Rattle.binder.specs.declared.Answer.the-variants.{Bound, Refused}
 use Rattle.binder.specs.Setting.{Setting, settingAt}
-use Rattle.binder.specs.Verdict.{Verdict, passed, refused, first, orderVerdict}
+use Rattle.binder.specs.Verdict.{first, orderVerdict}
+use Rattle.binder.specs.declared.Verdict.{Verdict}
+use Rattle.binder.specs.declared.Verdict as verdicts
 use Rattle.binder.specs.Report.{orderWords, firstUndefined}
 use Rattle.binder.specs.SetOrder.{setOrder}
 use Rattle.binder.specs.Bind as binding
@@ -32,11 +34,11 @@ abbrev reportIn : Outcome → List ℕ
 reportIn (outcome answer arena report) = report
 
 of-outcome :
-    (size words : ℕ) (v : Verdict) (arena report : List ℕ) → (v ≡ passed → length report ≤ words)
+    (size words : ℕ) (v : Verdict) (arena report : List ℕ) → (v ≡ verdicts.the-variants.Passed → length report ≤ words)
     → length (reportIn (outcomeOf size words v arena report)) ≡ words
 unfolding binding.outcomeOf
-of-outcome size words (refused n k) arena report h = length-replicate words 0
-of-outcome size words passed arena report h =
+of-outcome size words (verdicts.the-variants.Refused n k) arena report h = length-replicate words 0
+of-outcome size words verdicts.the-variants.Passed arena report h =
     omega (arith, h refl, length-append report (replicate (words - length report) 0), length-replicate {A = ℕ} (words - length report) 0)
 
 of-bind :

@@ -12,23 +12,18 @@ use Rattle.object.specs.Loaded.{objectRefusal}
 use Rattle.sheet.specs.Sheet.{Input}
 use Rattle.binder.specs.Setting.{Setting}
 use Rattle.binder.specs.Instance.{File, fileRecord}
-use Rattle.binder.specs.Verdict.{Verdict, passed, refused, first, verdict}
+use Rattle.binder.specs.Verdict.{first, verdict}
 use Rattle.binder.specs.Bind.{filesOf, prepareVerdict}
 use Rattle.scope.specs.Steps.Seats.{seatAt, countIn, addressIn, FilteredBelow, Filtered}
 use Rattle.scope.specs.declared.seats.Seat.{Seat}
-use Rattle.binder.specs.declared.prepare.Met.{Met}
-use Rattle.binder.specs.declared.prepare.Met.the-variants.{Passed, Refused}
+use Rattle.binder.specs.declared.Verdict.{Verdict}
+use Rattle.binder.specs.declared.Verdict.the-variants.{Passed}
 use Rattle.binder.specs.declared.prepare.Loaded.{Loaded}
 use Rattle.binder.specs.declared.prepare.Loaded as loads
 
--- the refusal that the code met, or none
-abbrev pub metBy : Met → Verdict
-metBy Passed = passed
-metBy (Refused n k) = refused n k
-
 -- 4 to 12 of the files from object `k` on, the first at the offset `off` of an arena of `size` bytes
 unfoldable pub loadFrom : ℕ → ℕ → ℕ → List File → Verdict
-loadFrom size k off [] = passed
+loadFrom size k off [] = Passed
 loadFrom size k off (f ∷ fs) =
     first (verdict (objectRefusal (f .host) (size - off) (f .bytes)) k) (loadFrom size (k + 1) (off + objectSpan (f .host) (f .bytes)) fs)
 
@@ -60,15 +55,15 @@ LoadedAt host file off before after (loads.the-variants.Refused n) = (n ≡ obje
 LoadedAt host file off before after (loads.the-variants.At s) = SeatedAt host file off before after s
 
 -- what loading a list of files leaves: their bytes, and zeros elsewhere, whatever the arena held before
-pub record LoadedFiles (files : List File) (before after seats : List ℕ) (r : Met) : Type 0 where
-  pub met : metBy r ≡ loadFrom (length before) 0 0 files
+pub record LoadedFiles (files : List File) (before after seats : List ℕ) (r : Verdict) : Type 0 where
+  pub met : r ≡ loadFrom (length before) 0 0 files
   pub arena : r ≡ Passed → mem after ≡ placeFiles files 0 (λ _. 0)
   pub table : r ≡ Passed → Seated seats 0 0 files
   pub filtered : r ≡ Passed → FilteredBelow seats (length files)
 
 -- what preparing a set leaves
-pub record Prepared (setting : Setting) (os : List Input) (before after seats : List ℕ) (r : Met) : Type 0 where
-  pub met : metBy r ≡ prepareVerdict setting os (length before)
+pub record Prepared (setting : Setting) (os : List Input) (before after seats : List ℕ) (r : Verdict) : Type 0 where
+  pub met : r ≡ prepareVerdict setting os (length before)
   pub arena : r ≡ Passed → mem after ≡ placeFiles (filesOf os) 0 (λ _. 0)
   pub table : r ≡ Passed → Seated seats 0 0 (filesOf os)
   pub filtered : r ≡ Passed → Filtered seats

@@ -7,14 +7,13 @@ use Prim.Native.Nat.{ℕ}
 use lib.ListN.{length, replicate}
 use Rattle.sheet.specs.Sheet.{Input}
 use Rattle.binder.specs.Setting.{Setting}
-use Rattle.binder.specs.Verdict.{Verdict, first, verdict}
+use Rattle.binder.specs.Verdict.{first, verdict}
+use Rattle.binder.specs.declared.Verdict.{Verdict}
+use Rattle.binder.specs.declared.Verdict.the-variants.{Passed, Refused}
 use Rattle.binder.specs.Bind.{unless, allows, Outcome, outcome, bindSet}
-use Rattle.binder.specs.Steps.Prepared.{metBy}
 use Rattle.binder.specs.Steps.Relocating.{left, started, runOrder}
 use Rattle.binder.specs.declared.Policy.{Policy}
 use Rattle.binder.specs.declared.Answer as answers
-use Rattle.binder.specs.declared.prepare.Met.{Met}
-use Rattle.binder.specs.declared.prepare.Met.the-variants.{Passed, Refused}
 use Rattle.binder.specs.declared.report.Progress.{Progress}
 
 -- 14 to 18, then 19, then 20
@@ -24,19 +23,19 @@ endsBy policy p =
     (first (unless (allows policy (p .undefined)) 19 (p .undefined)) (unless (not (p .full)) 20 0))
 
 -- the answer; a refusal leaves zeros
-unfoldable pub settledOf : Met → List ℕ → List ℕ → Outcome
+unfoldable pub settledOf : Verdict → List ℕ → List ℕ → Outcome
 settledOf Passed arena report = outcome answers.the-variants.Bound arena report
 settledOf (Refused n k) arena report =
     outcome (answers.the-variants.Refused n k) (replicate (length arena) 0) (replicate (length report) 0)
 
 -- 14 to 20 of loaded objects, relocated in an order: how far it came, what it leaves, and the refusal
 pub record Relocated
-    (os : List Input) (table order arena : List ℕ) (policy : Policy) (report arena′ report′ : List ℕ) (m : Met)
+    (os : List Input) (table order arena : List ℕ) (policy : Policy) (report arena′ report′ : List ℕ) (m : Verdict)
     : Type 0 where
   pub progress : Progress
   pub leaves : left progress arena′ report′ ≡ runOrder table os order (left started arena report)
-  pub met : metBy m ≡ endsBy policy progress
+  pub met : m ≡ endsBy policy progress
 
 -- what is left of a set: settled, it is `bindSet`
-abbrev pub BoundSet : Setting → List Input → ℕ → Policy → ℕ → List ℕ → List ℕ → Met → Type 0
+abbrev pub BoundSet : Setting → List Input → ℕ → Policy → ℕ → List ℕ → List ℕ → Verdict → Type 0
 BoundSet setting os size policy words arena′ report′ m = settledOf m arena′ report′ ≡ bindSet setting os size policy words
