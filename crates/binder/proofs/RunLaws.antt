@@ -27,10 +27,10 @@ use Rattle.object.specs.declared.relocate.Rela.{Rela}
 use Rattle.sheet.specs.Sheet.{Input, noInput}
 use Rattle.binder.specs.declared.report.Progress.{Progress}
 use Rattle.object.specs.declared.hash_tables.Definition.{Definition}
-use Rattle.scope.specs.Steps.Seats.{seatAt}
-use Rattle.scope.specs.declared.seats.Seat.{Seat}
-use Rattle.scope.specs.declared.scope.Scoped.{Scoped}
-use Rattle.scope.specs.declared.scope.Scoped.the-variants.{Absent, Found}
+use Rattle.scope.specs.Steps.Links.{linkAt}
+use Rattle.scope.specs.declared.links.Link.{Link}
+use Rattle.scope.specs.declared.scope.Resolved.{Resolved}
+use Rattle.scope.specs.declared.scope.Resolved.the-variants.{Absent, Found}
 use Rattle.binder.specs.declared.turn.Turn.{Turn}
 use Rattle.binder.specs.Steps.Relocating.{Left, left, wrote, noted, withArena, withReport, unresolvedOf, copyBytes, summed, unlessRefused, refusedBy, imageIn, turnOf, againRefusal, againRecord, symbolRefusal, soughtFor, soughtForCopy, keeps, writtenBytes, writeFound, copyOf, answeredOf, symbolicOf, copyingOf, runAction, runTable, cutTo32, reportSum, noteOf, runRelrs, runTables, runObject, runAt, runOrder}
 
@@ -58,22 +58,22 @@ module _ (table : List ℕ) (t : Turn) (r : Record) (e : Rela) (i : ℕ) (p : Pr
     unfolding symbolicOf answeredOf
     symbolic-kept f hb so same run = rw (← hx, hy, ← hs, ← hb, so, eq-eqb _ _ same) run
 
-    pub symbolic-inside : (f : Calculation) {b : Bool} {s : Scoped} {out : Left} → b ≡ inWritable segments (e .place) (f .width) → b ≡ true → (p .last ≡ e .symbol + 1 → ⊥) → s ≡ soughtFor table t a (nameOf (imageIn a t) r y) → out ≡ writeFound t e f i y s p a report → out ≡ symbolicOf table t r e f i (checkedSymbol (imageIn a t) r (e .symbol)) p a report
+    pub symbolic-inside : (f : Calculation) {b : Bool} {s : Resolved} {out : Left} → b ≡ inWritable segments (e .place) (f .width) → b ≡ true → (p .last ≡ e .symbol + 1 → ⊥) → s ≡ soughtFor table t a (nameOf (imageIn a t) r y) → out ≡ writeFound t e f i y s p a report → out ≡ symbolicOf table t r e f i (checkedSymbol (imageIn a t) r (e .symbol)) p a report
     unfolding symbolicOf answeredOf
     symbolic-inside f hb so other hf run = rw (← hx, hy, ← hs, ← hb, so, ne-eqb _ _ other, ← hf) run
 
-    pub copying-sought : {s : Scoped} {out : Left} → s ≡ soughtForCopy table a (nameOf (imageIn a t) r y) → out ≡ copyOf table t segments e i y s p a report → out ≡ copyingOf table t r e i (checkedSymbol (imageIn a t) r (e .symbol)) p a report
+    pub copying-sought : {s : Resolved} {out : Left} → s ≡ soughtForCopy table a (nameOf (imageIn a t) r y) → out ≡ copyOf table t segments e i y s p a report → out ≡ copyingOf table t r e i (checkedSymbol (imageIn a t) r (e .symbol)) p a report
     unfolding copyingOf
     copying-sought hf run = rw (← hx, hy, ← hs, ← hf) run
 
 -- ---- COPY, by what was found
 
-module _ (table : List ℕ) (t : Turn) (segments : List Segment) (e : Rela) (i : ℕ) (y : Symbol) {s : Scoped} (p : Progress) (a report : List ℕ) where
+module _ (table : List ℕ) (t : Turn) (segments : List Segment) (e : Rela) (i : ℕ) (y : Symbol) {s : Resolved} (p : Progress) (a report : List ℕ) where
   pub copy-absent : {q : Progress} {marks : List ℕ} → s ≡ Absent → noted q marks ≡ unresolvedOf y (t .number) i p report → left q a marks ≡ copyOf table t segments e i y s p a report
   unfolding copyOf
   copy-absent is g = rw is (ap (withArena a) g)
 
-  pub copy-there : {q : Progress} {b : List ℕ} {n : ℕ} {at : Seat} (k : ℕ) (d : Definition) (x : ℕ) → s ≡ Found k d x → n ≡ min (y .size) (d .size) → at ≡ seatAt table k → wrote q b ≡ copyBytes t segments (e .place) at d n p a → left q b report ≡ copyOf table t segments e i y s p a report
+  pub copy-there : {q : Progress} {b : List ℕ} {n : ℕ} {at : Link} (k : ℕ) (d : Definition) (x : ℕ) → s ≡ Found k d x → n ≡ min (y .size) (d .size) → at ≡ linkAt table k → wrote q b ≡ copyBytes t segments (e .place) at d n p a → left q b report ≡ copyOf table t segments e i y s p a report
   unfolding copyOf
   copy-there k d x is z l g = rw (is, ← z, ← l) (ap (withReport report) g)
 

@@ -8,7 +8,7 @@ use crate::report::Progress;
 use crate::turn::Turn;
 use object::hash_tables::Definition;
 use object::table_bytes::Bounds;
-use scope::seats::Seat;
+use scope::links::Link;
 
 // Whether the `n` bytes at `place` of what starts at `off` end inside `size` bytes.
 pub(crate) fn ends_inside(size: usize, off: usize, place: usize, n: usize) -> bool
@@ -26,9 +26,9 @@ pub(crate) fn ends_inside(size: usize, off: usize, place: usize, n: usize) -> bo
     true
 }
 
-// Whether a COPY of `n` bytes of the definition `d`, in the object at the seat `s`, to the place `to` passes refusal 18; `size` is the
+// Whether a COPY of `n` bytes of the definition `d`, in the object at the link `s`, to the place `to` passes refusal 18; `size` is the
 // arena's length.
-pub(crate) fn copy_fits(size: usize, t: Turn, to: usize, s: Seat, d: Definition, n: usize) -> bool
+pub(crate) fn copy_fits(size: usize, t: Turn, to: usize, s: Link, d: Definition, n: usize) -> bool
     ensures { λ r. ⌜ r ≡ copyFits size t to s d n ⌝ }
 {
     let value = d.value as usize;
@@ -53,14 +53,14 @@ pub(crate) fn copy_fits(size: usize, t: Turn, to: usize, s: Seat, d: Definition,
     false
 }
 
-// Type 5, where the definition `d` was found in the object at the seat `s`: `n` bytes.
+// Type 5, where the definition `d` was found in the object at the link `s`: `n` bytes.
 pub(crate) fn copy_found(
     arena: &mut [u8],
     p: Progress,
     t: Turn,
     b: Bounds,
     to: usize,
-    s: Seat,
+    s: Link,
     d: Definition,
     n: usize,
 ) -> Progress

@@ -13,7 +13,7 @@ ghost use Rattle.object.specs.declared.relocate.Action.the-variants as actions;
 ghost use Rattle.object.specs.Record.{heldBy, checkedSymbol};
 ghost use Rattle.object.specs.Steps.WritableRange.{WritableRange};
 ghost use Rattle.sheet.specs.Steps.Parts.{inputsIn};
-ghost use Rattle.scope.specs.Steps.Seats.{Filtered};
+ghost use Rattle.scope.specs.Steps.Links.{Filtered};
 ghost use Rattle.binder.specs.Steps.Relocating.{left, wrote, started, imageIn, fixedOf, symbolRefusal, writeFound, soughtFor, soughtForCopy, symbolicOf, copyingOf, runAction, runTable, runTables, runObject, runAt, runOrder};
 ghost use Rattle.binder.specs.Steps.RunSteps.{InReach, RelativesWritten, EntriesPassed, SymbolsOf, EntryRead, addressFound, SymbolsPassed};
 ghost use Rattle.binder.specs.declared.relocate.Address.the-variants.{At};
@@ -27,7 +27,7 @@ use object::relocate::Rela;
 use object::symbol::Symbol;
 use object::table_bytes::Bounds;
 use object::table_bytes::Writable;
-use scope::scope::Scoped;
+use scope::scope::Resolved;
 use sheet::sheet::Parts;
 
 // ---- RELA and PLT
@@ -56,7 +56,7 @@ fn symbol_of(arena: &[u8], t: Turn, o: ObjectData, index: u32) -> CheckedSymbol
 }
 
 // The search for the name of an entry's symbol.
-fn search(arena: &[u8], table: &[u64], t: Turn, strings: usize, name: u32) -> Scoped
+fn search(arena: &[u8], table: &[u64], t: Turn, strings: usize, name: u32) -> Resolved
     requires { ⌜ Filtered (now table) ⌝ }
     ensures { λ r. ⌜ r ≡ soughtFor (now (table .entry)) t (now (arena .entry)) (nameAt (imageIn (now (arena .entry)) t) (strings + name)) ⌝ }
 {
@@ -66,7 +66,7 @@ fn search(arena: &[u8], table: &[u64], t: Turn, strings: usize, name: u32) -> Sc
 }
 
 // COPY's search.
-fn search_copy(arena: &[u8], table: &[u64], t: Turn, strings: usize, name: u32) -> Scoped
+fn search_copy(arena: &[u8], table: &[u64], t: Turn, strings: usize, name: u32) -> Resolved
     requires { ⌜ Filtered (now table) ⌝ }
     ensures { λ r. ⌜ r ≡ soughtForCopy (now (table .entry)) (now (arena .entry)) (nameAt (imageIn (now (arena .entry)) t) (strings + name)) ⌝ }
 {
@@ -84,11 +84,11 @@ fn write_found(
     i: u32,
     e: Rela,
     y: Symbol,
-    s: Scoped,
+    s: Resolved,
 ) -> Progress
     ensures { λ r. ⌜ left r (now (arena .exit)) (now (report .exit)) ≡ writeFound t e symbolicWord i y s p (now (arena .entry)) (now (report .entry)) ⌝ }
 {
-    let Scoped::Found {
+    let Resolved::Found {
         object: _,
         definition: _,
         address,
@@ -160,7 +160,7 @@ fn copying(
     };
     let b = object::dynamic_fields::bounds_of(o);
     let s = search_copy(arena, table, t, o.strings, y.name);
-    let Scoped::Found {
+    let Resolved::Found {
         object,
         definition,
         address: _,
@@ -169,8 +169,8 @@ fn copying(
         return crate::report::unresolved(report, p, y, t.number, i);
     };
     let n = words::bytes::smaller(y.size as usize, definition.size as usize);
-    let seat = scope::seats::seat_at(table, object);
-    crate::copy::copy_found(arena, p, t, b, e.place, seat, definition, n)
+    let link = scope::links::link_at(table, object);
+    crate::copy::copy_found(arena, p, t, b, e.place, link, definition, n)
 }
 
 // What the type of an entry asks for.
@@ -406,8 +406,8 @@ fn address_of(
     }
     let s = search(arena, table, t, strings, name);
     match s {
-        Scoped::Absent => Address::Nowhere,
-        Scoped::Found {
+        Resolved::Absent => Address::Nowhere,
+        Resolved::Found {
             object: _,
             definition: _,
             address: found,

@@ -23,7 +23,7 @@ returns-3 c =
     let a = c .before .before .before .before .before .before .before .before .before .before .before .before .before .before .before .before .before .before .before .before .args in
     let g = c .before .before .before .before .before .before .before .s .given in
     copying-sought (now (a .table)) (a .t) (heldBy (a .o)) (a .e) (a .i) (a .p) (now (a .arena)) (now (a .report)) (c .before .before .before .before .before .before .before .before .before .before .before .before .before .before .before .symbol-of .ensures) (c .before .before .before .before .before .before .before .before .before .before .before .before .before .c .given .1) (c .before .before .before .before .before .before .before .before .before .before .before .bounds-of .ensures .segments) (c .before .before .before .before .before .before .before .before .before .search-copy .ensures)
-    (copy-there (now (a .table)) (a .t) _ (a .e) (a .i) (c .before .before .before .before .before .before .before .before .before .before .before .before .before .c .given .0 .0) (a .p) (now (a .arena)) (now (a .report)) (g .0 .0) (g .0 .1 .0) (g .0 .1 .1 .0) (g .1) (c .before .before .before .before .before .smaller .ensures) (c .before .before .before .before .seat-at .ensures) (c .before .before .copy-found .ensures))
+    (copy-there (now (a .table)) (a .t) _ (a .e) (a .i) (c .before .before .before .before .before .before .before .before .before .before .before .before .before .c .given .0 .0) (a .p) (now (a .arena)) (now (a .report)) (g .0 .0) (g .0 .1 .0) (g .0 .1 .1 .0) (g .1) (c .before .before .before .before .before .smaller .ensures) (c .before .before .before .before .link-at .ensures) (c .before .before .copy-found .ensures))
 
 pub copying-spec : {M : Type 1} → statement M
 copying-spec =
