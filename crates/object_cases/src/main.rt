@@ -9,8 +9,8 @@
 use libc::STDIN_FILENO;
 use object::dynamic_fields::ObjectData;
 use object::entry_symbol::CheckedSymbol;
-use object::hash_tables::Exported;
 use object::hash_tables::Definition;
+use object::hash_tables::Exported;
 use object::hash_tables::HashTable;
 use object::hash_tables::SymbolCount;
 use object::relocate::Action;

@@ -8,8 +8,8 @@ ghost use Rattle.words.specs.Hash.{elfHash};
 ghost use Rattle.scope.specs.Steps.Links.{wordAt, linkAt, linksFrom, countIn, addressIn, FilteredAt, Filtered};
 ghost use Rattle.scope.specs.Steps.ScopeCode.{answerAt, Lacks, linkAnswer, ownAnswer, scanLinks, resolveLinks, resolveCopyLinks};
 use crate::links::Link;
-use object::hash_tables::Exported;
 use object::hash_tables::Definition;
+use object::hash_tables::Exported;
 
 // What a search yields: the object that has the name, its definition and address; or absence.
 pub enum Resolved {
@@ -153,7 +153,14 @@ fn own_answer(arena: &[u8], table: &[u64], k: usize, name: &[u8], gnu: u32, elf:
 }
 
 // The first answer of the objects from `start` on for a name whose hashes are given.
-fn scan_hashed(arena: &[u8], table: &[u64], start: usize, name: &[u8], gnu: u32, elf: u32) -> Resolved
+fn scan_hashed(
+    arena: &[u8],
+    table: &[u64],
+    start: usize,
+    name: &[u8],
+    gnu: u32,
+    elf: u32,
+) -> Resolved
     requires { ⌜ Filtered (now table) ⌝ }
     ensures { λ r. ⌜ r ≡ scanLinks (addressIn (now (table .entry))) (now (arena .entry)) start (linksFrom (now (table .entry)) start (countIn (now (table .entry)) - start)) (now (name .entry)) gnu elf ⌝ }
 {
