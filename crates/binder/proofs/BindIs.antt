@@ -27,7 +27,7 @@ use Rattle.binder.specs.Report.{orderWords, firstUndefined}
 use Rattle.binder.specs.SetOrder.{setOrder}
 use Rattle.binder.specs.Bind.{filesOf, namesOf, objectsOf, unless, allows, prepareVerdict, relocateVerdict, refusedBind, outcomeOf, bindIn, bindSet, bindOf}
 use Rattle.binder.specs.Steps.Prepared.{Prepared}
-use Rattle.binder.specs.Steps.Settled.{endsBy, settledOf, Relocated, BoundSet}
+use Rattle.binder.specs.Steps.Finished.{endsBy, finishedOf, Relocated, BoundSet}
 use Rattle.binder.specs.Steps.Needed.{Arranged}
 use Rattle.binder.specs.Steps.Relocating.{left, started, runOrder}
 use Rattle.model.specs.Order.{OnceEach}
@@ -50,24 +50,24 @@ use Rattle.binder.proofs.NeedsIs.{order-loaded}
 -- ---- settling
 
 -- the refusal that was met leaves zeros; none leaves the arena and the report
-pub settled :
+pub finished :
     (size words : ℕ) (m : Verdict) (arena report arena′ report′ : List ℕ) → length arena′ ≡ size → length report′ ≡ words
     → (m ≡ Passed → (arena′ ≡ arena) × (report′ ≡ report ++ replicate (words - length report) 0))
-    → settledOf m arena′ report′ ≡ outcomeOf size words m arena report
-unfolding settledOf outcomeOf
-settled size words Passed arena report arena′ report′ la lr same = let s = same refl in rw (s .0, s .1)
-settled size words (Refused n k) arena report arena′ report′ la lr same = cc
+    → finishedOf m arena′ report′ ≡ outcomeOf size words m arena report
+unfolding finishedOf outcomeOf
+finished size words Passed arena report arena′ report′ la lr same = let s = same refl in rw (s .0, s .1)
+finished size words (Refused n k) arena report arena′ report′ la lr same = cc
 
 -- the same where the refusal is known
-pub settled-by :
+pub finished-by :
     (size words : ℕ) (m v : Verdict) (arena report arena′ report′ : List ℕ) → m ≡ v → length arena′ ≡ size → length report′ ≡ words
     → (v ≡ Passed → (arena′ ≡ arena) × (report′ ≡ report ++ replicate (words - length report) 0))
-    → settledOf m arena′ report′ ≡ outcomeOf size words v arena report
-settled-by size words m v arena report arena′ report′ e la lr same =
+    → finishedOf m arena′ report′ ≡ outcomeOf size words v arena report
+finished-by size words m v arena report arena′ report′ e la lr same =
     subst
-    (λ (w : Verdict). settledOf m arena′ report′ ≡ outcomeOf size words w arena report)
+    (λ (w : Verdict). finishedOf m arena′ report′ ≡ outcomeOf size words w arena report)
     e
-    (settled size words m arena report arena′ report′ la lr (λ z. same (sym e ∙ z)))
+    (finished size words m arena report arena′ report′ la lr (λ z. same (sym e ∙ z)))
 
 -- ---- 14 to 20
 
@@ -123,10 +123,10 @@ module _ (setting : Setting) (size : ℕ) (table : List ℕ) (hf pf : File) (fs 
         (a .0, leb-true _ _ (unless-passed (leb (length (orderWords S files order)) words) 20 0 (b .1)))
 
     pub relocated-set :
-        (m : Verdict) → m ≡ endsBy policy p → settledOf m a report
+        (m : Verdict) → m ≡ endsBy policy p → finishedOf m a report
         ≡ outcomeOf size words (relocateVerdict S files order policy words) (tab size (bound S order)) (orderWords S files order)
     relocated-set m e =
-        settled-by size words m _ _ _ a report (e ∙ ends) (ended .lengths .0) (ended .lengths .1)
+        finished-by size words m _ _ _ a report (e ∙ ends) (ended .lengths .0) (ended .lengths .1)
         (λ z.
         let q = room z in
         let g = ended .bound-is (q .0) in
@@ -152,7 +152,7 @@ pub prepare-refused :
     → (n k : ℕ) → m ≡ Refused n k → length a ≡ size → length report ≡ words → BoundSet setting os size policy words a report m
 unfolding bindSet bindIn
 prepare-refused setting os size policy words m a report e n k z la lr =
-    rw (sym e ∙ z) (settled-by size words m (Refused n k) _ _ a report z la lr (λ q. refused-not n k q))
+    rw (sym e ∙ z) (finished-by size words m (Refused n k) _ _ a report z la lr (λ q. refused-not n k q))
 
 -- a set that was loaded
 module _
@@ -190,7 +190,7 @@ module _
         record {
           others = λ k l g. not-host k l (omega (arith, many));
           loads = passed-it .loads;
-          seats = made .table z;
+          links = made .table z;
           end = passed-it .end;
           small = passed-it .small;
         }
@@ -215,7 +215,7 @@ module _
     pub bound-in :
         (policy : Policy) (words : ℕ) (order : List ℕ) → OnceEach (objects.count made-set) order → (report : List ℕ) → report ≡ replicate words 0
         → (a′ report′ : List ℕ) (m : Verdict) → Relocated (h ∷ (p ∷ ls)) (length ls + 2) table order a (setting .address) policy report a′ report′ m
-        → settledOf m a′ report′ ≡ bindIn setting (prepareVerdict setting (h ∷ (p ∷ ls)) size) (filesOf (h ∷ (p ∷ ls))) order size policy words
+        → finishedOf m a′ report′ ≡ bindIn setting (prepareVerdict setting (h ∷ (p ∷ ls)) size) (filesOf (h ∷ (p ∷ ls))) order size policy words
     unfolding filesOf bindIn objectsOf
     bound-in policy words order once report zeros a′ report′ m g =
         let n : length a ≡ size = kept ∙ len in

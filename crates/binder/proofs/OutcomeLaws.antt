@@ -14,7 +14,7 @@ use Rattle.model.specs.Relocation.{placed, bound}
 use Rattle.model.specs.Scope.{resolve}
 use Rattle.binder.specs.declared.Policy.{Policy}
 use Rattle.binder.specs.declared.Answer.the-variants.{Bound}
-use Rattle.sheet.specs.Sheet.{Input, sheetOk, setOf, arenaOk, twinOf}
+use Rattle.sheet.specs.Sheet.{Input, sheetOk, setOf, arenaOk, duplicateOf}
 use Rattle.binder.specs.Setting.{Setting}
 use Rattle.binder.specs.Verdict.{first, verdict, loadVerdict, orderVerdict}
 use Rattle.binder.specs.declared.Verdict.{Verdict}
@@ -108,7 +108,7 @@ query-one setting sheet bytes size requester name = go (sheetOk sheet (length by
 pub record AllPassed (setting : Setting) (sheet bytes : List ℕ) (size words : ℕ) (arena report : List ℕ) : Type 0 where
   pub sheet-ok : sheetOk sheet (length bytes) ≡ true
   pub arena-ok : arenaOk size (setting .address) ≡ true
-  pub no-twin : twinOf (setOf sheet bytes) ≡ 0
+  pub no-duplicate : duplicateOf (setOf sheet bytes) ≡ 0
   pub loads : loadFrom size 0 0 (filesOf (setOf sheet bytes)) ≡ Passed
   pub relocates : orderVerdict (objectsIn setting (setOf sheet bytes)) (filesOf (setOf sheet bytes)) (orderIn (setOf sheet bytes)) ≡ Passed
   pub arena-is : arena ≡ tab size (bound (objectsIn setting (setOf sheet bytes)) (orderIn (setOf sheet bytes)))
@@ -129,12 +129,12 @@ bound-passed setting sheet bytes size policy words arena report e =
     let p = first-passed (sheetVerdict setting sheet bytes size) (relocateVerdict S (filesOf os) (orderIn os) policy words) (o .0) in
     let a = first-passed (unless (sheetOk sheet (length bytes)) 1 0) _ (p .0) in
     let b = first-passed (unless (arenaOk size (setting .address)) 2 0) _ (a .1) in
-    let c = first-passed (unless (eqb (twinOf os) 0) 3 (twinOf os)) (loadVerdict S size 0 (filesOf os)) (b .1) in
+    let c = first-passed (unless (eqb (duplicateOf os) 0) 3 (duplicateOf os)) (loadVerdict S size 0 (filesOf os)) (b .1) in
     let d = first-passed (orderVerdict S (filesOf os) (orderIn os)) _ (p .1) in
     record {
       sheet-ok = unless-passed (sheetOk sheet (length bytes)) 1 0 (a .0);
       arena-ok = unless-passed (arenaOk size (setting .address)) 2 0 (b .0);
-      no-twin = eqb-true (twinOf os) 0 (unless-passed (eqb (twinOf os) 0) 3 (twinOf os) (c .0));
+      no-duplicate = eqb-true (duplicateOf os) 0 (unless-passed (eqb (duplicateOf os) 0) 3 (duplicateOf os) (c .0));
       loads = sym (loads-same setting size (filesOf os)) ∙ c .1;
       relocates = d .0;
       arena-is = o .1;

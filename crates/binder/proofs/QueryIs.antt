@@ -23,18 +23,18 @@ use Rattle.sheet.proofs.PartLaws.{handed-in}
 use Rattle.binder.specs.Setting.{Setting}
 use Rattle.binder.specs.Instance.{File, objectAt}
 use Rattle.binder.specs.Bind.{filesOf, objectsOf, unless, prepareVerdict, replied, replyOf, refusedQuery, repliedOf, askSet, queryOf}
-use Rattle.scope.specs.Steps.ScopeCode.{resolveSeats}
+use Rattle.scope.specs.Steps.ScopeCode.{resolveLinks}
 use Rattle.binder.specs.Steps.ScopeModel.{scopedOf}
 use Rattle.binder.specs.Steps.Prepared.{Prepared}
 use Rattle.binder.specs.declared.Reply.{Reply}
 use Rattle.binder.specs.declared.Reply as replies
-use Rattle.scope.specs.declared.scope.Scoped.{Scoped}
+use Rattle.scope.specs.declared.scope.Resolved.{Resolved}
 use Rattle.binder.specs.declared.Verdict.{Verdict}
 use Rattle.binder.specs.declared.Verdict.the-variants.{Passed, Refused}
 use Rattle.binder.proofs.PrepareLaws.{Ready, passes, sheet-refused, sheet-passed}
 use Rattle.binder.proofs.SoundLaws.{count-is}
 use Rattle.binder.proofs.ScopeIs.{resolve-is}
-use Rattle.binder.proofs.QueryLaws.{placed-is, seated-for}
+use Rattle.binder.proofs.QueryLaws.{placed-is, linked-for}
 
 -- ---- 2 to 13
 
@@ -63,7 +63,7 @@ pub asked :
     (setting : Setting) (os : List Input) (count : ℕ) (arena arena′ table : List ℕ) (requester : ℕ) (name : List ℕ) (r : Verdict)
     → 2 ≤ count → length os ≡ count → Prepared setting os arena arena′ table r → r ≡ Passed → requester < count
     → length arena′ ≡ length arena
-    → (x : Reply) → x ≡ replyOf (scopedOf (resolveSeats (setting .address) arena′ table count requester name (gnuHash name) (elfHash name)))
+    → (x : Reply) → x ≡ replyOf (scopedOf (resolveLinks (setting .address) arena′ table count requester name (gnuHash name) (elfHash name)))
     → replied x arena′ ≡ askSet setting os (length arena) requester name
 unfolding filesOf objectsOf
 asked setting [] count arena arena′ table requester name r two many made z l len x e =
@@ -101,12 +101,12 @@ asked setting (h ∷ (p ∷ ls)) count arena arena′ table requester name r two
         ∙ (ap (λ (n : ℕ). tab n (mem arena′)) len
         ∙ ap (tab (length arena)) (made .arena z ∙ sym (placed-is setting hf pf fs)))
 
-    answer : scopedOf (resolveSeats (setting .address) arena′ table count requester name (gnuHash name) (elfHash name)) ≡ resolve S requester name
+    answer : scopedOf (resolveLinks (setting .address) arena′ table count requester name (gnuHash name) (elfHash name)) ≡ resolve S requester name
     answer =
         let n : length fs ≡ length ls = length-map ls (λ (o : Input). record { host = false; bytes = o .file }) in
         let c : count ≡ objects.count S = omega (arith, count-is setting (length arena) hf pf fs, many) in
         resolve-is (setting .address) arena′ table name S count c
-        (seated-for setting (length arena) table hf pf fs arena′ (λ _. 0) len (omega (arith, passed-it .end)) (passed-it .loads) (made .table z)
+        (linked-for setting (length arena) table hf pf fs arena′ (λ _. 0) len (omega (arith, passed-it .end)) (passed-it .loads) (made .table z)
         (made .arena z))
         requester l
 

@@ -20,7 +20,7 @@ use Rattle.binder.specs.declared.Answer.{Answer}
 use Rattle.binder.specs.declared.Answer as answers
 use Rattle.binder.specs.declared.Reply.{Reply}
 use Rattle.binder.specs.declared.Reply as replies
-use Rattle.sheet.specs.Sheet.{Input, sheetOk, setOf, arenaOk, twinOf}
+use Rattle.sheet.specs.Sheet.{Input, sheetOk, setOf, arenaOk, duplicateOf}
 use Rattle.binder.specs.Setting.{Setting}
 use Rattle.binder.specs.Instance.{File, objectAt}
 use Rattle.binder.specs.Verdict.{first, noFile, loadVerdict, orderVerdict}
@@ -53,7 +53,7 @@ unless t n k = pick t Passed (Refused n k)
 unfoldable pub prepareVerdict : Setting → List Input → ℕ → Verdict
 prepareVerdict setting os size =
     first (unless (arenaOk size (setting .address)) 2 0)
-    (first (unless (eqb (twinOf os) 0) 3 (twinOf os))
+    (first (unless (eqb (duplicateOf os) 0) 3 (duplicateOf os))
     (loadVerdict (objectsOf setting (filesOf os)) size 0 (filesOf os)))
 
 -- 19: "Strict policy and an undefined entry"
@@ -105,7 +105,7 @@ pub data Replied : Type 0 where
   replied : (reply : Reply) (arena : List ℕ) → Replied
 
 -- "A lookup yields an object, a symbol index and an address, or absence"
-abbrev pub replyOf : symbols.Answer → Reply
+abbrev pub replyOf : symbols.Resolved → Reply
 replyOf absent = replies.the-variants.Absent
 replyOf (answer k s a) = replies.the-variants.Found k (s .index) a
 

@@ -7,4 +7,4 @@ pub mod ScopeModel
 pub mod Relocating
 pub mod RunSteps
 pub mod Needed
-pub mod Settled
+pub mod Finished

@@ -6,8 +6,8 @@ ghost use lib.ListN.{length, replicate, take};
 ghost use Rattle.sheet.specs.Steps.Parts.{inputsIn};
 ghost use Rattle.binder.specs.Setting.{settingAt};
 ghost use Rattle.binder.specs.Bind.{outcome, bindOf, allows};
-ghost use Rattle.scope.specs.Steps.Seats.{Filtered};
-ghost use Rattle.binder.specs.Steps.Settled.{endsBy, Relocated, BoundSet, settledOf};
+ghost use Rattle.scope.specs.Steps.Links.{Filtered};
+ghost use Rattle.binder.specs.Steps.Finished.{endsBy, Relocated, BoundSet, finishedOf};
 use crate::Answer;
 use crate::Policy;
 use crate::Verdict;
@@ -99,8 +99,8 @@ fn bind_set(
 }
 
 // The answer; a refusal leaves zeros. No other function clears after a refusal of `bind`.
-fn settle(m: Verdict, arena: &mut [u8], report: &mut [u32]) -> Answer
-    ensures { λ r. ⌜ outcome r (now (arena .exit)) (now (report .exit)) ≡ settledOf m (now (arena .entry)) (now (report .entry)) ⌝ }
+fn finish(m: Verdict, arena: &mut [u8], report: &mut [u32]) -> Answer
+    ensures { λ r. ⌜ outcome r (now (arena .exit)) (now (report .exit)) ≡ finishedOf m (now (arena .entry)) (now (report .entry)) ⌝ }
 {
     let Verdict::Refused { number, object } = m else {
         return Answer::Bound;
@@ -131,8 +131,8 @@ pub fn bind(
             number: 1,
             object: 0,
         };
-        return settle(one, arena, report);
+        return finish(one, arena, report);
     }
     let m = bind_set(bytes, parts, arena, address, policy, report);
-    settle(m, arena, report)
+    finish(m, arena, report)
 }

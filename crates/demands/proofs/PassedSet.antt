@@ -9,7 +9,7 @@ use lib.Dec.{eqb}
 use lib.ListN.{length, getD}
 use Rattle.model.specs.Order.{has}
 use Rattle.model.proofs.OrderLaws.{nothing-else}
-use Rattle.sheet.specs.Sheet.{Input, sheetOk, setOf, arenaOk, twinOf}
+use Rattle.sheet.specs.Sheet.{Input, sheetOk, setOf, arenaOk, duplicateOf}
 use Rattle.sheet.proofs.SheetLonger.{sheet-shape}
 use Rattle.binder.specs.Setting.{Setting}
 use Rattle.binder.specs.Instance.{File}
@@ -35,7 +35,7 @@ module _ (sheet bytes : List ℕ) where
   unfolding prepareVerdict
   prepared setting size v =
       let b = first-passed (unless (arenaOk size (setting .address)) 2 0) _ (v .1) in
-      let c = first-passed (unless (eqb (twinOf os) 0) 3 (twinOf os)) (loadVerdict (objectsOf setting (filesOf os)) size 0 (filesOf os)) (b .1) in
+      let c = first-passed (unless (eqb (duplicateOf os) 0) 3 (duplicateOf os)) (loadVerdict (objectsOf setting (filesOf os)) size 0 (filesOf os)) (b .1) in
       record { sheet-ok = v .0; loads = sym (loads-same setting size (filesOf os)) ∙ c .1 }
 
   -- of the one verdict

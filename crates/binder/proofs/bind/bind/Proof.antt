@@ -5,7 +5,7 @@ use native.Mathlib.Omega.{arith}
 use denote.Ref.{now}
 use lib.ListN.{length, replicate}
 use Rattle.binder.specs.Setting.{settingAt}
-use Rattle.binder.specs.Steps.Settled.{settledOf}
+use Rattle.binder.specs.Steps.Finished.{finishedOf}
 use Rattle.binder.proofs.PrepareLaws.{many-parts}
 use Rattle.binder.proofs.BindIs.{bind-refused, bind-handed}
 use borrow.Author.Needs.{needs}
@@ -14,18 +14,18 @@ use Rattle.binder.proofs.bind.bind.Tie as tie
 
 same-length : tie.Need-same-length
 same-length c =
-    c .before .before .before .before .settle .kept .1 .0
+    c .before .before .before .before .finish .kept .1 .0
 
 same-length-2 : tie.Need-same-length-2
 same-length-2 c =
-    c .before .before .before .before .settle .kept .1 .1 .0 ∙ c .before .before .before .before .before .before .before .before .before .before .before .before .clear-words .kept .0
+    c .before .before .before .before .finish .kept .1 .1 .0 ∙ c .before .before .before .before .before .before .before .before .before .before .before .before .clear-words .kept .0
 
 returns : tie.Need-returns
-unfolding settledOf
+unfolding finishedOf
 returns c =
     let a = c .before .before .before .before .before .before .before .before .before .before .before .before .before .before .before .before .before .before .args in
     let w : length (c .before .before .before .before .before .before .before .before .before .before .before .before .clear-words .last .0) ≡ length (now (a .report)) = c .before .before .before .before .before .before .before .before .before .before .before .before .clear-words .kept .0 in
-    rw w at (c .before .before .before .before .settle .ensures)
+    rw w at (c .before .before .before .before .finish .ensures)
     ∙ bind-refused (settingAt (a .address)) (now (a .sheet)) (now (a .bytes)) (length (now (a .arena))) _ (c .before .before .before .before .before .before .before .before .before .parts-of .ensures) (a .policy) (length (now (a .report))) (c .before .before .before .before .before .before .before .if1 .taken)
 
 bind-set-requires : tie.Need-bind-set-requires
@@ -38,17 +38,17 @@ bind-set-requires c κs = (
 
 same-length-3 : tie.Need-same-length-3
 same-length-3 c =
-    c .before .before .before .before .settle2 .kept .1 .0 ∙ c .before .before .before .before .before .before .before .before .before .before .before .bind-set .kept .1 .1 .0
+    c .before .before .before .before .finish2 .kept .1 .0 ∙ c .before .before .before .before .before .before .before .before .before .before .before .bind-set .kept .1 .1 .0
 
 same-length-4 : tie.Need-same-length-4
 same-length-4 c =
-    c .before .before .before .before .settle2 .kept .1 .1 .0 ∙ c .before .before .before .before .before .before .before .before .before .before .before .bind-set .kept .1 .1 .1 .1 .1 .0 ∙ c .before .before .before .before .before .before .before .before .before .before .before .before .before .before .before .before .before .before .before .clear-words .kept .0
+    c .before .before .before .before .finish2 .kept .1 .1 .0 ∙ c .before .before .before .before .before .before .before .before .before .before .before .bind-set .kept .1 .1 .1 .1 .1 .0 ∙ c .before .before .before .before .before .before .before .before .before .before .before .before .before .before .before .before .before .before .before .clear-words .kept .0
 
 returns-2 : tie.Need-returns-2
 returns-2 c =
     let a = c .before .before .before .before .before .before .before .before .before .before .before .before .before .before .before .before .before .before .before .before .before .before .before .before .before .args in
     let w : length (c .before .before .before .before .before .before .before .before .before .before .before .before .before .before .before .before .before .before .before .clear-words .last .0) ≡ length (now (a .report)) = c .before .before .before .before .before .before .before .before .before .before .before .before .before .before .before .before .before .before .before .clear-words .kept .0 in
-    c .before .before .before .before .settle2 .ensures
+    c .before .before .before .before .finish2 .ensures
     ∙ (rw w at (c .before .before .before .before .before .before .before .before .before .before .before .bind-set .ensures)
     ∙ bind-handed (settingAt (a .address)) (now (a .sheet)) (now (a .bytes)) (length (now (a .arena))) _ (c .before .before .before .before .before .before .before .before .before .before .before .before .before .before .before .before .parts-of .ensures) (a .policy) (length (now (a .report))) (omega (arith, c .before .before .before .before .before .before .before .before .before .before .before .before .before .before .if1 .left)))
 

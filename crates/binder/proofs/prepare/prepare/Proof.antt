@@ -18,13 +18,13 @@ returns-2 : tie.Need-returns-2
 returns-2 c =
     let a = c .before .before .before .before .before .before .before .args in
     prepare-three (settingAt (a .address)) (inputsIn (now (a .bytes)) (a .parts)) (now (a .arena))
-    (sym (c .before .before .before .arena-ok .ensures) ∙ not-false _ (c .before .before .if1 .left)) (c .before .twin .result) (c .before .twin .ensures .0) (c .if2 .taken) _ _
+    (sym (c .before .before .before .arena-ok .ensures) ∙ not-false _ (c .before .before .if1 .left)) (c .before .duplicate .result) (c .before .duplicate .ensures .0) (c .if2 .taken) _ _
 
 returns-3 : tie.Need-returns-3
 returns-3 c =
     let a = c .before .before .before .before .before .before .before .before .before .before .before .before .before .before .args in
     prepare-loads (settingAt (a .address)) (inputsIn (now (a .bytes)) (a .parts)) (now (a .arena))
-    (sym (c .before .before .before .before .before .before .before .before .before .before .arena-ok .ensures) ∙ not-false _ (c .before .before .before .before .before .before .before .before .before .if1 .left)) (sym (c .before .before .before .before .before .before .before .before .twin .ensures .0) ∙ c .before .before .before .before .before .before .before .if2 .left) _ _ _ (c .before .before .before .before .load-all .ensures)
+    (sym (c .before .before .before .before .before .before .before .before .before .before .arena-ok .ensures) ∙ not-false _ (c .before .before .before .before .before .before .before .before .before .if1 .left)) (sym (c .before .before .before .before .before .before .before .before .duplicate .ensures .0) ∙ c .before .before .before .before .before .before .before .if2 .left) _ _ _ (c .before .before .before .before .load-all .ensures)
 
 pub prepare-spec : {M : Type 1} → statement M
 prepare-spec =
