@@ -25,38 +25,38 @@ use Rattle.demands.specs.WalksEnd.{WalksEnd}
 
 module _ (isT : ℕ → Bool) (m : List ℕ) (inside : (i : ℕ) → isT i ≡ true → i < length m) (symbols strings at n first b shift : ℕ) where
   -- the chain word of a symbol that passes lies in the image
-  word-in : (s : ℕ) → stepOk isT m symbols strings (Gnu at n first b shift) s ≡ true
+  word-in : (s : ℕ) → stepOk isT m symbols strings (Gnu at n symoffset b shift) s ≡ true
       → at + (16 + 8 * b + 4 * n + 4 * (s - first)) + 4 ≤ length m
   unfolding chainOk tableBytes
   word-in s ok =
-      let h = both-true (chainOk isT (Gnu at n first b shift) s) (symbolOk isT m symbols strings s) ok in
+      let h = both-true (chainOk isT (Gnu at n symoffset b shift) s) (symbolOk isT m symbols strings s) ok in
       let p = at + (16 + 8 * b + 4 * n + 4 * (s - first)) in
       let l : p + 3 < length m = inside (p + 3) (below-at (λ k. isT (p + k)) 4 3 (h .0) (omega arith)) in
       omega arith
 
   room : (k s : ℕ) → first ≤ s → at + (16 + 8 * b + 4 * n + 4 * (s - first)) ≤ length m
-      → every (stepOk isT m symbols strings (Gnu at n first b shift)) (walk m (Gnu at n first b shift) k s) ≡ true
-      → at + (16 + 8 * b + 4 * n + 4 * (s - first)) + 4 * length (walk m (Gnu at n first b shift) k s) ≤ length m
+      → every (stepOk isT m symbols strings (Gnu at n symoffset b shift)) (walk m (Gnu at n symoffset b shift) k s) ≡ true
+      → at + (16 + 8 * b + 4 * n + 4 * (s - first)) + 4 * length (walk m (Gnu at n symoffset b shift) k s) ≤ length m
   unfolding walk every
   room zero s f l e = omega arith
   room (suc k) s f l e =
-      let w = leAt 4 (mem m) (chainAt (Gnu at n first b shift) s) in
-      let tail = walk m (Gnu at n first b shift) k (s + 1) in
-      let p = stepOk isT m symbols strings (Gnu at n first b shift) in
-      let h = both-true (p s) (every p (pick (isLast (Gnu at n first b shift) w) [] tail)) e in
+      let w = leAt 4 (mem m) (chainAt (Gnu at n symoffset b shift) s) in
+      let tail = walk m (Gnu at n symoffset b shift) k (s + 1) in
+      let p = stepOk isT m symbols strings (Gnu at n symoffset b shift) in
+      let h = both-true (p s) (every p (pick (isLast (Gnu at n symoffset b shift) w) [] tail)) e in
       let i = word-in s (h .0) in
-      go (isLast (Gnu at n first b shift) w) tail (h .1) i
+      go (isLast (Gnu at n symoffset b shift) w) tail (h .1) i
       (λ e′. let r = room k (s + 1) (omega arith) (omega arith) e′ in omega arith)
     where
-      go : (z : Bool) (l : List ℕ) → every (stepOk isT m symbols strings (Gnu at n first b shift)) (pick z [] l) ≡ true
+      go : (z : Bool) (l : List ℕ) → every (stepOk isT m symbols strings (Gnu at n symoffset b shift)) (pick z [] l) ≡ true
           → at + (16 + 8 * b + 4 * n + 4 * (s - first)) + 4 ≤ length m
-          → (every (stepOk isT m symbols strings (Gnu at n first b shift)) l ≡ true
+          → (every (stepOk isT m symbols strings (Gnu at n symoffset b shift)) l ≡ true
           → at + (16 + 8 * b + 4 * n + 4 * (s - first)) + 4 + 4 * length l ≤ length m)
           → at + (16 + 8 * b + 4 * n + 4 * (s - first)) + 4 * suc (length (pick z [] l)) ≤ length m
       go true l e i ih = omega arith
       go false l e i ih = let r = ih e in omega arith
 
-  first-in : (f s : ℕ) → 0 < f → every (stepOk isT m symbols strings (Gnu at n first b shift)) (walk m (Gnu at n first b shift) f s) ≡ true
+  first-in : (f s : ℕ) → 0 < f → every (stepOk isT m symbols strings (Gnu at n symoffset b shift)) (walk m (Gnu at n symoffset b shift) f s) ≡ true
       → at + (16 + 8 * b + 4 * n + 4 * (s - first)) + 4 ≤ length m
   unfolding walk every
   first-in zero s l e = absurd (not-suc-le-zero l)
@@ -64,12 +64,12 @@ module _ (isT : ℕ → Bool) (m : List ℕ) (inside : (i : ℕ) → isT i ≡ t
 
   -- of an image of at most 2^28 bytes
   pub gnu-ends : length m ≤ 2 ^ 28 → (s k : ℕ) → first ≤ s → 0 < length m
-      → every (stepOk isT m symbols strings (Gnu at n first b shift)) (walk m (Gnu at n first b shift) (fuel m (Gnu at n first b shift)) s) ≡ true
-      → walk m (Gnu at n first b shift) (fuel m (Gnu at n first b shift) + k) s ≡ walk m (Gnu at n first b shift) (fuel m (Gnu at n first b shift)) s
+      → every (stepOk isT m symbols strings (Gnu at n symoffset b shift)) (walk m (Gnu at n symoffset b shift) (fuel m (Gnu at n symoffset b shift)) s) ≡ true
+      → walk m (Gnu at n symoffset b shift) (fuel m (Gnu at n symoffset b shift) + k) s ≡ walk m (Gnu at n symoffset b shift) (fuel m (Gnu at n symoffset b shift)) s
   gnu-ends small s k f pos e =
-      let i = first-in (fuel m (Gnu at n first b shift)) s (omega arith) e in
-      let r = room (fuel m (Gnu at n first b shift)) s f (omega arith) e in
-      walk-ended m (Gnu at n first b shift) k (fuel m (Gnu at n first b shift)) s (omega arith)
+      let i = first-in (fuel m (Gnu at n symoffset b shift)) s (omega arith) e in
+      let r = room (fuel m (Gnu at n symoffset b shift)) s f (omega arith) e in
+      walk-ended m (Gnu at n symoffset b shift) k (fuel m (Gnu at n symoffset b shift)) s (omega arith)
 
 pub sysv-ends : (m : List ℕ) (at n c s k : ℕ) → leb (length (walk m (SysV at n c) (c + 1) s)) c ≡ true
     → walk m (SysV at n c) (c + 1 + k) s ≡ walk m (SysV at n c) (c + 1) s
@@ -90,7 +90,7 @@ walks-end isT m inside small symbols strings (SysV at n c) ok i l k = go (eqb w 
     go true e = rw e
     go false e =
         rw e (sysv-ends m at n c w k (rw e at (walk-clauses isT m symbols strings (SysV at n c) ok i l .1)))
-walks-end isT m inside small symbols strings (Gnu at n first b shift) ok i l k = go (eqb w 0) refl
+walks-end isT m inside small symbols strings (Gnu at n symoffset b shift) ok i l k = go (eqb w 0) refl
   where
     t : HashTable
     t = Gnu at n first b shift
