@@ -22,3 +22,4 @@ pub mod CountLaws
 pub mod LookupSame
 pub mod ReadingsSame
 pub mod FineLaws
+pub mod TextsBefore
