@@ -22,4 +22,3 @@ pub mod CountLaws
 pub mod LookupSame
 pub mod ReadingsSame
 pub mod FineLaws
-pub mod TextsBefore
