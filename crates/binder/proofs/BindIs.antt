@@ -9,35 +9,35 @@ use borrow.Author.Tests.{lt-ltb, le-ltb, leb-true, leb-false}
 use lib.Dec.{leb, ltb}
 use lib.ListN.{length, getD, take, replicate, length-map}
 use Rattle.words.specs.Memory.{mem, tab}
-use Rattle.words.proofs.Slices.{tab-mem}
+use Rattle.words.proofs.Slices.{take-zeros, tab-mem}
 use Rattle.model.specs.Objects as objects
 use Rattle.model.specs.Relocation.{placed, bound}
 use Rattle.model.specs.Layout.{objsOf}
 use Rattle.model.proofs.OrderLaws.{decide}
-use Rattle.sheet.specs.Sheet.{Input, noInput, sheetOk}
+use Rattle.sheet.specs.Sheet.{Input, noInput}
 use Rattle.sheet.specs.Steps.Parts.{inputsIn, Tabled}
 use Rattle.sheet.specs.declared.sheet.Parts.{Parts}
 use Rattle.sheet.proofs.PartLaws.{handed-in}
+use Rattle.binder.specs.Setting.{Setting}
 use Rattle.binder.specs.Instance.{File, objectAt}
-use Rattle.binder.specs.Verdict.{Verdict, noFile, passed, refused, orderVerdict}
+use Rattle.binder.specs.Verdict.{noFile, orderVerdict}
+use Rattle.binder.specs.declared.Verdict.{Verdict}
+use Rattle.binder.specs.declared.Verdict.the-variants.{Passed, Refused}
 use Rattle.binder.specs.Report.{orderWords, firstUndefined}
 use Rattle.binder.specs.SetOrder.{setOrder}
-use Rattle.binder.specs.Bind.{filesOf, namesOf, objectsOf, unless, allows, relocateVerdict, outcomeOf, bindIn, bindOf}
-use Rattle.binder.specs.Steps.Prepared.{metBy, setVerdict, Prepared}
-use Rattle.binder.specs.Steps.Settled.{endsBy, settledOf, Relocated, bindSet, BoundSet}
+use Rattle.binder.specs.Bind.{filesOf, namesOf, objectsOf, unless, allows, prepareVerdict, relocateVerdict, refusedBind, outcomeOf, bindIn, bindSet, bindOf}
+use Rattle.binder.specs.Steps.Prepared.{Prepared}
+use Rattle.binder.specs.Steps.Finished.{endsBy, finishedOf, Relocated, BoundSet}
 use Rattle.binder.specs.Steps.Needed.{Arranged}
-use Rattle.binder.specs.Steps.Relocating.{left, started, runOrder}
 use Rattle.model.specs.Order.{OnceEach}
 use Rattle.binder.proofs.OrderIs.{order-is, names-length}
 use Rattle.binder.specs.declared.Policy.{Policy}
-use Rattle.binder.specs.declared.prepare.Met.{Met}
-use Rattle.binder.specs.declared.prepare.Met.the-variants.{Passed, Refused}
 use Rattle.binder.specs.declared.order.Order.{Order}
 use Rattle.binder.specs.declared.report.Progress.{Progress}
 use Rattle.binder.proofs.OutcomeLaws.{refused-not, first-passed, unless-passed}
 use Rattle.binder.proofs.SoundLaws.{count-is}
 use Rattle.binder.proofs.QueryLaws.{placed-is}
-use Rattle.binder.proofs.PrepareLaws.{Ready, passes, not-handed, refused-sheet, handed}
+use Rattle.binder.proofs.PrepareLaws.{Ready, passes, sheet-refused, sheet-passed}
 use Rattle.binder.proofs.Steady.{LoadedSet}
 use Rattle.binder.proofs.RelocatedIs as relocated
 use Rattle.binder.proofs.ReportFill as fills
@@ -49,24 +49,24 @@ use Rattle.binder.proofs.NeedsIs.{order-loaded}
 -- ---- settling
 
 -- the refusal that was met leaves zeros; none leaves the arena and the report
-pub settled :
-    (size words : ℕ) (m : Met) (arena report arena′ report′ : List ℕ) → length arena′ ≡ size → length report′ ≡ words
-    → (metBy m ≡ passed → (arena′ ≡ arena) × (report′ ≡ report ++ replicate (words - length report) 0))
-    → settledOf m arena′ report′ ≡ outcomeOf size words (metBy m) arena report
-unfolding settledOf outcomeOf
-settled size words Passed arena report arena′ report′ la lr same = let s = same refl in rw (s .0, s .1)
-settled size words (Refused n k) arena report arena′ report′ la lr same = cc
+pub finished :
+    (size words : ℕ) (m : Verdict) (arena report arena′ report′ : List ℕ) → length arena′ ≡ size → length report′ ≡ words
+    → (m ≡ Passed → (arena′ ≡ arena) × (report′ ≡ report ++ replicate (words - length report) 0))
+    → finishedOf m arena′ report′ ≡ outcomeOf size words m arena report
+unfolding finishedOf outcomeOf
+finished size words Passed arena report arena′ report′ la lr same = let s = same refl in rw (s .0, s .1)
+finished size words (Refused n k) arena report arena′ report′ la lr same = cc
 
 -- the same where the refusal is known
-pub settled-by :
-    (size words : ℕ) (m : Met) (v : Verdict) (arena report arena′ report′ : List ℕ) → metBy m ≡ v → length arena′ ≡ size → length report′ ≡ words
-    → (v ≡ passed → (arena′ ≡ arena) × (report′ ≡ report ++ replicate (words - length report) 0))
-    → settledOf m arena′ report′ ≡ outcomeOf size words v arena report
-settled-by size words m v arena report arena′ report′ e la lr same =
+pub finished-by :
+    (size words : ℕ) (m v : Verdict) (arena report arena′ report′ : List ℕ) → m ≡ v → length arena′ ≡ size → length report′ ≡ words
+    → (v ≡ Passed → (arena′ ≡ arena) × (report′ ≡ report ++ replicate (words - length report) 0))
+    → finishedOf m arena′ report′ ≡ outcomeOf size words v arena report
+finished-by size words m v arena report arena′ report′ e la lr same =
     subst
-    (λ (w : Verdict). settledOf m arena′ report′ ≡ outcomeOf size words w arena report)
+    (λ (w : Verdict). finishedOf m arena′ report′ ≡ outcomeOf size words w arena report)
     e
-    (settled size words m arena report arena′ report′ la lr (λ z. same (sym e ∙ z)))
+    (finished size words m arena report arena′ report′ la lr (λ z. same (sym e ∙ z)))
 
 -- ---- 14 to 20
 
@@ -76,11 +76,6 @@ not-full n w =
     (λ (t : leb n w ≡ true). rw (t, le-ltb w n (leb-true n w t)))
     (λ (t : leb n w ≡ false). rw (t, lt-ltb w n (leb-false n w t)))
     (decide (leb n w))
-
-take-zeros : (n k : ℕ) → n ≤ k → take {A = ℕ} n (replicate k 0) ≡ replicate n 0
-take-zeros zero k l = refl
-take-zeros (suc n) zero l = absurd (omega arith)
-take-zeros (suc n) (suc k) l = ap (λ (xs : List ℕ). 0 ∷ xs) (take-zeros n k (omega arith))
 
 -- the words that fit are all there are
 fits-in : (n k : ℕ) (ws : List ℕ) → length ws ≤ n → n ≤ length ws + k → take n (ws ++ replicate k 0) ≡ ws ++ replicate (n - length ws) 0
@@ -96,25 +91,25 @@ filled : (n : ℕ) (ws : List ℕ) → length ws ≤ n → fillOf n ws ≡ ws ++
 unfolding fills.fillOf
 filled n ws l = fits-in n n ws l (omega arith)
 
-module _ (address size : ℕ) (table : List ℕ) (hf pf : File) (fs : List File) (policy : Policy) (order : List ℕ) (words : ℕ) where
+module _ (setting : Setting) (size : ℕ) (table : List ℕ) (hf pf : File) (fs : List File) (policy : Policy) (order : List ℕ) (words : ℕ) where
   abbrev S : objects.Objs
-  S = objsOf (objectAt address) hf pf fs
+  S = objsOf (objectAt setting) hf pf fs
 
   abbrev files : List File
   files = hf ∷ (pf ∷ fs)
 
-  module _ (p : Progress) (a report : List ℕ) (ended : relocated.Ended address size table hf pf fs order words p a report) where
+  module _ (p : Progress) (a report : List ℕ) (ended : relocated.Ended setting size table hf pf fs order words p a report) where
     ends : endsBy policy p ≡ relocateVerdict S files order policy words
     unfolding endsBy relocateVerdict
     ends = go (orderVerdict S files order) refl
       where
         go : (v : Verdict) → orderVerdict S files order ≡ v → endsBy policy p ≡ relocateVerdict S files order policy words
-        go passed q =
+        go Passed q =
             let g = ended .bound-is q .2 in
             rw (ended .verdict-is, q, g .undefined, g .full, not-full (length (orderWords S files order)) words)
-        go (refused n k) q = rw (ended .verdict-is, q)
+        go (Refused n k) q = rw (ended .verdict-is, q)
 
-    room : relocateVerdict S files order policy words ≡ passed → (orderVerdict S files order ≡ passed) × (length (orderWords S files order) ≤ words)
+    room : relocateVerdict S files order policy words ≡ Passed → (orderVerdict S files order ≡ Passed) × (length (orderWords S files order) ≤ words)
     unfolding relocateVerdict
     room e =
         let a = first-passed (orderVerdict S files order) _ e in
@@ -122,16 +117,16 @@ module _ (address size : ℕ) (table : List ℕ) (hf pf : File) (fs : List File)
         (a .0, leb-true _ _ (unless-passed (leb (length (orderWords S files order)) words) 20 0 (b .1)))
 
     pub relocated-set :
-        (m : Met) → metBy m ≡ endsBy policy p → settledOf m a report
+        (m : Verdict) → m ≡ endsBy policy p → finishedOf m a report
         ≡ outcomeOf size words (relocateVerdict S files order policy words) (tab size (bound S order)) (orderWords S files order)
     relocated-set m e =
-        settled-by size words m _ _ _ a report (e ∙ ends) (ended .lengths .0) (ended .lengths .1)
+        finished-by size words m _ _ _ a report (e ∙ ends) (ended .lengths .0) (ended .lengths .1)
         (λ z.
         let q = room z in
         let g = ended .bound-is (q .0) in
         (sym (tab-mem a) ∙ (ap (λ (n : ℕ). tab n (mem a)) (g .1) ∙ ap (tab size) (g .0)), g .2 .report-is ∙ filled words _ (q .1)))
 
--- ---- 1 to 20
+-- ---- 2 to 20
 
 hosts : (ls : List Input) (j : ℕ) → j < length ls → getD (map (λ (o : Input). record { host = false; bytes = o .file }) ls) j noFile .host ≡ false
 hosts [] j l = absurd (omega arith)
@@ -145,32 +140,32 @@ bytes-of [] j l = absurd (omega arith)
 bytes-of (o ∷ ls) zero l = refl
 bytes-of (o ∷ ls) (suc j) l = bytes-of ls j (omega arith)
 
--- refusals 1 to 12
+-- refusals 2 to 12
 pub prepare-refused :
-    (os : List Input) (size address : ℕ) (policy : Policy) (words : ℕ) (m : Met) (a report : List ℕ) → metBy m ≡ setVerdict os size address
-    → (n k : ℕ) → m ≡ Refused n k → length a ≡ size → length report ≡ words → BoundSet os size address policy words a report m
+    (setting : Setting) (os : List Input) (size : ℕ) (policy : Policy) (words : ℕ) (m : Verdict) (a report : List ℕ) → m ≡ prepareVerdict setting os size
+    → (n k : ℕ) → m ≡ Refused n k → length a ≡ size → length report ≡ words → BoundSet setting os size policy words a report m
 unfolding bindSet bindIn
-prepare-refused os size address policy words m a report e n k z la lr =
-    rw (sym e ∙ ap metBy z) (settled-by size words m (refused n k) _ _ a report (ap metBy z) la lr (λ q. refused-not n k q))
+prepare-refused setting os size policy words m a report e n k z la lr =
+    rw (sym e ∙ z) (finished-by size words m (Refused n k) _ _ a report z la lr (λ q. refused-not n k q))
 
 -- a set that was loaded
 module _
-    (address size : ℕ) (table : List ℕ) (h p : Input) (ls : List Input) (arena a : List ℕ) (r : Met) (len : length arena ≡ size)
-    (kept : length a ≡ length arena) (made : Prepared (h ∷ (p ∷ ls)) address arena a table r) (z : r ≡ Passed)
+    (setting : Setting) (size : ℕ) (table : List ℕ) (h p : Input) (ls : List Input) (arena a : List ℕ) (r : Verdict) (len : length arena ≡ size)
+    (kept : length a ≡ length arena) (made : Prepared setting (h ∷ (p ∷ ls)) arena a table r) (z : r ≡ Passed)
   where
-    passed-it : Ready (h ∷ (p ∷ ls)) size address
-    passed-it = subst (λ (n : ℕ). Ready (h ∷ (p ∷ ls)) n address) len (passes (h ∷ (p ∷ ls)) address arena a table r made z)
+    passed-it : Ready setting (h ∷ (p ∷ ls)) size
+    passed-it = subst (λ (n : ℕ). Ready setting (h ∷ (p ∷ ls)) n) len (passes setting (h ∷ (p ∷ ls)) arena a table r made z)
 
     abbrev fs : List File
     fs = map fileOf ls
 
     abbrev made-set : objects.Objs
-    made-set = objsOf (objectAt address) (hostFile h) (fileOf p) fs
+    made-set = objsOf (objectAt setting) (hostFile h) (fileOf p) fs
 
     many : objects.count made-set ≡ length ls + 2
     many =
         let n : length fs ≡ length ls = length-map ls fileOf in
-        omega (arith, count-is address size (hostFile h) (fileOf p) fs)
+        omega (arith, count-is setting size (hostFile h) (fileOf p) fs)
 
     not-host : (k : ℕ) → 1 ≤ k → k < length ls + 2 → getD (hostFile h ∷ (fileOf p ∷ fs)) k noFile .host ≡ false
     not-host zero l g = absurd (omega arith)
@@ -183,20 +178,22 @@ module _
     files-are (suc zero) g = refl
     files-are (suc (suc j)) g = bytes-of ls j (omega arith)
 
-    pub loaded : LoadedSet address size table (hostFile h) (fileOf p) fs
+    pub loaded : LoadedSet setting size table (hostFile h) (fileOf p) fs
     unfolding filesOf
     loaded =
         record {
           others = λ k l g. not-host k l (omega (arith, many));
           loads = passed-it .loads;
-          seats = made .table z;
+          links = made .table z;
+          counted = made .counted z ∙ sym (many ∙ omega arith);
+          addressed = made .addressed z;
           end = passed-it .end;
           small = passed-it .small;
         }
 
     pub placed-arena : mem a ≡ placed made-set
     unfolding filesOf
-    placed-arena = made .arena z ∙ sym (placed-is address (hostFile h) (fileOf p) fs)
+    placed-arena = made .arena z ∙ sym (placed-is setting (hostFile h) (fileOf p) fs)
 
     -- the order that the code made is the order of the set
     pub ordered :
@@ -205,24 +202,22 @@ module _
     unfolding filesOf
     ordered order o =
         let n : length ls + 2 ≡ length (h ∷ (p ∷ ls)) = omega arith in
-        order-loaded address size table a h p ls loaded
-        (λ k l. lies address size table (hostFile h) (fileOf p) fs loaded k l)
-        (λ k l. starts address size table (hostFile h) (fileOf p) fs loaded a (λ _. 0) (kept ∙ len) (made .arena z) k l)
+        order-loaded setting size table a h p ls loaded
+        (λ k l. lies setting size table (hostFile h) (fileOf p) fs loaded k l)
+        (λ k l. starts setting size table (hostFile h) (fileOf p) fs loaded a (λ _. 0) (kept ∙ len) (made .arena z) k l)
         order (subst (λ (i : ℕ). Arranged (h ∷ (p ∷ ls)) i a table order) n o)
 
     -- 14 to 20: the objects were relocated in an order that has each once
     pub bound-in :
         (policy : Policy) (words : ℕ) (order : List ℕ) → OnceEach (objects.count made-set) order → (report : List ℕ) → report ≡ replicate words 0
-        → (a′ report′ : List ℕ) (m : Met) → Relocated (h ∷ (p ∷ ls)) (length ls + 2) table order a address policy report a′ report′ m
-        → settledOf m a′ report′ ≡ bindIn (setVerdict (h ∷ (p ∷ ls)) size address) (filesOf (h ∷ (p ∷ ls))) order size address policy words
+        → (a′ report′ : List ℕ) (m : Verdict) → Relocated (h ∷ (p ∷ ls)) table order a policy report a′ report′ m
+        → finishedOf m a′ report′ ≡ bindIn setting (prepareVerdict setting (h ∷ (p ∷ ls)) size) (filesOf (h ∷ (p ∷ ls))) order size policy words
     unfolding filesOf bindIn objectsOf
     bound-in policy words order once report zeros a′ report′ m g =
         let n : length a ≡ size = kept ∙ len in
-        let run : left (g .progress) a′ report′ ≡ runOrder address table (objects.count made-set) (h ∷ (p ∷ ls)) order (left started a report) =
-        rw many (g .leaves) in
-        let ended = relocated.relocated-is address size table (hostFile h) (fileOf p) fs loaded (h ∷ (p ∷ ls)) (λ k l. files-are k (omega (arith, many)))
-        order once words a report placed-arena n zeros (g .progress) a′ report′ run in
-        relocated-set address size table (hostFile h) (fileOf p) fs policy order words (g .progress) a′ report′ ended m (g .met)
+        let ended = relocated.relocated-is setting size table (hostFile h) (fileOf p) fs loaded (h ∷ (p ∷ ls)) (λ k l. files-are k (omega (arith, many)))
+        order once words a report placed-arena n zeros (g .progress) a′ report′ (g .leaves) in
+        relocated-set setting size table (hostFile h) (fileOf p) fs policy order words (g .progress) a′ report′ ended m (g .met)
         ∙ rw (passed-it .verdict-is)
 
     -- the order of the set does
@@ -230,39 +225,38 @@ module _
     unfolding filesOf
     in-order order o =
         subst (λ (l : List ℕ). OnceEach (objects.count made-set) l) (sym o)
-        (order-is address (hostFile h) (fileOf p) fs (namesOf (h ∷ (p ∷ ls))) (names-length h p ls ∙ sym (length-map ls fileOf)))
+        (order-is setting (hostFile h) (fileOf p) fs (namesOf (h ∷ (p ∷ ls))) (names-length h p ls ∙ sym (length-map ls fileOf)))
 
 -- whatever objects the table of parts names
 pub bind-is :
-    (os : List Input) (count : ℕ) (arena a table : List ℕ) (address : ℕ) (r : Met) → length os ≡ count → length a ≡ length arena
-    → Prepared os address arena a table r → r ≡ Passed → (order : Order) → Arranged os count a table order
+    (setting : Setting) (os : List Input) (count : ℕ) (arena a table : List ℕ) (r : Verdict) → 2 ≤ count → length os ≡ count → length a ≡ length arena
+    → Prepared setting os arena a table r → r ≡ Passed → (order : Order) → Arranged os count a table order
     → (policy : Policy) (report : List ℕ) → report ≡ replicate (length report) 0
-    → (a′ report′ : List ℕ) (m : Met) → Relocated os count table (take (order .count) (order .list)) a address policy report a′ report′ m
-    → BoundSet os (length arena) address policy (length report) a′ report′ m
+    → (a′ report′ : List ℕ) (m : Verdict) → Relocated os table (take (order .count) (order .list)) a policy report a′ report′ m
+    → BoundSet setting os (length arena) policy (length report) a′ report′ m
 unfolding bindSet
-bind-is [] count arena a table address r many kept made z order o policy report zeros a′ report′ m g =
-    absurd (omega (arith, passes [] address arena a table r made z .two))
-bind-is (h ∷ []) count arena a table address r many kept made z order o policy report zeros a′ report′ m g =
-    absurd (omega (arith, passes (h ∷ []) address arena a table r made z .two))
-bind-is (h ∷ (p ∷ ls)) count arena a table address r many kept made z order o policy report zeros a′ report′ m g =
+bind-is setting [] count arena a table r two many kept made z order o policy report zeros a′ report′ m g =
+    absurd (omega (arith, many))
+bind-is setting (h ∷ []) count arena a table r two many kept made z order o policy report zeros a′ report′ m g =
+    absurd (omega (arith, many))
+bind-is setting (h ∷ (p ∷ ls)) count arena a table r two many kept made z order o policy report zeros a′ report′ m g =
     let c : count ≡ length ls + 2 = omega (arith, many) in
-    let same = ordered address (length arena) table h p ls arena a r refl kept made z order
+    let same = ordered setting (length arena) table h p ls arena a r refl kept made z order
     (subst (λ (n : ℕ). Arranged (h ∷ (p ∷ ls)) n a table order) c o) in
-    bound-in address (length arena) table h p ls arena a r refl kept made z policy (length report) (take (order .count) (order .list))
-    (in-order address (length arena) table h p ls arena a r refl kept made z (take (order .count) (order .list)) same) report zeros a′ report′ m
-    (subst (λ (n : ℕ). Relocated (h ∷ (p ∷ ls)) n table (take (order .count) (order .list)) a address policy report a′ report′ m) c g)
+    bound-in setting (length arena) table h p ls arena a r refl kept made z policy (length report) (take (order .count) (order .list))
+    (in-order setting (length arena) table h p ls arena a r refl kept made z (take (order .count) (order .list)) same) report zeros a′ report′ m
+    g
     ∙ ap
-    (λ (l : List ℕ). bindIn (setVerdict (h ∷ (p ∷ ls)) (length arena) address) (filesOf (h ∷ (p ∷ ls))) l (length arena) address policy (length report))
+    (λ (l : List ℕ). bindIn setting (prepareVerdict setting (h ∷ (p ∷ ls)) (length arena)) (filesOf (h ∷ (p ∷ ls))) l (length arena) policy (length report))
     same
 
 -- ---- the objects of a sheet
 
-pub bind-handed :
-    (sheet bytes : List ℕ) (size address : ℕ) (p : Parts) → Tabled sheet (length bytes) p → (policy : Policy) (words : ℕ)
-    → bindSet (inputsIn bytes p) size address policy words ≡ bindOf sheet bytes size address policy words
-unfolding bindSet bindOf bindIn outcomeOf
-bind-handed sheet bytes size address p t policy words =
-    ⊎-elim
-    (λ (ok : sheetOk sheet (length bytes) ≡ true). rw (handed-in t ok bytes, handed sheet bytes size address p t ok))
-    (λ (bad : sheetOk sheet (length bytes) ≡ false). rw (not-handed sheet bytes size address p t bad, refused-sheet sheet bytes size address p t bad))
-    (decide (sheetOk sheet (length bytes)))
+module _ (setting : Setting) (sheet bytes : List ℕ) (size : ℕ) (p : Parts) (t : Tabled sheet (length bytes) p) (policy : Policy) (words : ℕ) where
+  pub bind-refused : p .count < 2 → refusedBind size words 1 0 ≡ bindOf setting sheet bytes size policy words
+  unfolding bindOf
+  bind-refused l = rw (sheet-refused sheet bytes p t l)
+
+  pub bind-handed : 2 ≤ p .count → bindSet setting (inputsIn bytes p) size policy words ≡ bindOf setting sheet bytes size policy words
+  unfolding bindOf
+  bind-handed l = let ok = sheet-passed sheet bytes p t l in rw (handed-in t ok bytes, ok)

@@ -7,12 +7,11 @@ use native.Mathlib.Omega.{arith}
 use borrow.Author.Tests.{eq-eqb, ne-eqb}
 use Rattle.object.specs.TableBytes.{inWritable}
 use Rattle.object.specs.declared.program_header.Segment.{Segment}
-use Rattle.binder.specs.declared.turn.Turn.{Turn}
 use Rattle.binder.specs.Steps.Relocating.{summed, wordAdded, addBits}
 
 -- one turn: the bit is 0; it is 1, and its word may be written, or not
-module _ (t : Turn) (ss : List Segment) where
-  pub bit-0 : (n p bits : ℕ) (a : List ℕ) → 0 < n → ¬ (bits % 2 ≡ 1) → addBits t ss n p bits a ≡ addBits t ss (n - 1) (p + 8) (bits / 2) a
+module _ (base : ℕ) (ss : List Segment) where
+  pub bit-0 : (n p bits : ℕ) (a : List ℕ) → 0 < n → ¬ (bits % 2 ≡ 1) → addBits base ss n p bits a ≡ addBits base ss (n - 1) (p + 8) (bits / 2) a
   unfolding addBits
   bit-0 zero p bits a h e = absurd (omega arith)
   bit-0 (suc n) p bits a h e =
@@ -21,19 +20,19 @@ module _ (t : Turn) (ss : List Segment) where
 
   pub bit-1 :
       (n p bits : ℕ) (a : List ℕ) → 0 < n → bits % 2 ≡ 1 → inWritable ss p 8 ≡ true
-      → addBits t ss n p bits a ≡ addBits t ss (n - 1) (p + 8) (bits / 2) (wordAdded t p a)
+      → addBits base ss n p bits a ≡ addBits base ss (n - 1) (p + 8) (bits / 2) (wordAdded base p a)
   unfolding addBits
   bit-1 zero p bits a h e w = absurd (omega arith)
   bit-1 (suc n) p bits a h e w =
       let z : suc n - 1 ≡ n = omega arith in
       rw (z, eq-eqb _ _ e, w) refl
 
-  pub refused : (n p bits : ℕ) (a : List ℕ) → 0 < n → bits % 2 ≡ 1 → inWritable ss p 8 ≡ false → addBits t ss n p bits a ≡ summed 17 a
+  pub refused : (n p bits : ℕ) (a : List ℕ) → 0 < n → bits % 2 ≡ 1 → inWritable ss p 8 ≡ false → addBits base ss n p bits a ≡ summed 17 a
   unfolding addBits
   refused zero p bits a h e w = absurd (omega arith)
   refused (suc n) p bits a h e w = rw (eq-eqb _ _ e, w) refl
 
-  pub none : (n p bits : ℕ) (a : List ℕ) → n ≤ 0 → addBits t ss n p bits a ≡ summed 0 a
+  pub none : (n p bits : ℕ) (a : List ℕ) → n ≤ 0 → addBits base ss n p bits a ≡ summed 0 a
   unfolding addBits
   none zero p bits a h = refl
   none (suc n) p bits a h = absurd (omega arith)
@@ -45,10 +44,10 @@ module _ (t : Turn) (ss : List Segment) where
   -- the lowest of `n` bits that are all set
   pub bit-of-all :
       (n p : ℕ) (a : List ℕ) → 0 < n → inWritable ss p 8 ≡ true
-      → addBits t ss n p (2 ^ n - 1) a ≡ addBits t ss (n - 1) (p + 8) (2 ^ (n - 1) - 1) (wordAdded t p a)
+      → addBits base ss n p (2 ^ n - 1) a ≡ addBits base ss (n - 1) (p + 8) (2 ^ (n - 1) - 1) (wordAdded base p a)
   bit-of-all zero p a h w = absurd (omega arith)
   bit-of-all (suc n) p a h w =
       let z : suc n - 1 ≡ n = omega arith in
       let odd : (2 ^ suc n - 1) % 2 ≡ 1 = omega (arith, power-some n) in
       let half : (2 ^ suc n - 1) / 2 ≡ 2 ^ (suc n - 1) - 1 = rw z (omega (arith, power-some n)) in
-      bit-1 (suc n) p (2 ^ suc n - 1) a h odd w ∙ ap (λ (bits : ℕ). addBits t ss (suc n - 1) (p + 8) bits (wordAdded t p a)) half
+      bit-1 (suc n) p (2 ^ suc n - 1) a h odd w ∙ ap (λ (bits : ℕ). addBits base ss (suc n - 1) (p + 8) bits (wordAdded base p a)) half

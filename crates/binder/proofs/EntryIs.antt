@@ -11,7 +11,8 @@ use lib.ListN.{length}
 use Rattle.words.specs.Choice.{pick}
 use Rattle.words.specs.Memory.{Mem, mem, from, write, patch}
 use Rattle.words.proofs.Memory.{write-none}
-use Rattle.model.specs.Symbols.{Sym, Answer, absent, answer}
+use Rattle.model.specs.Symbols.{Wanted, absent, answer}
+use Rattle.model.specs.Symbols as model
 use Rattle.model.specs.Objects.{Objs, count, obj}
 use Rattle.model.specs.Scope.{resolve, resolveCopy}
 use Rattle.model.specs.Relocation.{addressOr0, copied, effect}
@@ -28,16 +29,19 @@ use Rattle.object.specs.RelocationTypes.{Calculation, Row, noSearch, inScope, i
 use Rattle.object.specs.declared.entry_symbol.CheckedSymbol.{CheckedSymbol}
 use Rattle.object.specs.declared.entry_symbol.CheckedSymbol.the-variants.{Refused, Checked}
 use Rattle.object.specs.declared.hash_tables.Definition.{Definition}
-use Rattle.binder.specs.Instance.{File, fileImage, fileRecord, symOf, entryBy}
-use Rattle.binder.specs.Verdict.{Verdict, passed, verdict, writtenRefusal, copyOk, copyRefusal, symbolThen, refusalBy}
+use Rattle.binder.specs.Instance.{File, fileImage, fileRecord, definitionOf, entryBy, wantedBy}
+use Rattle.binder.specs.Setting.{Setting}
+use Rattle.binder.specs.Verdict.{verdict, writtenRefusal, copyOk, copyRefusal, symbolThen, refusalBy}
+use Rattle.binder.specs.declared.Verdict.{Verdict}
+use Rattle.binder.specs.declared.Verdict.the-variants.{Passed}
 use Rattle.binder.specs.Report.{reportWord, unresolved, undefinedBy, isPassed}
-use Rattle.scope.specs.Steps.Seats.{seatAt}
+use Rattle.scope.specs.Steps.Links.{linkAt}
 use Rattle.binder.specs.Steps.ScopeModel.{scopedOf}
 use Rattle.binder.specs.Steps.Relocating.{Left, left, wrote, Noted, noted, withArena, withReport, refusedBy, imageIn, reportSum, noteOf, markUndefined, unresolvedOf, writtenBytes, fixedOf, writeFound, copyFits, copyBytes, copyOf, turnOf, soughtFor, soughtForCopy, keeps, answeredOf, symbolicOf, copyingOf, runAction, keepsWeak}
-use Rattle.scope.specs.declared.seats.Seat.{Seat}
+use Rattle.scope.specs.declared.links.Link.{Link}
 use Rattle.binder.specs.declared.turn.Turn.{Turn}
-use Rattle.scope.specs.declared.scope.Scoped.{Scoped}
-use Rattle.scope.specs.declared.scope.Scoped.the-variants.{Absent, Found}
+use Rattle.scope.specs.declared.scope.Resolved.{Resolved}
+use Rattle.scope.specs.declared.scope.Resolved.the-variants.{Absent, Found}
 use Rattle.binder.specs.declared.report.Progress.{Progress}
 use Rattle.binder.proofs.InsideLaws.{name-is}
 use Rattle.binder.proofs.Steady.{set, fileAt, LoadedSet, Steady, Written}
@@ -92,22 +96,25 @@ weak-keeps last y k i p report e =
 strong-keeps : (last : ℕ) (y : Symbol) (q : Noted) → eqb (bindingOf y) 2 ≡ false → keepsWeak last y q ≡ q
 strong-keeps last y (noted p report) e = rw e
 
-module _ (address size : ℕ) (table : List ℕ) (h pr : File) (fs : List File) where
+module _ (setting : Setting) (size : ℕ) (table : List ℕ) (h pr : File) (fs : List File) where
+  abbrev address : ℕ
+  address = setting .address
+
   abbrev S : Objs
-  S = set address size table h pr fs
+  S = set setting size table h pr fs
 
   pub written-then :
-      (a b c : List ℕ) (k : ℕ) → Written address size table h pr fs a b k → Written address size table h pr fs b c k
-      → Written address size table h pr fs a c k
+      (a b c : List ℕ) (k : ℕ) → Written setting size table h pr fs a b k → Written setting size table h pr fs b c k
+      → Written setting size table h pr fs a c k
   written-then a b c k x y = record { steady = y .steady; others = λ j l ne. y .others j l ne ∙ x .others j l ne }
 
-  module _ (L : LoadedSet address size table h pr fs) (k : ℕ) (lo : 1 ≤ k) (hi : k < count (set address size table h pr fs))
+  module _ (L : LoadedSet setting size table h pr fs) (k : ℕ) (lo : 1 ≤ k) (hi : k < count (set setting size table h pr fs))
       (n : ℕ) (a₀ : List ℕ) where
     abbrev t : Turn
-    t = turnOf address table k
+    t = turnOf table k
 
     abbrev f : File
-    f = fileAt address size table h pr fs k
+    f = fileAt setting size table h pr fs k
 
     abbrev r : Record
     r = fileRecord f
@@ -119,8 +126,8 @@ module _ (address size : ℕ) (table : List ℕ) (h pr : File) (fs : List File) 
     abbrev pub RightlyKept : Progress → Type 0
     RightlyKept p =
         (index : ℕ) → p .last ≡ index + 1
-        → ((o : ℕ) × (z : Sym) × (resolve S k (symbolName image (r .symbols) (r .strings) index) ≡ answer o z (p .address)))
-        ⊎ ((resolve S k (symbolName image (r .symbols) (r .strings) index) ≡ absent)
+        → ((o : ℕ) × (z : model.Definition) × (resolve S k (wantedBy image r index) ≡ answer o z (p .address)))
+        ⊎ ((resolve S k (wantedBy image r index) ≡ absent)
         × (eqb (bindingOf (symbolAt image (r .symbols) index)) 2 ≡ true)
         × (p .address ≡ 0))
 
@@ -138,34 +145,34 @@ module _ (address size : ℕ) (table : List ℕ) (h pr : File) (fs : List File) 
     pub record Doing (ws : List ℕ) (u : ℕ) (m : Mem) (p : Progress) (a report : List ℕ) : Type 0 where
       pub going : Going ws u n p report
       pub memory : mem a ≡ m
-      pub written : Written address size table h pr fs a₀ a k
+      pub written : Written setting size table h pr fs a₀ a k
       pub kept : RightlyKept p
 
-    seat-offset : (d : ℕ) → d < count S → seatAt table d .offset ≡ (obj S d) .offset
-    seat-offset d l = ap (λ (s : Seat). s .offset) ((lies address size table h pr fs L d l) .seat)
+    link-offset : (d : ℕ) → d < count S → linkAt table d .offset ≡ (obj S d) .offset
+    link-offset d l = ap (λ (s : Link). s .offset) ((lies setting size table h pr fs L d l) .link)
 
     base-is : t .base ≡ (obj S k) .base
-    base-is = (lies address size table h pr fs L k hi) .base
+    base-is = (lies setting size table h pr fs L k hi) .base
 
     module _ (ws : List ℕ) (u : ℕ) (m : Mem) (p : Progress) (a report : List ℕ) (d : Doing ws u m p a report) where
-      steady : Steady address size table h pr fs a
+      steady : Steady setting size table h pr fs a
       steady = d .written .steady
 
       -- a write to the object
       wrote-to :
           (q w : ℕ) (g : ℕ → ℕ) → inWritable (r .segments) q w ≡ true
-          → Written address size table h pr fs a₀ (patch a (t .offset + q) w g) k
+          → Written setting size table h pr fs a₀ (patch a (t .offset + q) w g) k
           × (mem (patch a (t .offset + q) w g) ≡ write m ((obj S k) .offset + q) w g)
       wrote-to q w g e =
-          let x = write-steady address size table h pr fs L a steady k hi q w e g in
-          rw (seat-offset k hi) (
+          let x = write-steady setting size table h pr fs L a steady k hi q w e g in
+          rw (link-offset k hi) (
             written-then a₀ a (patch a ((obj S k) .offset + q) w g) k (d .written) (x .0),
             x .1 ∙ ap (λ (m : Mem). write m ((obj S k) .offset + q) w g) (d .memory),
           )
 
       -- no refusal, and no word
       pub plain :
-          (v : Verdict) (m′ : Mem) (a′ : List ℕ) → v ≡ passed → Written address size table h pr fs a₀ a′ k → mem a′ ≡ m′
+          (v : Verdict) (m′ : Mem) (a′ : List ℕ) → v ≡ Passed → Written setting size table h pr fs a₀ a′ k → mem a′ ≡ m′
           → Ran size n v (Doing (ws ++ []) (earlier u 0) m′) (left p a′ report)
       plain v m′ a′ e w same =
           ran-passed size n v (Doing (ws ++ []) (earlier u 0) m′) p a′ report e (d .going .refusal) (w .steady .size-is)
@@ -174,8 +181,8 @@ module _ (address size : ℕ) (table : List ℕ) (h pr : File) (fs : List File) 
 
       -- no refusal, and what was noted
       with-words :
-          (v : Verdict) (vs : List ℕ) (u′ : ℕ) (m′ : Mem) (a′ : List ℕ) (q : Noted) → v ≡ passed → NotedGoing vs u′ n q
-          → KeptAs (p .last) (p .address) q → Written address size table h pr fs a₀ a′ k → mem a′ ≡ m′
+          (v : Verdict) (vs : List ℕ) (u′ : ℕ) (m′ : Mem) (a′ : List ℕ) (q : Noted) → v ≡ Passed → NotedGoing vs u′ n q
+          → KeptAs (p .last) (p .address) q → Written setting size table h pr fs a₀ a′ k → mem a′ ≡ m′
           → Ran size n v (Doing vs u′ m′) (withArena a′ q)
       with-words v vs u′ m′ a′ (noted p′ report′) e g z w same =
           ran-passed size n v (Doing vs u′ m′) p′ a′ report′ e (g .refusal) (w .steady .size-is) (going-length vs u′ n p′ report′ g)
@@ -183,8 +190,8 @@ module _ (address size : ℕ) (table : List ℕ) (h pr : File) (fs : List File) 
 
       -- no refusal, no word, and an answer is kept
       with-answer :
-          (v : Verdict) (last found : ℕ) (m′ : Mem) (a′ : List ℕ) → v ≡ passed → RightlyKept (keeps last found p)
-          → Written address size table h pr fs a₀ a′ k → mem a′ ≡ m′
+          (v : Verdict) (last found : ℕ) (m′ : Mem) (a′ : List ℕ) → v ≡ Passed → RightlyKept (keeps last found p)
+          → Written setting size table h pr fs a₀ a′ k → mem a′ ≡ m′
           → Ran size n v (Doing (ws ++ []) (earlier u 0) m′) (left (keeps last found p) a′ report)
       with-answer v last found m′ a′ e z w same =
           ran-passed size n v (Doing (ws ++ []) (earlier u 0) m′) (keeps last found p) a′ report e (d .going .refusal) (w .steady .size-is)
@@ -257,7 +264,7 @@ module _ (address size : ℕ) (table : List ℕ) (h pr : File) (fs : List File) 
           (symbol-case image r index))
         where
           same : checkedSymbol (imageIn a t) r index ≡ checkedSymbol image r index
-          same = (readings address size table h pr fs L a steady k hi) .symbols index
+          same = (readings setting size table h pr fs L a steady k hi) .symbols index
 
       name-same :
           (index : ℕ) → symbolOk (isTableOf r) image (r .symbols) (r .strings) index ≡ true
@@ -265,7 +272,7 @@ module _ (address size : ℕ) (table : List ℕ) (h pr : File) (fs : List File) 
           → nameOf (imageIn a t) r (symbolAt image (r .symbols) index) ≡ symbolName image (r .symbols) (r .strings) index
       name-same index ok e =
           ap (nameOf (imageIn a t) r) e
-          ∙ (name-is (imageIn a t) r index ∙ (readings address size table h pr fs L a steady k hi) .names index ok)
+          ∙ (name-is (imageIn a t) r index ∙ (readings setting size table h pr fs L a steady k hi) .names index ok)
 
       -- ---- a write with a search
 
@@ -276,33 +283,36 @@ module _ (address size : ℕ) (table : List ℕ) (h pr : File) (fs : List File) 
         abbrev name : List ℕ
         name = symbolName image (r .symbols) (r .strings) (e .symbol)
 
+        abbrev sought : Wanted
+        sought = wantedBy image r (e .symbol)
+
         -- the words and the mark of an entry whose search has the answer
-        abbrev After : Answer → Mem → Progress → List ℕ → List ℕ → Type 0
+        abbrev After : model.Resolved → Mem → Progress → List ℕ → List ℕ → Type 0
         After x m′ =
             Doing (ws ++ pick (unresolved image r e x) (reportWord 6 i ∷ []) []) (earlier u (pick (unresolved image r e x) k 0)) m′
 
-        kept-now : (o : ℕ) (z : Sym) (v : ℕ) → answer o z v ≡ resolve S k name → RightlyKept (keeps (e .symbol + 1) v p)
+        kept-now : (o : ℕ) (z : model.Definition) (v : ℕ) → answer o z v ≡ resolve S k sought → RightlyKept (keeps (e .symbol + 1) v p)
         kept-now o z v is index f =
             let same : e .symbol ≡ index = omega arith in
-            inl (o, z, sym (ap (λ (s : ℕ). resolve S k (symbolName image (r .symbols) (r .strings) s)) same) ∙ sym is)
+            inl (o, z, sym (ap (λ (s : ℕ). resolve S k (wantedBy image r s)) same) ∙ sym is)
 
-        weak-kept : absent ≡ resolve S k name → eqb (bindingOf y) 2 ≡ true → RightlyKept (keeps (e .symbol + 1) 0 p)
+        weak-kept : absent ≡ resolve S k sought → eqb (bindingOf y) 2 ≡ true → RightlyKept (keeps (e .symbol + 1) 0 p)
         weak-kept is weak index f =
             let same : e .symbol ≡ index = omega arith in
             inr (
-              sym (ap (λ (s : ℕ). resolve S k (symbolName image (r .symbols) (r .strings) s)) same) ∙ sym is,
+              sym (ap (λ (s : ℕ). resolve S k (wantedBy image r s)) same) ∙ sym is,
               sym (ap (λ (s : ℕ). eqb (bindingOf (symbolAt image (r .symbols) s)) 2) same) ∙ weak,
               refl,
             )
 
         module _ (f : Calculation) where
           -- what such an entry leaves
-          abbrev Written6 : Answer → Left → Type 0
+          abbrev Written6 : model.Resolved → Left → Type 0
           Written6 x st = Ran size n (verdict 0 k) (After x (write m ((obj S k) .offset + e .place) (f .width) (writtenBytes t e f (addressOr0 x)))) st
 
           -- found nowhere: a weak symbol's absence is kept
           nowhere-ran :
-              absent ≡ resolve S k name → inWritable (r .segments) (e .place) (f .width) ≡ true → (b : Bool) → eqb (bindingOf y) 2 ≡ b
+              absent ≡ resolve S k sought → inWritable (r .segments) (e .place) (f .width) ≡ true → (b : Bool) → eqb (bindingOf y) 2 ≡ b
               → Written6 absent
               (withArena (patch a (t .offset + e .place) (f .width) (writtenBytes t e f 0)) (keepsWeak (e .symbol + 1) y (unresolvedOf y k i p report)))
           unfolding addressOr0
@@ -323,34 +333,34 @@ module _ (address size : ℕ) (table : List ℕ) (h pr : File) (fs : List File) 
               (write m ((obj S k) .offset + e .place) (f .width) (writtenBytes t e f 0)) (patch a (t .offset + e .place) (f .width) (writtenBytes t e f 0)) (unresolvedOf y k i p report)
               (verdict-none 0 k refl) (unresolved-going i l y) (unresolved-kept y k i p report) (z .0) (z .1))
 
-          found-ran : (s : Scoped) → scopedOf s ≡ resolve S k name → inWritable (r .segments) (e .place) (f .width) ≡ true → Written6 (resolve S k name) (writeFound t e f i y s p a report)
+          found-ran : (s : Resolved) → scopedOf s ≡ resolve S k sought → inWritable (r .segments) (e .place) (f .width) ≡ true → Written6 (resolve S k sought) (writeFound t e f i y s p a report)
           unfolding scopedOf writeFound addressOr0
           found-ran Absent eq w =
-              subst (λ (x : Answer). Written6 x (writeFound t e f i y Absent p a report)) eq (nowhere-ran eq w (eqb (bindingOf y) 2) refl)
+              subst (λ (x : model.Resolved). Written6 x (writeFound t e f i y Absent p a report)) eq (nowhere-ran eq w (eqb (bindingOf y) 2) refl)
           found-ran (Found d s v) eq w =
               let z = wrote-to (e .place) (f .width) (writtenBytes t e f v) w in
               subst
-              (λ (x : Answer). Written6 x (writeFound t e f i y (Found d s v) p a report))
+              (λ (x : model.Resolved). Written6 x (writeFound t e f i y (Found d s v) p a report))
               eq
               (with-answer (verdict 0 k) (e .symbol + 1) v (write m ((obj S k) .offset + e .place) (f .width) (writtenBytes t e f v)) (patch a (t .offset + e .place) (f .width) (writtenBytes t e f v))
-              (verdict-none 0 k refl) (kept-now d (symOf s) v eq) (z .0) (z .1))
+              (verdict-none 0 k refl) (kept-now d (definitionOf s) v eq) (z .0) (z .1))
 
           kept-ran :
               p .last ≡ e .symbol + 1 → inWritable (r .segments) (e .place) (f .width) ≡ true
-              → Written6 (resolve S k name) (left p (patch a (t .offset + e .place) (f .width) (writtenBytes t e f (p .address))) report)
+              → Written6 (resolve S k sought) (left p (patch a (t .offset + e .place) (f .width) (writtenBytes t e f (p .address))) report)
           unfolding addressOr0
           kept-ran same w =
               let z = wrote-to (e .place) (f .width) (writtenBytes t e f (p .address)) w in
               ⊎-elim
               (λ x.
               subst
-              (λ (x : Answer). Written6 x (left p (patch a (t .offset + e .place) (f .width) (writtenBytes t e f (p .address))) report))
+              (λ (x : model.Resolved). Written6 x (left p (patch a (t .offset + e .place) (f .width) (writtenBytes t e f (p .address))) report))
               (sym (x .2))
               (plain (verdict 0 k) (write m ((obj S k) .offset + e .place) (f .width) (writtenBytes t e f (p .address))) (patch a (t .offset + e .place) (f .width) (writtenBytes t e f (p .address)))
               (verdict-none 0 k refl) (z .0) (z .1)))
               (λ x.
               subst
-              (λ (x : Answer). Written6 x (left p (patch a (t .offset + e .place) (f .width) (writtenBytes t e f (p .address))) report))
+              (λ (x : model.Resolved). Written6 x (left p (patch a (t .offset + e .place) (f .width) (writtenBytes t e f (p .address))) report))
               (sym (x .0))
               (rw (x .1)
               (plain (verdict 0 k) (write m ((obj S k) .offset + e .place) (f .width) (writtenBytes t e f 0)) (patch a (t .offset + e .place) (f .width) (writtenBytes t e f (p .address)))
@@ -358,16 +368,16 @@ module _ (address size : ℕ) (table : List ℕ) (h pr : File) (fs : List File) 
               (d .kept (e .symbol) same)
 
           answered-ran :
-              (s : Scoped) → scopedOf s ≡ resolve S k name → inWritable (r .segments) (e .place) (f .width) ≡ true → (b : Bool) → eqb (p .last) (e .symbol + 1) ≡ b
-              → Written6 (resolve S k name)
+              (s : Resolved) → scopedOf s ≡ resolve S k sought → inWritable (r .segments) (e .place) (f .width) ≡ true → (b : Bool) → eqb (p .last) (e .symbol + 1) ≡ b
+              → Written6 (resolve S k sought)
               (pick b (left p (patch a (t .offset + e .place) (f .width) (writtenBytes t e f (p .address))) report) (writeFound t e f i y s p a report))
           answered-ran s eq w true same = kept-ran (eqb-true (p .last) (e .symbol + 1) same) w
           answered-ran s eq w false same = found-ran s eq w
 
           symbolic-by :
-              (s : Scoped) → scopedOf s ≡ resolve S k name → (b : Bool) → inWritable (r .segments) (e .place) (f .width) ≡ b
+              (s : Resolved) → scopedOf s ≡ resolve S k sought → (b : Bool) → inWritable (r .segments) (e .place) (f .width) ≡ b
               → Ran size n (verdict (require b 17 0) k)
-              (After (resolve S k name) (write m ((obj S k) .offset + e .place) (f .width) (writtenBytes t e f (addressOr0 (resolve S k name)))))
+              (After (resolve S k sought) (write m ((obj S k) .offset + e .place) (f .width) (writtenBytes t e f (addressOr0 (resolve S k sought)))))
               (pick b
               (pick (eqb (p .last) (e .symbol + 1)) (left p (patch a (t .offset + e .place) (f .width) (writtenBytes t e f (p .address))) report) (writeFound t e f i y s p a report))
               (left (refusedBy t 17 p) a report))
@@ -377,17 +387,17 @@ module _ (address size : ℕ) (table : List ℕ) (h pr : File) (fs : List File) 
 
           symbolic-ran :
               Ran size n (verdict (symbolThen (checkedSymbol image r (e .symbol)) (λ y. writtenRefusal r (e .place) (f .width))) k)
-              (After (resolve S k name) (write m ((obj S k) .offset + e .place) (f .width) (writtenBytes t e f (addressOr0 (resolve S k name)))))
-              (symbolicOf address table (count S) t r e f i (checkedSymbol (imageIn a t) r (e .symbol)) p a report)
+              (After (resolve S k sought) (write m ((obj S k) .offset + e .place) (f .width) (writtenBytes t e f (addressOr0 (resolve S k sought)))))
+              (symbolicOf table t r e f i (checkedSymbol (imageIn a t) r (e .symbol)) p a report)
           unfolding symbolicOf answeredOf
           symbolic-ran =
               symbol-step (e .symbol) (λ y. writtenRefusal r (e .place) (f .width))
-              (After (resolve S k name) (write m ((obj S k) .offset + e .place) (f .width) (writtenBytes t e f (addressOr0 (resolve S k name)))))
-              (λ c. symbolicOf address table (count S) t r e f i c p a report) (λ z. refl)
+              (After (resolve S k sought) (write m ((obj S k) .offset + e .place) (f .width) (writtenBytes t e f (addressOr0 (resolve S k sought)))))
+              (λ c. symbolicOf table t r e f i c p a report) (λ z. refl)
               (λ ok same.
-              symbolic-by (soughtFor address table (count S) t a (nameOf (imageIn a t) r y))
-              (ap (λ (x : List ℕ). scopedOf (soughtFor address table (count S) t a x)) (name-same (e .symbol) ok same)
-              ∙ searches address size table h pr fs L a steady k hi name)
+              symbolic-by (soughtFor table t a (nameOf (imageIn a t) r y))
+              (ap (λ (x : List ℕ). scopedOf (soughtFor table t a x)) (name-same (e .symbol) ok same)
+              ∙ searches setting size table h pr fs L a steady k hi name)
               (inWritable (r .segments) (e .place) (f .width)) refl)
 
         -- ---- 5
@@ -406,38 +416,38 @@ module _ (address size : ℕ) (table : List ℕ) (h pr : File) (fs : List File) 
               (b : Bool) → inWritable (r .segments) (e .place) many ≡ true
               → Ran size n (verdict (require b 18 0) k) (Doing (ws ++ []) (earlier u 0) (write m to many (source m)))
               (withReport report
-              (pick b (wrote p (patch a (t .offset + e .place) many (from (seatAt table o .offset + x .value) (mem a))))
+              (pick b (wrote p (patch a (t .offset + e .place) many (from (linkAt table o .offset + x .value) (mem a))))
               (wrote (refusedBy t 18 p) a)))
           unfolding require
           copy-fits true w =
-              let z = wrote-to (e .place) many (from (seatAt table o .offset + x .value) (mem a)) w in
+              let z = wrote-to (e .place) many (from (linkAt table o .offset + x .value) (mem a)) w in
               plain (verdict 0 k) (write m to many (source m))
-              (patch a (t .offset + e .place) many (from (seatAt table o .offset + x .value) (mem a))) (verdict-none 0 k refl) (z .0)
+              (patch a (t .offset + e .place) many (from (linkAt table o .offset + x .value) (mem a))) (verdict-none 0 k refl) (z .0)
               (z .1
-              ∙ (ap (λ (s : ℕ). write m to many (from (s + x .value) (mem a))) (seat-offset o ol)
+              ∙ (ap (λ (s : ℕ). write m to many (from (s + x .value) (mem a))) (link-offset o ol)
               ∙ ap (λ (q : Mem). write m to many (source q)) (d .memory)))
           copy-fits false w = stopped 18 _ (λ e. omega arith)
 
           fits-is :
               inWritable (r .segments) (e .place) many ≡ true
-              → copyFits (length a) t (e .place) (seatAt table o) x many ≡ copyOk S k (e .place) o (symOf x) many
+              → copyFits (length a) t (e .place) (linkAt table o) x many ≡ copyOk S k (e .place) o (definitionOf x) many
           fits-is w =
-              ap (λ (s : ℕ). copyFits s t (e .place) (seatAt table o) x many) (steady .size-is)
-              ∙ copy-tests address size table h pr fs L k o hi ol (e .place) many
-              (writable-inside address size table h pr fs k (e .place) many w) x
+              ap (λ (s : ℕ). copyFits s t (e .place) (linkAt table o) x many) (steady .size-is)
+              ∙ copy-tests setting size table h pr fs L k o hi ol (e .place) many
+              (writable-inside setting size table h pr fs k (e .place) many w) x
 
           copy-writable :
               (b : Bool) → inWritable (r .segments) (e .place) many ≡ b
-              → Ran size n (verdict (require b 17 (require (copyOk S k (e .place) o (symOf x) many) 18 0)) k)
+              → Ran size n (verdict (require b 17 (require (copyOk S k (e .place) o (definitionOf x) many) 18 0)) k)
               (Doing (ws ++ []) (earlier u 0) (write m to many (source m)))
               (withReport report
               (pick b
-              (pick (copyFits (length a) t (e .place) (seatAt table o) x many)
-              (wrote p (patch a (t .offset + e .place) many (from (seatAt table o .offset + x .value) (mem a))))
+              (pick (copyFits (length a) t (e .place) (linkAt table o) x many)
+              (wrote p (patch a (t .offset + e .place) many (from (linkAt table o .offset + x .value) (mem a))))
               (wrote (refusedBy t 18 p) a))
               (wrote (refusedBy t 17 p) a)))
           unfolding require
-          copy-writable true w = rw (fits-is w) (copy-fits (copyOk S k (e .place) o (symOf x) many) w)
+          copy-writable true w = rw (fits-is w) (copy-fits (copyOk S k (e .place) o (definitionOf x) many) w)
           copy-writable false w = stopped 17 _ (λ e. omega arith)
 
           copy-some :
@@ -445,13 +455,13 @@ module _ (address size : ℕ) (table : List ℕ) (h pr : File) (fs : List File) 
               → Ran size n
               (verdict
               (pick b 0
-              (require (inWritable (r .segments) (e .place) many) 17 (require (copyOk S k (e .place) o (symOf x) many) 18 0))) k)
+              (require (inWritable (r .segments) (e .place) many) 17 (require (copyOk S k (e .place) o (definitionOf x) many) 18 0))) k)
               (Doing (ws ++ []) (earlier u 0) (write m to many (source m)))
               (withReport report
               (pick b (wrote p a)
               (pick (inWritable (r .segments) (e .place) many)
-              (pick (copyFits (length a) t (e .place) (seatAt table o) x many)
-              (wrote p (patch a (t .offset + e .place) many (from (seatAt table o .offset + x .value) (mem a))))
+              (pick (copyFits (length a) t (e .place) (linkAt table o) x many)
+              (wrote p (patch a (t .offset + e .place) many (from (linkAt table o .offset + x .value) (mem a))))
               (wrote (refusedBy t 18 p) a))
               (wrote (refusedBy t 17 p) a))))
           copy-some true z =
@@ -460,13 +470,13 @@ module _ (address size : ℕ) (table : List ℕ) (h pr : File) (fs : List File) 
           copy-some false z = copy-writable (inWritable (r .segments) (e .place) many) refl
 
         copy-by :
-            (x : Answer) (s : Scoped) → scopedOf s ≡ x → ((o : ℕ) (z : Sym) (v : ℕ) → x ≡ answer o z v → o < count S)
+            (x : model.Resolved) (s : Resolved) → scopedOf s ≡ x → ((o : ℕ) (z : model.Definition) (v : ℕ) → x ≡ answer o z v → o < count S)
             → Ran size n (verdict (copyRefusal S k r (e .place) (y .size) x) k)
             (After x (copied S ((obj S k) .offset + e .place) (y .size) x m)) (copyOf table t (r .segments) e i y s p a report)
         unfolding scopedOf copyOf copyRefusal copied copyBytes
         copy-by x Absent eq range =
             subst
-            (λ (x : Answer).
+            (λ (x : model.Resolved).
             Ran size n (verdict (copyRefusal S k r (e .place) (y .size) x) k)
             (After x (copied S ((obj S k) .offset + e .place) (y .size) x m)) (copyOf table t (r .segments) e i y Absent p a report))
             eq
@@ -475,30 +485,29 @@ module _ (address size : ℕ) (table : List ℕ) (h pr : File) (fs : List File) 
             (d .memory))
         copy-by x (Found o z v) eq range =
             subst
-            (λ (x : Answer).
+            (λ (x : model.Resolved).
             Ran size n (verdict (copyRefusal S k r (e .place) (y .size) x) k)
             (After x (copied S ((obj S k) .offset + e .place) (y .size) x m)) (copyOf table t (r .segments) e i y (Found o z v) p a report))
             eq
-            (copy-some o (range o (symOf z) v (sym eq)) z v (eqb (min (y .size) (z .size)) 0) refl)
+            (copy-some o (range o (definitionOf z) v (sym eq)) z v (eqb (min (y .size) (z .size)) 0) refl)
 
         copy-ran :
             Ran size n
             (verdict
             (symbolThen (checkedSymbol image r (e .symbol))
-            (λ y. copyRefusal S k r (e .place) (y .size) (resolveCopy S (nameOf image r y)))) k)
-            (After (resolveCopy S name) (copied S ((obj S k) .offset + e .place) (y .size) (resolveCopy S name) m))
-            (copyingOf address table (count S) t r e i (checkedSymbol (imageIn a t) r (e .symbol)) p a report)
+            (λ y. copyRefusal S k r (e .place) (y .size) (resolveCopy S sought))) k)
+            (After (resolveCopy S sought) (copied S ((obj S k) .offset + e .place) (y .size) (resolveCopy S sought) m))
+            (copyingOf table t r e i (checkedSymbol (imageIn a t) r (e .symbol)) p a report)
         unfolding copyingOf
         copy-ran =
-            symbol-step (e .symbol) (λ y. copyRefusal S k r (e .place) (y .size) (resolveCopy S (nameOf image r y)))
-            (After (resolveCopy S name) (copied S ((obj S k) .offset + e .place) (y .size) (resolveCopy S name) m))
-            (λ c. copyingOf address table (count S) t r e i c p a report) (λ z. refl)
+            symbol-step (e .symbol) (λ y. copyRefusal S k r (e .place) (y .size) (resolveCopy S sought))
+            (After (resolveCopy S sought) (copied S ((obj S k) .offset + e .place) (y .size) (resolveCopy S sought) m))
+            (λ c. copyingOf table t r e i c p a report) (λ z. refl)
             (λ ok same.
-            rw (name-is image r (e .symbol))
-            (copy-by (resolveCopy S name) (soughtForCopy address table (count S) a (nameOf (imageIn a t) r y))
-            (ap (λ (x : List ℕ). scopedOf (soughtForCopy address table (count S) a x)) (name-same (e .symbol) ok same)
-            ∙ copy-searches address size table h pr fs L a steady name)
-            (λ o z v q. resolveCopy-range S name o z v q .0)))
+            (copy-by (resolveCopy S sought) (soughtForCopy table a (nameOf (imageIn a t) r y))
+            (ap (λ (x : List ℕ). scopedOf (soughtForCopy table a x)) (name-same (e .symbol) ok same)
+            ∙ copy-searches setting size table h pr fs L a steady name)
+            (λ o z v q. resolveCopy-range S sought o z v q .0)))
 
         -- ---- any entry
 
@@ -512,7 +521,7 @@ module _ (address size : ℕ) (table : List ℕ) (h pr : File) (fs : List File) 
         EntryRan base x =
             Ran size n (verdict (refusalBy S k image r e x) k)
             (Doing (ws ++ wordsBy x) (earlier u (pick (undefinedBy S k image r e x) k 0)) (effect S k (entryBy image r base e x) m))
-            (runAction address table (count S) t r i e x p a report)
+            (runAction table t r i e x p a report)
 
         entry-by : (x : Row) → EntryRan (t .base) x
         unfolding refusalBy undefinedBy entryBy effect runAction fixedOf

@@ -14,7 +14,7 @@ use Rattle.words.specs.Words.{leAt}
 use Rattle.words.specs.Names.{nameAt}
 use Rattle.words.proofs.Choice.{both-true, either-true}
 use Rattle.words.proofs.Page.{end-near}
-use Rattle.model.specs.Symbols.{Answer, absent, answer}
+use Rattle.model.specs.Symbols.{Resolved, absent, answer}
 use Rattle.model.specs.Objects.{Entry, Objs, obj}
 use Rattle.model.specs.Scope.{resolveCopy}
 use Rattle.model.specs.Sound.{InsideCopy, Inside}
@@ -41,8 +41,9 @@ use Rattle.object.specs.declared.program_header.Segment.{Segment}
 use Rattle.object.specs.declared.program_header.Dynamic.{Dynamic}
 use Rattle.object.specs.declared.program_header.Dynamic.the-variants.{Missing, At}
 use Rattle.object.proofs.RefusalLaws.{required}
-use Rattle.binder.specs.Instance.{fileRecord, placesOf, entryBy, entryOf}
-use Rattle.binder.specs.Verdict.{passed, verdict, wordRefusal, writtenRefusal, copyOk, copyRefusal, symbolThen, refusalBy, entryRefusal, wordsVerdict, entriesVerdict}
+use Rattle.binder.specs.Instance.{fileRecord, placesOf, wantedBy, entryBy, entryOf}
+use Rattle.binder.specs.Verdict.{verdict, wordRefusal, writtenRefusal, copyOk, copyRefusal, symbolThen, refusalBy, entryRefusal, wordsVerdict, entriesVerdict}
+use Rattle.binder.specs.declared.Verdict.the-variants.{Passed}
 use Rattle.binder.proofs.OutcomeLaws.{first-passed, verdict-passed}
 
 -- ---- a range inside one writable segment ends within the span
@@ -79,7 +80,7 @@ writable-inside host file p n e =
 -- ---- RELR
 
 pub words-inside :
-    (k : ℕ) (r : Record) (ws : List Word) → wordsVerdict k r ws ≡ passed → (p : ℕ) → List·Memᴰ p (placesOf ws)
+    (k : ℕ) (r : Record) (ws : List Word) → wordsVerdict k r ws ≡ Passed → (p : ℕ) → List·Memᴰ p (placesOf ws)
     → inWritable (r .segments) p 8 ≡ true
 unfolding wordsVerdict placesOf
 words-inside k r [] e p m = absurd (List·Memᴰ·not-nil m)
@@ -114,7 +115,7 @@ module _ (S : Objs) (k : ℕ) (image : List ℕ) (r : Record) (base : ℕ)
   written : (p n : ℕ) → writtenRefusal r p n ≡ 0 → p + n ≤ (obj S k) .span
   written p n e = inner p n (required (inWritable (r .segments) p n) 16 0 e .0)
 
-  copy-inside : (p size : ℕ) (a : Answer) → copyRefusal S k r p size a ≡ 0 → InsideCopy S k p size a
+  copy-inside : (p size : ℕ) (a : Resolved) → copyRefusal S k r p size a ≡ 0 → InsideCopy S k p size a
   unfolding copyRefusal copyOk
   copy-inside p size absent e = tt
   copy-inside p size (answer d s a) e = λ pos.
@@ -142,13 +143,12 @@ module _ (S : Objs) (k : ℕ) (image : List ℕ) (r : Record) (base : ℕ)
   entry-inside e (writes inScope f) z =
       written (e .place) (f .width) (checked-then (e .symbol) (λ y. writtenRefusal r (e .place) (f .width)) z)
   entry-inside e copies z =
-      let rest : Symbol → ℕ = λ y. copyRefusal S k r (e .place) (y .size) (resolveCopy S (nameOf image r y)) in
-      let y : Symbol = symbolAt image (r .symbols) (e .symbol) in
-      copy-inside (e .place) (y .size) (resolveCopy S (symbolName image (r .symbols) (r .strings) (e .symbol)))
-      (sym (ap (λ (n : List ℕ). copyRefusal S k r (e .place) (y .size) (resolveCopy S n)) (name-is image r (e .symbol))) ∙ checked-then (e .symbol) rest z)
+      let found : Resolved = resolveCopy S (wantedBy image r (e .symbol)) in
+      copy-inside (e .place) (symbolAt image (r .symbols) (e .symbol) .size) found
+      (checked-then (e .symbol) (λ y. copyRefusal S k r (e .place) (y .size) found) z)
 
   pub entries-inside :
-      (es : List Rela) → entriesVerdict S k image r es ≡ passed → (x : Entry) → List·Memᴰ x (map (entryOf image r base) es)
+      (es : List Rela) → entriesVerdict S k image r es ≡ Passed → (x : Entry) → List·Memᴰ x (map (entryOf image r base) es)
       → Inside S k x
   unfolding entriesVerdict
   entries-inside [] v x m = absurd (List·Memᴰ·not-nil m)

@@ -21,10 +21,10 @@ use Rattle.object.specs.declared.relocate.Rela.{Rela}
 use Rattle.object.specs.RelocationTypes.{Calculation, Row, noSearch, inScope, ignored, passedOver, turnedAway, copies, writes}
 use Rattle.object.specs.declared.entry_symbol.CheckedSymbol.{CheckedSymbol}
 use Rattle.object.specs.declared.entry_symbol.CheckedSymbol.the-variants.{Refused, Checked}
-use Rattle.scope.specs.Steps.Seats.{seatAt}
-use Rattle.scope.specs.declared.seats.Seat.{Seat}
-use Rattle.scope.specs.declared.scope.Scoped.{Scoped}
-use Rattle.scope.specs.declared.scope.Scoped.the-variants.{Absent, Found}
+use Rattle.scope.specs.Steps.Links.{linkAt}
+use Rattle.scope.specs.declared.links.Link.{Link}
+use Rattle.scope.specs.declared.scope.Resolved.{Resolved}
+use Rattle.scope.specs.declared.scope.Resolved.the-variants.{Absent, Found}
 use Rattle.binder.specs.declared.report.Progress.{Progress}
 use Rattle.binder.specs.declared.turn.Turn.{Turn}
 use Rattle.binder.specs.declared.relocate.Symbols.{Symbols}
@@ -88,7 +88,7 @@ module _ (t : Turn) (r : Record) where
     noted-keeps : (b : List ℕ) (x : Noted) → TablesKept t r a b → Keeps a (withArena b x)
     noted-keeps b (noted p report) k = k
 
-  module _ (address : ℕ) (table : List ℕ) (count : ℕ) (i : ℕ) (e : Rela) (p : Progress) (a report : List ℕ) where
+  module _ (table : List ℕ) (i : ℕ) (e : Rela) (p : Progress) (a report : List ℕ) where
     module _ (f : Calculation) where
       fixed-keeps : Keeps a (withReport report (fixedOf t (r .segments) e f p a))
       unfolding fixedOf
@@ -99,14 +99,14 @@ module _ (t : Turn) (r : Record) where
           go true w = kept-write a (e .place) (f .width) (writtenBytes t e f 0) w
           go false w = kept-none a
 
-      found-keeps : (y : Symbol) (s : Scoped) → inWritable (r .segments) (e .place) (f .width) ≡ true → Keeps a (writeFound t e f i y s p a report)
+      found-keeps : (y : Symbol) (s : Resolved) → inWritable (r .segments) (e .place) (f .width) ≡ true → Keeps a (writeFound t e f i y s p a report)
       unfolding writeFound
       found-keeps y Absent w =
           noted-keeps a (patch a (t .offset + e .place) (f .width) (writtenBytes t e f 0))
           (keepsWeak (e .symbol + 1) y (unresolvedOf y (t .number) i p report)) (kept-write a (e .place) (f .width) (writtenBytes t e f 0) w)
       found-keeps y (Found k d x) w = kept-write a (e .place) (f .width) (writtenBytes t e f x) w
 
-      symbolic-keeps : (c : CheckedSymbol) → Keeps a (symbolicOf address table count t r e f i c p a report)
+      symbolic-keeps : (c : CheckedSymbol) → Keeps a (symbolicOf table t r e f i c p a report)
       unfolding symbolicOf answeredOf
       symbolic-keeps (Refused n) = kept-none a
       symbolic-keeps (Checked y) = go (inWritable (r .segments) (e .place) (f .width)) refl (eqb (p .last) (e .symbol + 1))
@@ -115,13 +115,13 @@ module _ (t : Turn) (r : Record) where
               → Keeps a
               (pick b
               (pick c (left p (patch a (t .offset + e .place) (f .width) (writtenBytes t e f (p .address))) report)
-              (writeFound t e f i y (soughtFor address table count t a (nameOf (imageIn a t) r y)) p a report))
+              (writeFound t e f i y (soughtFor table t a (nameOf (imageIn a t) r y)) p a report))
               (left (refusedBy t 17 p) a report))
           go true w true = kept-write a (e .place) (f .width) (writtenBytes t e f (p .address)) w
-          go true w false = found-keeps y (soughtFor address table count t a (nameOf (imageIn a t) r y)) w
+          go true w false = found-keeps y (soughtFor table t a (nameOf (imageIn a t) r y)) w
           go false w c = kept-none a
 
-    copied-keeps : (s : Seat) (d : Definition) (n : ℕ) → Keeps a (withReport report (copyBytes t (r .segments) (e .place) s d n p a))
+    copied-keeps : (s : Link) (d : Definition) (n : ℕ) → Keeps a (withReport report (copyBytes t (r .segments) (e .place) s d n p a))
     unfolding copyBytes
     copied-keeps s d n = go (eqb n 0) (inWritable (r .segments) (e .place) n) refl (copyFits (length a) t (e .place) s d n)
       where
@@ -137,17 +137,17 @@ module _ (t : Turn) (r : Record) where
         go false true w false = kept-none a
         go false false w c = kept-none a
 
-    copy-keeps : (y : Symbol) (s : Scoped) → Keeps a (copyOf table t (r .segments) e i y s p a report)
+    copy-keeps : (y : Symbol) (s : Resolved) → Keeps a (copyOf table t (r .segments) e i y s p a report)
     unfolding copyOf
     copy-keeps y Absent = noted-keeps a a (unresolvedOf y (t .number) i p report) (kept-none a)
-    copy-keeps y (Found k d x) = copied-keeps (seatAt table k) d (min (y .size) (d .size))
+    copy-keeps y (Found k d x) = copied-keeps (linkAt table k) d (min (y .size) (d .size))
 
-    copying-keeps : (c : CheckedSymbol) → Keeps a (copyingOf address table count t r e i c p a report)
+    copying-keeps : (c : CheckedSymbol) → Keeps a (copyingOf table t r e i c p a report)
     unfolding copyingOf
     copying-keeps (Refused n) = kept-none a
-    copying-keeps (Checked y) = copy-keeps y (soughtForCopy address table count a (nameOf (imageIn a t) r y))
+    copying-keeps (Checked y) = copy-keeps y (soughtForCopy table a (nameOf (imageIn a t) r y))
 
-    entry-keeps : (x : Row) → Keeps a (runAction address table count t r i e x p a report)
+    entry-keeps : (x : Row) → Keeps a (runAction table t r i e x p a report)
     unfolding runAction
     entry-keeps ignored = kept-none a
     entry-keeps passedOver = noted-keeps a a (noteOf (reportSum 7 i) p report) (kept-none a)
@@ -156,5 +156,5 @@ module _ (t : Turn) (r : Record) where
     entry-keeps (writes inScope f) = symbolic-keeps f (checkedSymbol (imageIn a t) r (e .symbol))
     entry-keeps copies = copying-keeps (checkedSymbol (imageIn a t) r (e .symbol))
 
-    pub entry-kept : (x : Row) (q : Progress) (b words : List ℕ) → left q b words ≡ runAction address table count t r i e x p a report → TablesKept t r a b
+    pub entry-kept : (x : Row) (q : Progress) (b words : List ℕ) → left q b words ≡ runAction table t r i e x p a report → TablesKept t r a b
     entry-kept x q b words h = subst (Keeps a) (sym h) (entry-keeps x)

@@ -24,6 +24,7 @@ pub mod ObjectIs
 pub mod ObjectCount
 pub mod RelocatedIs
 pub mod LoopLaws
+pub mod PartLaws
 pub mod RunLaws
 pub mod KeptLaws
 pub mod RelativeLaws

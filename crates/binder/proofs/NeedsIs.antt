@@ -27,16 +27,18 @@ use Rattle.object.specs.Loaded.{objectRefusal}
 use Rattle.object.proofs.RefusalLaws.{required, after-zero}
 use Rattle.sheet.specs.Sheet.{Input, noInput}
 use Rattle.binder.specs.Instance.{File, fileImage, fileRecord, objectAt}
-use Rattle.binder.specs.Verdict.{passed, verdict, noFile}
+use Rattle.binder.specs.Setting.{Setting}
+use Rattle.binder.specs.Verdict.{verdict, noFile}
+use Rattle.binder.specs.declared.Verdict.the-variants.{Passed}
 use Rattle.binder.specs.Steps.Prepared.{loadFrom}
 use Rattle.binder.specs.Bind.{filesOf, namesOf}
 use Rattle.binder.specs.SetOrder as sets
 use Rattle.binder.specs.SetOrder.{setOrder}
-use Rattle.scope.specs.Steps.Seats.{seatAt}
+use Rattle.scope.specs.Steps.Links.{linkAt}
 use Rattle.scope.specs.Steps.ScopeCode.{imageAt}
 use Rattle.binder.specs.Steps.Needed.{neededAt, numbersAt, needsAt, FewNeeds, Arranged}
 use Rattle.binder.specs.declared.order.Order.{Order}
-use Rattle.scope.specs.declared.seats.Seat.{Seat}
+use Rattle.scope.specs.declared.links.Link.{Link}
 use Rattle.binder.proofs.OutcomeLaws.{first-passed, verdict-passed}
 use Rattle.binder.proofs.PrepareLaws.{file-at, files-length}
 use Rattle.binder.proofs.FileLaws.{hostFile, fileOf}
@@ -51,7 +53,7 @@ abbrev ReadFrom : File → Type 0
 ReadFrom f = readRefusal (f .host) (fileImage f) (segmentsOf (f .host) (f .bytes)) (dynamicOf (f .bytes)) ≡ 0
 
 read-passed :
-    (size : ℕ) (files : List File) (n off k : ℕ) → loadFrom size n off files ≡ passed → k < length files → ReadFrom (getD files k noFile)
+    (size : ℕ) (files : List File) (n off k : ℕ) → loadFrom size n off files ≡ Passed → k < length files → ReadFrom (getD files k noFile)
 unfolding loadFrom loading.objectRefusal
 read-passed size [] n off k v h = absurd (omega arith)
 read-passed size (f ∷ fs) n off zero v h =
@@ -88,9 +90,9 @@ numbers-are os f image strings d ei es ed read =
 -- ---- a loaded set
 
 module _
-    (size : ℕ) (table arena : List ℕ) (os : List Input) (loads : loadFrom size 0 0 (filesOf os) ≡ passed)
-    (views : (k : ℕ) → 2 ≤ k → k < length os → seatAt table k .view ≡ viewOf (fileRecord (getD (filesOf os) k noFile)))
-    (images : (k : ℕ) → 2 ≤ k → k < length os → imageAt arena (seatAt table k) ≡ fileImage (getD (filesOf os) k noFile))
+    (size : ℕ) (table arena : List ℕ) (os : List Input) (loads : loadFrom size 0 0 (filesOf os) ≡ Passed)
+    (views : (k : ℕ) → 2 ≤ k → k < length os → linkAt table k .view ≡ viewOf (fileRecord (getD (filesOf os) k noFile)))
+    (images : (k : ℕ) → 2 ≤ k → k < length os → imageAt arena (linkAt table k) ≡ fileImage (getD (filesOf os) k noFile))
   where
     abbrev file : ℕ → File
     file k = getD (filesOf os) k noFile
@@ -124,21 +126,21 @@ module _
     pub order-read : (r : Order) → Arranged os (length os) arena table r → take (r .count) (r .list) ≡ setOrder (filesOf os) (namesOf os)
     order-read r made = made .order few-needs ∙ order-are
 
--- in the words of Steady: every object lies at its seat, and its bytes are as they were placed
-module _ (address size : ℕ) (table arena : List ℕ) (h p : Input) (ls : List Input) where
+-- in the words of Steady: every object lies at its link, and its bytes are as they were placed
+module _ (setting : Setting) (size : ℕ) (table arena : List ℕ) (h p : Input) (ls : List Input) where
   abbrev objects : ℕ
-  objects = count (objsOf (objectAt address) (hostFile h) (fileOf p) (map fileOf ls))
+  objects = count (objsOf (objectAt setting) (hostFile h) (fileOf p) (map fileOf ls))
 
   pub order-loaded :
-      LoadedSet address size table (hostFile h) (fileOf p) (map fileOf ls)
-      → ((k : ℕ) → k < objects → steady.At address size table (hostFile h) (fileOf p) (map fileOf ls) k)
-      → ((k : ℕ) → k < objects → PlacedAt address size table (hostFile h) (fileOf p) (map fileOf ls) arena k)
+      LoadedSet setting size table (hostFile h) (fileOf p) (map fileOf ls)
+      → ((k : ℕ) → k < objects → steady.At setting size table (hostFile h) (fileOf p) (map fileOf ls) k)
+      → ((k : ℕ) → k < objects → PlacedAt setting size table (hostFile h) (fileOf p) (map fileOf ls) arena k)
       → (r : Order) → Arranged (h ∷ (p ∷ ls)) (length (h ∷ (p ∷ ls))) arena table r
       → take (r .count) (r .list) ≡ setOrder (filesOf (h ∷ (p ∷ ls))) (namesOf (h ∷ (p ∷ ls)))
   unfolding filesOf
   order-loaded s lies bytes =
-      order-read size table arena (h ∷ (p ∷ ls)) (s .loads) (λ k a b. ap (λ (x : Seat). x .view) (lies k (many k b) .seat))
+      order-read size table arena (h ∷ (p ∷ ls)) (s .loads) (λ k a b. ap (λ (x : Link). x .view) (lies k (many k b) .link))
       (λ k a b. bytes k (many k b))
     where
       many : (k : ℕ) → k < length (h ∷ (p ∷ ls)) → k < objects
-      many k b = omega (arith, count-is address size (hostFile h) (fileOf p) (map fileOf ls), length-map ls fileOf)
+      many k b = omega (arith, count-is setting size (hostFile h) (fileOf p) (map fileOf ls), length-map ls fileOf)

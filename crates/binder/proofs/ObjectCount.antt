@@ -20,7 +20,8 @@ use Rattle.object.specs.declared.program_header.Dynamic.{Dynamic}
 use Rattle.object.specs.declared.program_header.Dynamic.the-variants.{Missing, At}
 use Rattle.object.proofs.RefusalLaws.{required, after-zero}
 use Rattle.binder.specs.Instance.{File}
-use Rattle.binder.specs.Verdict.{passed, verdict}
+use Rattle.binder.specs.Verdict.{verdict}
+use Rattle.binder.specs.declared.Verdict.the-variants.{Passed}
 use Rattle.binder.specs.Steps.Prepared.{loadFrom}
 use Rattle.binder.proofs.OutcomeLaws.{first-passed, verdict-passed}
 use Rattle.binder.proofs.SoundLaws.{load-fits}
@@ -50,7 +51,7 @@ span-some f room e =
     )
 
 -- the files from object `n` on, the first at the offset `off`
-pub few-files : (size : ℕ) (files : List File) (n off : ℕ) → off ≤ size → loadFrom size n off files ≡ passed → off + length files ≤ size
+pub few-files : (size : ℕ) (files : List File) (n off : ℕ) → off ≤ size → loadFrom size n off files ≡ Passed → off + length files ≤ size
 unfolding loadFrom
 few-files size [] n off l v = omega arith
 few-files size (f ∷ fs) n off l v =

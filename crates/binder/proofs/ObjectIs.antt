@@ -14,9 +14,11 @@ use Rattle.model.specs.Relocation.{addWords, effects, relocate}
 use Rattle.model.proofs.OrderLaws.{decide}
 use Rattle.object.specs.Record.{Record}
 use Rattle.binder.specs.Instance.{File, fileImage, fileRecord, placesOf, namedWords, relasOf, entryOf, objectAt}
-use Rattle.binder.specs.Verdict.{Verdict, first, entriesVerdict, objectVerdict}
+use Rattle.binder.specs.Setting.{Setting}
+use Rattle.binder.specs.Verdict.{first, entriesVerdict, objectVerdict}
+use Rattle.binder.specs.declared.Verdict.{Verdict}
 use Rattle.binder.specs.Report.{reportWord, entryReport, objectWords, hasUndefined}
-use Rattle.binder.specs.Steps.Relocating.{left, Noted, noted, Summed, summed, refusedBy, keeps, reportSum, noteOf, far, cutTo32, addRelrs, turnOf, imageIn, againRefusal, runTables, thenTables, runObject, runAt}
+use Rattle.binder.specs.Steps.Relocating.{left, Noted, noted, Summed, summed, refusedBy, keeps, reportSum, noteOf, runRelrs, turnOf, imageIn, againRefusal, runTables, thenTables, runObject, runAt}
 use Rattle.binder.specs.declared.turn.Turn.{Turn}
 use Rattle.binder.specs.declared.report.Progress.{Progress}
 use Rattle.binder.proofs.Steady.{set, fileAt, LoadedSet, PlacedAt, Steady}
@@ -27,16 +29,19 @@ use Rattle.binder.proofs.EntryIs.{none-kept, Doing}
 use Rattle.binder.proofs.TableIs.{Entered, tables-ran}
 use Rattle.binder.proofs.RelrIs.{RelrEnded, relr-is}
 
-module _ (address size : ℕ) (table : List ℕ) (h pr : File) (fs : List File) (L : LoadedSet address size table h pr fs)
-    (k : ℕ) (lo : 1 ≤ k) (hi : k < count (set address size table h pr fs)) (n : ℕ) where
+module _ (setting : Setting) (size : ℕ) (table : List ℕ) (h pr : File) (fs : List File) (L : LoadedSet setting size table h pr fs)
+    (k : ℕ) (lo : 1 ≤ k) (hi : k < count (set setting size table h pr fs)) (n : ℕ) where
+  abbrev address : ℕ
+  address = setting .address
+
   abbrev S : Objs
-  S = set address size table h pr fs
+  S = set setting size table h pr fs
 
   abbrev t : Turn
-  t = turnOf address table k
+  t = turnOf table k
 
   abbrev f : File
-  f = fileAt address size table h pr fs k
+  f = fileAt setting size table h pr fs k
 
   abbrev r : Record
   r = fileRecord f
@@ -46,8 +51,8 @@ module _ (address size : ℕ) (table : List ℕ) (h pr : File) (fs : List File) 
 
   -- ---- the object of the model
 
-  is : obj S k ≡ objectAt address f ((obj S k) .offset)
-  is = lies address size table h pr fs L k hi .is
+  is : obj S k ≡ objectAt setting f ((obj S k) .offset)
+  is = lies setting size table h pr fs L k hi .is
 
   words-are : (obj S k) .words ≡ placesOf (namedWords image r)
   unfolding objectAt
@@ -77,16 +82,16 @@ module _ (address size : ℕ) (table : List ℕ) (h pr : File) (fs : List File) 
 
   -- ---- its turn
 
-  module _ (ws : List ℕ) (u : ℕ) (p : Progress) (a report : List ℕ) (g : Going ws u n p report) (s : Steady address size table h pr fs a) where
+  module _ (ws : List ℕ) (u : ℕ) (p : Progress) (a report : List ℕ) (g : Going ws u n p report) (s : Steady setting size table h pr fs a) where
     -- what its turn leaves
     abbrev pub Turned : Progress → List ℕ → List ℕ → Type 0
     Turned =
-        Doing address size table h pr fs L k lo hi n a (ws ++ objectWords S k f) (earlier u (pick (hasUndefined S k f) k 0))
+        Doing setting size table h pr fs L k lo hi n a (ws ++ objectWords S k f) (earlier u (pick (hasUndefined S k f) k 0))
         (relocate S k (mem a))
 
     entered-turned :
         (p′ : Progress) (a′ report′ : List ℕ)
-        → Entered address size table h pr fs L k lo hi n a (ws ++ (reportWord 5 k ∷ [])) u (addWords (obj S k) (placesOf (namedWords image r)) (mem a))
+        → Entered setting size table h pr fs L k lo hi n a (ws ++ (reportWord 5 k ∷ [])) u (addWords (obj S k) (placesOf (namedWords image r)) (mem a))
         0 (relasOf image r) p′ a′ report′
         → Turned p′ a′ report′
     unfolding objectWords hasUndefined
@@ -94,29 +99,29 @@ module _ (address size : ℕ) (table : List ℕ) (h pr : File) (fs : List File) 
         rw (← relocate-is (mem a), ← append-assoc ws (reportWord 5 k ∷ []) (entryReport S k image r 0 (relasOf image r))) d
 
     after-relr :
-        (z : ℕ) (b : List ℕ) (q : Noted) → RelrEnded address size table h pr fs k z a b → NotedGoing (ws ++ (reportWord 5 k ∷ [])) u n q
-        → KeptAs 0 0 q → Ran size n (objectVerdict S k f) Turned (thenTables address table (count S) t r (summed z b) q)
+        (z : ℕ) (b : List ℕ) (q : Noted) → RelrEnded setting size table h pr fs k z a b → NotedGoing (ws ++ (reportWord 5 k ∷ [])) u n q
+        → KeptAs 0 0 q → Ran size n (objectVerdict S k f) Turned (thenTables table t r (summed z b) q)
     unfolding objectVerdict
     after-relr z b (noted p′ report′) w g′ none =
         subst
         (λ (v : Verdict).
         Ran size n (first v (entriesVerdict S k image r (relasOf image r))) Turned
-        (thenTables address table (count S) t r (summed z b) (noted p′ report′)))
+        (thenTables table t r (summed z b) (noted p′ report′)))
         (w .verdict-is)
         (⊎-elim
         (λ (c : eqb z 0 ≡ true).
         rw (c, verdict-none z k (eqb-true z 0 c))
         (ran-weaker size n (entriesVerdict S k image r (relasOf image r))
-        (Entered address size table h pr fs L k lo hi n a (ws ++ (reportWord 5 k ∷ [])) u (addWords (obj S k) (placesOf (namedWords image r)) (mem a))
+        (Entered setting size table h pr fs L k lo hi n a (ws ++ (reportWord 5 k ∷ [])) u (addWords (obj S k) (placesOf (namedWords image r)) (mem a))
         0 (relasOf image r))
-        Turned entered-turned (runTables address table (count S) t r (left p′ b report′))
-        (tables-ran address size table h pr fs L k lo hi n a (ws ++ (reportWord 5 k ∷ [])) u
+        Turned entered-turned (runTables table t r (left p′ b report′))
+        (tables-ran setting size table h pr fs L k lo hi n a (ws ++ (reportWord 5 k ∷ [])) u
         (addWords (obj S k) (placesOf (namedWords image r)) (mem a)) p′ b report′
         record {
           going = g′;
           memory = w .done (eqb-true z 0 c) .0;
           written = w .done (eqb-true z 0 c) .1;
-          kept = none-kept address size table h pr fs L k lo hi n a p′ (none .0);
+          kept = none-kept setting size table h pr fs L k lo hi n a p′ (none .0);
         })))
         (λ (c : eqb z 0 ≡ false).
         rw (c, first-met z k (entriesVerdict S k image r (relasOf image r)) (eqb-false z 0 c))
@@ -125,23 +130,23 @@ module _ (address size : ℕ) (table : List ℕ) (h pr : File) (fs : List File) 
         (decide (eqb z 0)))
 
     pub object-ran :
-        5 * 2 ^ 28 + k < 2 ^ 32 → Ran size n (objectVerdict S k f) Turned (runObject address table (count S) t r p a report)
+        5 * 2 ^ 28 + k < 2 ^ 32 → Ran size n (objectVerdict S k f) Turned (runObject table t r p a report)
     unfolding runObject
     object-ran small =
-        go (addRelrs t r (cutTo32 (r .relrs)) 0 far a) refl
+        go (runRelrs t r a) refl
       where
         go :
-            (x : Summed) → x ≡ addRelrs t r (cutTo32 (r .relrs)) 0 far a
-            → Ran size n (objectVerdict S k f) Turned (thenTables address table (count S) t r x (noteOf (reportSum 5 k) (keeps 0 0 p) report))
+            (x : Summed) → x ≡ runRelrs t r a
+            → Ran size n (objectVerdict S k f) Turned (thenTables table t r x (noteOf (reportSum 5 k) (keeps 0 0 p) report))
         go (summed z b) e =
-            after-relr z b (noteOf (reportSum 5 k) (keeps 0 0 p) report) (relr-is address size table h pr fs L k lo hi a s z b e)
+            after-relr z b (noteOf (reportSum 5 k) (keeps 0 0 p) report) (relr-is setting size table h pr fs L k lo hi a s z b e)
             (word-going ws u n (keeps 0 0 p) report (keeps-going ws u n 0 0 p report g) 5 k small) (note-kept (reportSum 5 k) (keeps 0 0 p) report)
 
     -- with the record that is read again
     pub turn-ran :
-        5 * 2 ^ 28 + k < 2 ^ 32 → PlacedAt address size table h pr fs a k
-        → Ran size n (objectVerdict S k f) Turned (runAt address table (count S) k (f .bytes) p a report)
+        5 * 2 ^ 28 + k < 2 ^ 32 → PlacedAt setting size table h pr fs a k
+        → Ran size n (objectVerdict S k f) Turned (runAt table k (f .bytes) p a report)
     unfolding runAt
     turn-ran small placed =
-        let x = again address size table h pr fs L a k lo hi placed in
+        let x = again setting size table h pr fs L a k lo hi placed in
         rw (eq-eqb (againRefusal (imageIn a t) (f .bytes)) 0 (x .0), x .1) (object-ran small)

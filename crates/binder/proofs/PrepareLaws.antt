@@ -1,7 +1,7 @@
 -- Loading the objects of a set, one after another: the turn of the loop and its ends; preparing a set. Assumes nothing.
 use mathlib.Core.Path.{_≡_, refl, sym, ap, _∙_, subst, fun-ext}
 use mathlib.Core.Bool.{Bool, true, false}
-use mathlib.Core.Logic.{_⊎_, inl, inr}
+use mathlib.Core.Logic.{_⊎_, inl, inr, ⊎-elim}
 use mathlib.Core.List.{List, [], _∷_, map}
 use Prim.Native.Nat.{ℕ, zero, suc, _+_, _-_, _*_, _%_, _^_, _≤_, _<_}
 use native.Mathlib.Omega.{arith}
@@ -17,29 +17,27 @@ use Rattle.words.specs.Memory.{Mem, In, mem, write, patch}
 use Rattle.words.proofs.Memory.{Out, in-or-out, write-in, write-out}
 use Rattle.words.proofs.Choice.{both-true}
 use Rattle.words.proofs.Slices.{put-tail, mem-past, mem-patch, length-tab}
+use Rattle.model.proofs.OrderLaws.{decide}
 use Rattle.object.specs.declared.dynamic_fields.Read.{Read}
 use Rattle.object.specs.declared.hash_tables.View.{View}
-use Rattle.object.specs.declared.program_header.Dynamic.{Dynamic}
-use Rattle.object.specs.declared.program_header.Dynamic.the-variants.{Missing, At}
-use Rattle.object.specs.ProgramHeader.{dynamicOf}
-use Rattle.object.specs.Placed.{segmentsOf, objectSpan, objectBytes, objectImage}
-use Rattle.object.specs.Record as recordIs
+use Rattle.object.specs.Placed.{objectSpan, objectBytes}
 use Rattle.object.specs.Record.{Record, heldBy, viewOf}
 use Rattle.object.specs.Loaded.{objectRecord, objectRefusal, LoadedBy}
-use Rattle.object.proofs.LoadedLaws.{loaded-part}
+use Rattle.object.proofs.LoadedLaws.{loaded-part, record-span}
 use Rattle.sheet.specs.Sheet as sheets
-use Rattle.sheet.specs.Sheet.{Input, noInput, sheetOk, setOf, arenaOk, twinOf}
+use Rattle.sheet.specs.Sheet.{Input, noInput, sheetOk, arenaOk, duplicateOf}
 use Rattle.sheet.specs.Steps.Parts.{inputsIn, Tabled}
 use Rattle.sheet.specs.declared.sheet.Parts.{Parts}
-use Rattle.sheet.proofs.PartLaws.{handed-in, two-parts}
+use Rattle.sheet.proofs.PartLaws.{two-parts}
+use Rattle.binder.specs.Setting.{Setting}
 use Rattle.binder.specs.Instance.{File, fileRecord}
-use Rattle.binder.specs.Verdict.{passed, refused, first, verdict, noFile}
-use Rattle.binder.specs.Bind.{filesOf, unless, prepareVerdict}
-use Rattle.scope.specs.Steps.Seats.{seatAt, Filtered}
-use Rattle.binder.specs.Steps.Prepared.{loadFrom, metBy, seatOf, placeFiles, Seated, SeatedAt, LoadedAt, LoadedFiles, setVerdict, Prepared}
-use Rattle.scope.specs.declared.seats.Seat.{Seat}
-use Rattle.binder.specs.declared.prepare.Met.{Met}
-use Rattle.binder.specs.declared.prepare.Met.the-variants.{Passed, Refused}
+use Rattle.binder.specs.Verdict.{first, verdict, noFile, loadVerdict}
+use Rattle.binder.specs.declared.Verdict.{Verdict}
+use Rattle.binder.specs.declared.Verdict.the-variants.{Passed, Refused}
+use Rattle.binder.specs.Bind.{filesOf, objectsOf, unless, prepareVerdict}
+use Rattle.scope.specs.Steps.Links.{linkAt, countIn, addressIn, FilteredBelow, Filtered}
+use Rattle.binder.specs.Steps.Prepared.{loadFrom, linkOf, placeFiles, Linked, LinkedAt, LoadedAt, LoadedFiles, Prepared}
+use Rattle.scope.specs.declared.links.Link.{Link}
 use Rattle.binder.specs.declared.prepare.Loaded.{Loaded}
 use Rattle.binder.specs.declared.prepare.Loaded as loads
 use Rattle.binder.proofs.OutcomeLaws.{refused-not, first-passed, unless-passed}
@@ -67,15 +65,6 @@ unfolding filesOf
 files-length [] = refl
 files-length (o ∷ os) = ap suc (length-map os (λ (x : Input). record { host = false; bytes = x .file }))
 
--- the record of a file has the file's span
-record-span : (host : Bool) (file : List ℕ) → objectRecord host file .span ≡ objectSpan host file
-unfolding objectRecord recordIs.recordAt recordIs.recordIn
-record-span host file = go (dynamicOf file)
-  where
-    go : (d : Dynamic) → recordIs.recordAt (objectImage host file) (segmentsOf host file) d .span ≡ objectSpan host file
-    go Missing = length-tab (objectSpan host file) (objectBytes host file)
-    go (At at) = length-tab (objectSpan host file) (objectBytes host file)
-
 part-length : (a : List ℕ) (off : ℕ) → length (take (length a - off) (drop off a)) ≡ length a - off
 part-length a off = simp (length-take, length-drop) (omega arith)
 
@@ -86,14 +75,14 @@ module _
     pub refusal-at : r .refusal ≡ objectRefusal host (length a - off) file
     refusal-at = h .refusal ∙ ap (λ (n : ℕ). objectRefusal host n file) (part-length a off)
 
-    pub seated-at :
+    pub linked-at :
         (v : View) → off ≤ length a → r .refusal ≡ 0 → v ≡ viewOf (heldBy (r .object))
         → LoadedAt host file off a (putMid off (length a - off) a ys)
         (loads.the-variants.At (record { offset = off; span = r .object .span; view = v }))
-    seated-at v l z e =
+    linked-at v l z e =
         record {
           refusal = sym refusal-at ∙ z;
-          seat = seat (h .object z);
+          link = link (h .object z);
           arena =
               ap mem (put-tail a off 0 (objectSpan host file) (objectBytes host file) l (loaded-part host file _ ys r h z))
               ∙ (mem-patch a (off + 0) (objectSpan host file) (objectBytes host file) (omega (arith, room))
@@ -104,10 +93,10 @@ module _
         room : objectSpan host file ≤ length a - off
         room = omega (arith, h .fits z, part-length a off)
 
-        seat :
+        link :
             heldBy (r .object) ≡ objectRecord host file
-            → _≡_ {A = Seat} (record { offset = off; span = r .object .span; view = v }) (seatOf (record { host = host; bytes = file }) off)
-        seat q =
+            → _≡_ {A = Link} (record { offset = off; span = r .object .span; view = v }) (linkOf (record { host = host; bytes = file }) off)
+        link q =
             let s : r .object .span ≡ objectSpan host file = ap (λ (x : Record). x .span) q ∙ record-span host file in
             let w : v ≡ viewOf (objectRecord host file) = e ∙ ap viewOf q in
             rw (s, w)
@@ -161,9 +150,9 @@ pub record Loading (os : List Input) (a₀ a table : List ℕ) (off k : ℕ) : T
   pub number : k ≤ length os
   pub met : loadFrom (length a₀) 0 0 (filesOf os) ≡ loadFrom (length a₀) k off (drop k (filesOf os))
   pub placed : placeFiles (filesOf os) 0 (λ _. 0) ≡ placeFiles (drop k (filesOf os)) off (below off (mem a))
-  pub seated :
-      (t : List ℕ) → ((j : ℕ) → j < k → seatAt t j ≡ seatAt table j) → Seated t k off (drop k (filesOf os)) → Seated t 0 0 (filesOf os)
-  pub filtered : Filtered table k
+  pub linked :
+      (t : List ℕ) → ((j : ℕ) → j < k → linkAt t j ≡ linkAt table j) → Linked t k off (drop k (filesOf os)) → Linked t 0 0 (filesOf os)
+  pub filtered : FilteredBelow table k
 
 pub load-begin : (os : List Input) (a table : List ℕ) → Loading os a a table 0 0
 load-begin os a table =
@@ -173,7 +162,7 @@ load-begin os a table =
       number = omega arith;
       met = refl;
       placed = ap (placeFiles (filesOf os) 0) (below-none (mem a));
-      seated = λ t h s. s;
+      linked = λ t h s. s;
       filtered = λ k l. absurd (omega arith);
     }
 
@@ -199,26 +188,26 @@ module _ (os : List Input) (a₀ a table : List ℕ) (off k : ℕ) (h : Loading 
           subst (λ (x : Loaded). LoadedAt (eqb k 0) (getD os k noInput .file) off a a′ x) e r in
           record {
             met = sym (h .met ∙ rw (left, ← h .same, ← g .0, ne-eqb n 0 (g .1)));
-            arena = λ z. refused-not n k (ap metBy z);
-            table = λ z. refused-not n k (ap metBy z);
-            filtered = λ z. refused-not n k (ap metBy z);
+            arena = λ z. refused-not n k z;
+            table = λ z. refused-not n k z;
+            filtered = λ z. refused-not n k z;
           }
 
-      seated : (s : Seat) → p ≡ loads.the-variants.At s → SeatedAt (eqb k 0) (getD os k noInput .file) off a a′ s
-      seated s e = subst (λ (x : Loaded). LoadedAt (eqb k 0) (getD os k noInput .file) off a a′ x) e r
+      linked : (s : Link) → p ≡ loads.the-variants.At s → LinkedAt (eqb k 0) (getD os k noInput .file) off a a′ s
+      linked s e = subst (λ (x : Loaded). LoadedAt (eqb k 0) (getD os k noInput .file) off a a′ x) e r
 
       -- its span fits
-      pub load-fits : (s : Seat) → p ≡ loads.the-variants.At s → off + s .span ≤ length a
-      load-fits s e = let g = seated s e in omega (arith, g .fits, ap (λ (x : Seat). x .span) (g .seat))
+      pub load-fits : (s : Link) → p ≡ loads.the-variants.At s → off + s .span ≤ length a
+      load-fits s e = let g = linked s e in omega (arith, g .fits, ap (λ (x : Link). x .span) (g .link))
 
       pub load-turn :
-          (s : Seat) → p ≡ loads.the-variants.At s → length a′ ≡ length a → (t : List ℕ) → seatAt t k ≡ s
-          → ((j : ℕ) → (j ≡ k → ⊥) → seatAt t j ≡ seatAt table j) → (Filtered table k → Filtered t (k + 1))
+          (s : Link) → p ≡ loads.the-variants.At s → length a′ ≡ length a → (t : List ℕ) → linkAt t k ≡ s
+          → ((j : ℕ) → (j ≡ k → ⊥) → linkAt t j ≡ linkAt table j) → (FilteredBelow table k → FilteredBelow t (k + 1))
           → Loading os a₀ a′ t (off + s .span) (k + 1)
-      unfolding loadFrom verdict placeFiles Seated
+      unfolding loadFrom verdict placeFiles Linked
       load-turn s e len t here others filters =
-          let g = seated s e in
-          let span : s .span ≡ objectSpan (eqb k 0) (getD os k noInput .file) = ap (λ (x : Seat). x .span) (g .seat) in
+          let g = linked s e in
+          let span : s .span ≡ objectSpan (eqb k 0) (getD os k noInput .file) = ap (λ (x : Link). x .span) (g .link) in
           let rest : drop (k + 1) (filesOf os) ≡ drop (suc k) (filesOf os) = ap (λ (n : ℕ). drop n (filesOf os)) (add-one k) in
           let n : ℕ = objectSpan (eqb k 0) (getD os k noInput .file) in
           let f : Mem = objectBytes (eqb k 0) (getD os k noInput .file) in
@@ -231,120 +220,117 @@ module _ (os : List Input) (a₀ a table : List ℕ) (off k : ℕ) (h : Loading 
             number = omega arith;
             met = h .met ∙ rw (left, ← h .same, g .refusal, ← span, add-one k);
             placed = h .placed ∙ (step ∙ rw (g .arena, span, add-one k));
-            seated = λ u same q.
-                h .seated u (λ j i. same j (omega arith) ∙ others j (λ e. omega arith))
-                (rw left (same k (omega arith) ∙ (here ∙ g .seat), rw (rest, span) at q));
+            linked = λ u same q.
+                h .linked u (λ j i. same j (omega arith) ∙ others j (λ e. omega arith))
+                (rw left (same k (omega arith) ∙ (here ∙ g .link), rw (rest, span) at q));
             filtered = filters (h .filtered);
           }
 
   pub load-finish : k ≡ length os → (a′ : List ℕ) → a′ ≡ patch a off (length a - off) (λ _. 0) → LoadedFiles (filesOf os) a₀ a′ table Passed
-  unfolding loadFrom placeFiles Seated
+  unfolding loadFrom placeFiles Linked
   load-finish e a′ zeros =
       let n : drop k (filesOf os) ≡ [] = rw (e, ← files-length os) (drop-length (filesOf os)) in
       record {
         met = sym (h .met ∙ rw n);
         arena = λ z. ap mem zeros ∙ (below-end a off (h .offset) ∙ sym (h .placed ∙ rw n));
-        table = λ z. h .seated table (λ j g. refl) (rw n tt);
+        table = λ z. h .linked table (λ j g. refl) (rw n tt);
         filtered = λ z j l. h .filtered j (omega (arith, files-length os));
       }
 
--- ---- preparing: refusals 1 to 3, then loading
+-- ---- preparing: refusals 2 and 3, then loading
 
-module _ (os : List Input) (address : ℕ) (arena : List ℕ) where
+-- a table with the same links
+linked-same :
+    (t t′ : List ℕ) (k off : ℕ) (fs : List File) → ((j : ℕ) → j < k + length fs → linkAt t′ j ≡ linkAt t j)
+    → Linked t k off fs → Linked t′ k off fs
+unfolding Linked
+linked-same t t′ k off [] same s = tt
+linked-same t t′ k off (f ∷ fs) same s = (
+  same k (omega arith) ∙ s .0,
+  linked-same t t′ (k + 1) (off + objectSpan (f .host) (f .bytes)) fs (λ j l. same j (omega arith)) (s .1),
+)
+
+module _ (setting : Setting) (os : List Input) (arena : List ℕ) where
   -- a refusal before anything is loaded
   refuses :
-      (n k : ℕ) → setVerdict os (length arena) address ≡ refused n k → (arena′ table : List ℕ) → Prepared os address arena arena′ table (Refused n k)
+      (n k : ℕ) → prepareVerdict setting os (length arena) ≡ Refused n k → (arena′ table : List ℕ) → Prepared setting os arena arena′ table (Refused n k)
   refuses n k e arena′ table =
       record {
         met = sym e;
-        arena = λ z. refused-not n k (ap metBy z);
-        table = λ z. refused-not n k (ap metBy z);
-        filtered = λ z. refused-not n k (ap metBy z);
+        arena = λ z. refused-not n k z;
+        table = λ z. refused-not n k z;
+        filtered = λ z. refused-not n k z;
+        counted = λ z. refused-not n k z;
+        addressed = λ z. refused-not n k z;
       }
 
-  pub prepare-one : length os < 2 → (arena′ table : List ℕ) → Prepared os address arena arena′ table (Refused 1 0)
-  unfolding setVerdict unless
-  prepare-one l = refuses 1 0 (rw (lt-leb 2 (length os) l))
+  pub prepare-two :
+      arenaOk (length arena) (setting .address) ≡ false → (arena′ table : List ℕ) → Prepared setting os arena arena′ table (Refused 2 0)
+  unfolding prepareVerdict unless
+  prepare-two e = refuses 2 0 (rw e)
 
-  module _ (two : 2 ≤ length os) where
-    pub prepare-two : arenaOk (length arena) address ≡ false → (arena′ table : List ℕ) → Prepared os address arena arena′ table (Refused 2 0)
-    unfolding setVerdict unless
-    prepare-two e = refuses 2 0 (rw (le-leb 2 (length os) two, e))
+  module _ (ok : arenaOk (length arena) (setting .address) ≡ true) where
+    pub prepare-three : (t : ℕ) → t ≡ duplicateOf os → (t ≡ 0 → ⊥) → (arena′ table : List ℕ) → Prepared setting os arena arena′ table (Refused 3 t)
+    unfolding prepareVerdict unless
+    prepare-three t e ne = refuses 3 t (rw (ok, ← e, ne-eqb t 0 ne))
 
-    module _ (ok : arenaOk (length arena) address ≡ true) where
-      pub prepare-three : (t : ℕ) → t ≡ twinOf os → (t ≡ 0 → ⊥) → (arena′ table : List ℕ) → Prepared os address arena arena′ table (Refused 3 t)
-      unfolding setVerdict unless
-      prepare-three t e ne = refuses 3 t (rw (le-leb 2 (length os) two, ok, ← e, ne-eqb t 0 ne))
-
-      pub prepare-loads :
-          twinOf os ≡ 0 → (arena′ table : List ℕ) (r : Met) → LoadedFiles (filesOf os) arena arena′ table r
-          → Prepared os address arena arena′ table r
-      unfolding setVerdict unless
-      prepare-loads none arena′ table r h =
-          record {
-            met = h .met ∙ rw (le-leb 2 (length os) two, ok, eq-eqb (twinOf os) 0 none);
-            arena = h .arena;
-            table = h .table;
-            filtered = λ z k l. h .filtered z k (omega (arith, files-length os));
-          }
+    -- the table `t` with the set's count and the address is `t′`
+    pub prepare-loads :
+        duplicateOf os ≡ 0 → (arena′ t t′ : List ℕ) (r : Verdict) → LoadedFiles (filesOf os) arena arena′ t r → length os ≤ 64
+        → countIn t′ ≡ length os → addressIn t′ ≡ setting .address → ((k : ℕ) → k < 64 → linkAt t′ k ≡ linkAt t k)
+        → (FilteredBelow t (length os) → Filtered t′)
+        → Prepared setting os arena arena′ t′ r
+    unfolding prepareVerdict unless
+    prepare-loads none arena′ t t′ r h few count-is address-is same filters =
+        record {
+          met = h .met ∙ (sym (loads-same setting (length arena) (filesOf os)) ∙ rw (ok, eq-eqb (duplicateOf os) 0 none));
+          arena = h .arena;
+          table = λ z. linked-same t t′ 0 0 (filesOf os) (λ k l. same k (omega (arith, files-length os))) (h .table z);
+          filtered = λ z. filters (λ k l. h .filtered z k (omega (arith, files-length os)));
+          counted = λ z. count-is;
+          addressed = λ z. address-is;
+        }
 
 -- a set that passed
-pub record Ready (os : List Input) (size address : ℕ) : Type 0 where
-  pub verdict-is : setVerdict os size address ≡ passed
-  pub two : 2 ≤ length os
-  pub loads : loadFrom size 0 0 (filesOf os) ≡ passed
-  pub end : address + size ≤ 2 ^ 63
+pub record Ready (setting : Setting) (os : List Input) (size : ℕ) : Type 0 where
+  pub verdict-is : prepareVerdict setting os size ≡ Passed
+  pub loads : loadFrom size 0 0 (filesOf os) ≡ Passed
+  pub end : setting .address + size ≤ 2 ^ 63
   pub small : size ≤ 2 ^ 28
 
-pub ready : (os : List Input) (size address : ℕ) → setVerdict os size address ≡ passed → Ready os size address
-unfolding setVerdict sheets.arenaOk
-ready os size address e =
-    let a = first-passed (unless (leb 2 (length os)) 1 0) _ e in
-    let b = first-passed (unless (arenaOk size address) 2 0) _ (a .1) in
-    let c = first-passed (unless (eqb (twinOf os) 0) 3 (twinOf os)) (loadFrom size 0 0 (filesOf os)) (b .1) in
-    let p = both-true (eqb (address % 4096) 0) _ (unless-passed (arenaOk size address) 2 0 (b .0)) in
+pub ready : (setting : Setting) (os : List Input) (size : ℕ) → prepareVerdict setting os size ≡ Passed → Ready setting os size
+unfolding prepareVerdict sheets.arenaOk
+ready setting os size e =
+    let b = first-passed (unless (arenaOk size (setting .address)) 2 0) _ e in
+    let c = first-passed (unless (eqb (duplicateOf os) 0) 3 (duplicateOf os)) (loadVerdict (objectsOf setting (filesOf os)) size 0 (filesOf os)) (b .1) in
+    let p = both-true (eqb (setting .address % 4096) 0) _ (unless-passed (arenaOk size (setting .address)) 2 0 (b .0)) in
     let q = both-true (leb size (2 ^ 28)) _ (p .1) in
     record {
       verdict-is = e;
-      two = leb-true 2 (length os) (unless-passed (leb 2 (length os)) 1 0 (a .0));
-      loads = c .1;
-      end = leb-true (address + size) (2 ^ 63) (q .1);
+      loads = sym (loads-same setting size (filesOf os)) ∙ c .1;
+      end = leb-true (setting .address + size) (2 ^ 63) (q .1);
       small = leb-true size (2 ^ 28) (q .0);
     }
 
 pub passes :
-    (os : List Input) (address : ℕ) (arena arena′ table : List ℕ) (r : Met) → Prepared os address arena arena′ table r → r ≡ Passed
-    → Ready os (length arena) address
-passes os address arena arena′ table r made z = ready os (length arena) address (sym (made .met) ∙ ap metBy z)
-
--- the words of every filter of a set that was prepared
-pub all-filtered :
-    (os : List Input) (count address : ℕ) (arena arena′ table : List ℕ) (r : Met) → Prepared os address arena arena′ table r → r ≡ Passed
-    → length os ≡ count → Filtered table count
-all-filtered os count address arena arena′ table r made z many = λ k l. made .filtered z k (omega (arith, many))
+    (setting : Setting) (os : List Input) (arena arena′ table : List ℕ) (r : Verdict) → Prepared setting os arena arena′ table r → r ≡ Passed
+    → Ready setting os (length arena)
+passes setting os arena arena′ table r made z = ready setting os (length arena) (sym (made .met) ∙ z)
 
 -- a table of parts names as many objects as it counts
 pub many-parts : {sheet : List ℕ} {n : ℕ} {p : Parts} → Tabled sheet n p → (bytes : List ℕ) → length (inputsIn bytes p) ≡ p .count
 many-parts t bytes = ap length (t .same bytes) ∙ t .count bytes
 
--- the objects of a sheet: none where it is refused
-module _ (sheet bytes : List ℕ) (size address : ℕ) (p : Parts) (t : Tabled sheet (length bytes) p) where
-  pub not-handed : sheetOk sheet (length bytes) ≡ false → setVerdict (inputsIn bytes p) size address ≡ refused 1 0
-  unfolding setVerdict unless
-  not-handed bad = rw (t .same bytes, bad)
+-- a sheet is refused where its table of parts names no two objects
+module _ (sheet bytes : List ℕ) (p : Parts) (t : Tabled sheet (length bytes) p) where
+  pub sheet-refused : p .count < 2 → sheetOk sheet (length bytes) ≡ false
+  sheet-refused l =
+      ⊎-elim (λ (ok : sheetOk sheet (length bytes) ≡ true). absurd (omega (arith, two-parts t ok)))
+      (λ (bad : sheetOk sheet (length bytes) ≡ false). bad) (decide (sheetOk sheet (length bytes)))
 
-  pub refused-sheet : sheetOk sheet (length bytes) ≡ false → prepareVerdict sheet bytes size address ≡ refused 1 0
-  unfolding prepareVerdict unless
-  refused-sheet bad = rw bad
-
-  pub handed : sheetOk sheet (length bytes) ≡ true → setVerdict (setOf sheet bytes) size address ≡ prepareVerdict sheet bytes size address
-  unfolding setVerdict prepareVerdict unless
-  handed ok =
-      let two : 2 ≤ length (setOf sheet bytes) = omega (
-        arith,
-        two-parts t ok,
-        t .count bytes,
-        ap length (handed-in t ok bytes),
-        ap length (t .same bytes),
-      ) in
-      rw (ok, le-leb 2 (length (setOf sheet bytes)) two, loads-same address size (filesOf (setOf sheet bytes)))
+  pub sheet-passed : 2 ≤ p .count → sheetOk sheet (length bytes) ≡ true
+  sheet-passed l =
+      ⊎-elim (λ (ok : sheetOk sheet (length bytes) ≡ true). ok)
+      (λ (bad : sheetOk sheet (length bytes) ≡ false).
+      let none : 0 ≡ p .count = rw bad at (t .count bytes) in absurd (omega (arith, none)))
+      (decide (sheetOk sheet (length bytes)))

@@ -19,7 +19,9 @@ use Rattle.model.proofs.OrderLaws.{decide}
 use Rattle.model.proofs.Orders.{times-tail}
 use Rattle.sheet.specs.Sheet.{Input, noInput}
 use Rattle.binder.specs.Instance.{File}
-use Rattle.binder.specs.Verdict.{passed, verdict, noFile, objectVerdict, orderVerdict}
+use Rattle.binder.specs.Setting.{Setting}
+use Rattle.binder.specs.Verdict.{verdict, noFile, objectVerdict, orderVerdict}
+use Rattle.binder.specs.declared.Verdict.the-variants.{Passed}
 use Rattle.binder.specs.Report.{objectWords, orderWords, hasUndefined, firstUndefined}
 use Rattle.binder.specs.Steps.Relocating.{left, started, runAt, runOrder}
 use Rattle.binder.specs.declared.report.Progress.{Progress}
@@ -77,42 +79,45 @@ turns-of n order two o =
 
 -- ---- the order
 
-module _ (address size : ℕ) (table : List ℕ) (h pr : File) (fs : List File) where
+module _ (setting : Setting) (size : ℕ) (table : List ℕ) (h pr : File) (fs : List File) where
+  abbrev address : ℕ
+  address = setting .address
+
   abbrev S : Objs
-  S = set address size table h pr fs
+  S = set setting size table h pr fs
 
   abbrev fl : List File
-  fl = files address size table h pr fs
+  fl = files setting size table h pr fs
 
   -- what is left of an order whose objects were all relocated, or one was refused
   pub record Ended (order : List ℕ) (n : ℕ) (p′ : Progress) (a′ report′ : List ℕ) : Type 0 where
     pub verdict-is : verdict (p′ .refusal) (p′ .object) ≡ orderVerdict S fl order
     pub bound-is :
-        orderVerdict S fl order ≡ passed
+        orderVerdict S fl order ≡ Passed
         → (mem a′ ≡ bound S order) × (length a′ ≡ size) × Going (orderWords S fl order) (firstUndefined S fl order) n p′ report′
     pub lengths : (length a′ ≡ size) × (length report′ ≡ n)
 
-  module _ (L : LoadedSet address size table h pr fs) (small : count (set address size table h pr fs) ≤ 2 ^ 28) (os : List Input)
-      (inputs : (k : ℕ) → k < count (set address size table h pr fs) → getD os k noInput .file ≡ fileAt address size table h pr fs k .bytes)
+  module _ (L : LoadedSet setting size table h pr fs) (small : count (set setting size table h pr fs) ≤ 2 ^ 28) (os : List Input)
+      (inputs : (k : ℕ) → k < count (set setting size table h pr fs) → getD os k noInput .file ≡ fileAt setting size table h pr fs k .bytes)
       (n : ℕ) where
     -- before the turns of the objects `ks`, whose bytes are as they were placed
     record Before (ks ws : List ℕ) (u : ℕ) (m : Mem) (p : Progress) (a report : List ℕ) : Type 0 where
       going : Going ws u n p report
       memory : mem a ≡ m
-      steady : Steady address size table h pr fs a
-      rest : (j : ℕ) → 0 < times j ks → PlacedAt address size table h pr fs a j
+      steady : Steady setting size table h pr fs a
+      rest : (j : ℕ) → 0 < times j ks → PlacedAt setting size table h pr fs a j
 
     one-turn :
         (k : ℕ) (ks : List ℕ) → Turns (count S) (k ∷ ks) → (ws : List ℕ) (u : ℕ) (m : Mem) (p : Progress) (a report : List ℕ)
         → Before (k ∷ ks) ws u m p a report
         → Ran size n (objectVerdict S k (getD fl k noFile))
         (Before ks (ws ++ objectWords S k (getD fl k noFile)) (earlier u (pick (hasUndefined S k (getD fl k noFile)) k 0)) (relocate S k m))
-        (runAt address table (count S) k (getD os k noInput .file) p a report)
+        (runAt table k (getD os k noInput .file) p a report)
     one-turn k ks o ws u m p a report b =
         let at = o .among k (omega (arith, head-in k ks)) in
         rw (inputs k (at .1))
         (ran-weaker size n (objectVerdict S k (getD fl k noFile))
-        (Turned address size table h pr fs L k (at .0) (at .1) n ws u p a report (b .going) (b .steady))
+        (Turned setting size table h pr fs L k (at .0) (at .1) n ws u p a report (b .going) (b .steady))
         (Before ks (ws ++ objectWords S k (getD fl k noFile)) (earlier u (pick (hasUndefined S k (getD fl k noFile)) k 0)) (relocate S k m))
         (λ p′ a′ report′ d.
         record {
@@ -123,8 +128,8 @@ module _ (address size : ℕ) (table : List ℕ) (h pr : File) (fs : List File) 
               d .written .others j (o .among j (omega (arith, times-tail j k ks)) .1) (λ e. other j l e)
               ∙ b .rest j (omega (arith, times-tail j k ks));
         })
-        (runAt address table (count S) k (fileAt address size table h pr fs k .bytes) p a report)
-        (turn-ran address size table h pr fs L k (at .0) (at .1) n ws u p a report (b .going) (b .steady) (omega (arith, at .1))
+        (runAt table k (fileAt setting size table h pr fs k .bytes) p a report)
+        (turn-ran setting size table h pr fs L k (at .0) (at .1) n ws u p a report (b .going) (b .steady) (omega (arith, at .1))
         (b .rest k (omega (arith, head-in k ks)))))
       where
         other : (j : ℕ) → 0 < times j ks → j ≡ k → ⊥
@@ -136,10 +141,10 @@ module _ (address size : ℕ) (table : List ℕ) (h pr : File) (fs : List File) 
         (ks : List ℕ) → Turns (count S) ks → (ws : List ℕ) (u : ℕ) (m : Mem) (p : Progress) (a report : List ℕ)
         → Before ks ws u m p a report
         → Ran size n (orderVerdict S fl ks) (Before [] (ws ++ orderWords S fl ks) (earlier u (firstUndefined S fl ks)) (run S ks m))
-        (runOrder address table (count S) os ks (left p a report))
+        (runOrder table os ks (left p a report))
     unfolding orderVerdict orderWords firstUndefined run runOrder
     order-ran [] o ws u m p a report b =
-        ran-passed size n passed (Before [] (ws ++ []) (earlier u 0) m) p a report refl (b .going .refusal) (b .steady .size-is)
+        ran-passed size n Passed (Before [] (ws ++ []) (earlier u 0) m) p a report refl (b .going .refusal) (b .steady .size-is)
         (going-length ws u n p report (b .going))
         record { going = rw (append-nil ws, earlier-none u) (b .going); memory = b .memory; steady = b .steady; rest = b .rest }
     order-ran (k ∷ ks) o ws u m p a report b =
@@ -149,24 +154,24 @@ module _ (address size : ℕ) (table : List ℕ) (h pr : File) (fs : List File) 
         ran-then size n (objectVerdict S k (getD fl k noFile)) (orderVerdict S fl ks)
         (Before ks (ws ++ x) (earlier u (pick y k 0)) (relocate S k m))
         (Before [] (ws ++ (x ++ orderWords S fl ks)) (earlier u (pick y k (firstUndefined S fl ks))) (run S ks (relocate S k m)))
-        (runOrder address table (count S) os ks)
+        (runOrder table os ks)
         (λ p′ a′ report′ b′.
         rw (← append-assoc ws x (orderWords S fl ks), ← mark-first y u k (firstUndefined S fl ks) (at .0))
         (order-ran ks (turns-tail (count S) k ks o) (ws ++ x) (earlier u (pick y k 0)) (relocate S k m) p′ a′ report′ b′))
-        (runAt address table (count S) k (getD os k noInput .file) p a report)
+        (runAt table k (getD os k noInput .file) p a report)
         (one-turn k ks o ws u m p a report b)
 
   pub relocated-is :
-      LoadedSet address size table h pr fs → (os : List Input)
-      → ((k : ℕ) → k < count S → getD os k noInput .file ≡ fileAt address size table h pr fs k .bytes)
+      LoadedSet setting size table h pr fs → (os : List Input)
+      → ((k : ℕ) → k < count S → getD os k noInput .file ≡ fileAt setting size table h pr fs k .bytes)
       → (order : List ℕ) → OnceEach (count S) order → (n : ℕ) (a report : List ℕ) → mem a ≡ placed S → length a ≡ size → report ≡ replicate n 0
-      → (p′ : Progress) (a′ report′ : List ℕ) → left p′ a′ report′ ≡ runOrder address table (count S) os order (left started a report)
+      → (p′ : Progress) (a′ report′ : List ℕ) → left p′ a′ report′ ≡ runOrder table os order (left started a report)
       → Ended order n p′ a′ report′
   unfolding bound
   relocated-is L os inputs order once n a report at len zeros p′ a′ report′ e =
       let small : count S ≤ 2 ^ 28 =
-      omega (arith, count-is address size h pr fs, few-files size fl 0 0 (omega arith) (L .loads), L .small) in
-      let placed-at = starts address size table h pr fs L a (λ _. 0) len (at ∙ placed-is address h pr fs) in
+      omega (arith, count-is setting size h pr fs, few-files size fl 0 0 (omega arith) (L .loads), L .small) in
+      let placed-at = starts setting size table h pr fs L a (λ _. 0) len (at ∙ placed-is setting h pr fs) in
       let turns = turns-of (count S) order (omega arith) once in
       let begins : Going [] 0 n started report =
       record {
@@ -184,7 +189,7 @@ module _ (address size : ℕ) (table : List ℕ) (h pr : File) (fs : List File) 
       record {
         going = begins;
         memory = at;
-        steady = placed-steady address size table h pr fs L a len placed-at;
+        steady = placed-steady setting size table h pr fs L a len placed-at;
         rest = λ j l. placed-at j (turns .among j l .1);
       }) in
       record {

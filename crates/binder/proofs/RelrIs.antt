@@ -22,20 +22,24 @@ use Rattle.object.specs.Entries.{relrAt, relrsFrom, relrOf, Location, none, wor
 use Rattle.object.specs.Record.{Record}
 use Rattle.object.specs.declared.relocate.Relr.{Relr}
 use Rattle.object.specs.declared.relocate.Relr.the-variants.{Address, Bitmap}
-use Rattle.scope.specs.declared.seats.Seat.{Seat}
+use Rattle.scope.specs.declared.links.Link.{Link}
 use Rattle.binder.specs.declared.turn.Turn.{Turn}
 use Rattle.binder.specs.declared.relr.Moved.{Moved}
 use Rattle.binder.specs.Instance.{File, fileImage, fileRecord, placesOf, namedWords}
-use Rattle.binder.specs.Verdict.{Verdict, passed, refused, first, verdict, wordRefusal, wordsVerdict}
-use Rattle.binder.specs.Steps.Relocating.{imageIn, far, cutTo32, Summed, summed, Shifted, shifted, wordAdded, addBits, bitsAdded, addRelr, thenRelr, addRelrs, turnOf}
+use Rattle.binder.specs.Setting.{Setting}
+use Rattle.binder.specs.Verdict.{first, verdict, wordRefusal, wordsVerdict}
+use Rattle.binder.specs.declared.Verdict.{Verdict}
+use Rattle.binder.specs.declared.Verdict.the-variants.{Passed, Refused}
+use Rattle.binder.specs.Steps.Relocating.{imageIn, far, cutTo32, Summed, summed, Shifted, shifted, wordAdded, addBits, bitsAdded, addRelr, thenRelr, addRelrs, summedIn, runRelrs, partOf, withPart, turnOf}
+use Rattle.binder.proofs.PartLaws.{with-same, part-with, with-again, word-added}
 use Rattle.binder.proofs.Steady as steady
 use Rattle.binder.proofs.SteadyLaws as laws
 
 -- ---- words one after another
 
 pub first-assoc : (u v w : Verdict) → first (first u v) w ≡ first u (first v w)
-first-assoc passed v w = refl
-first-assoc (refused n k) v w = refl
+first-assoc Passed v w = refl
+first-assoc (Refused n k) v w = refl
 
 verdict-append : (k : ℕ) (r : Record) (ws vs : List Word) → wordsVerdict k r (ws ++ vs) ≡ first (wordsVerdict k r ws) (wordsVerdict k r vs)
 unfolding wordsVerdict
@@ -76,21 +80,24 @@ abbrev Sits : Location → ℕ → Type 0
 Sits none l = l ≡ far
 Sits (word w) l = l ≡ min w far
 
-module _ (address size : ℕ) (table : List ℕ) (h p : File) (fs : List File) where
+module _ (setting : Setting) (size : ℕ) (table : List ℕ) (h p : File) (fs : List File) where
+  abbrev address : ℕ
+  address = setting .address
+
   abbrev S : Objs
-  S = steady.set address size table h p fs
+  S = steady.set setting size table h p fs
 
   abbrev file : ℕ → File
-  file k = steady.fileAt address size table h p fs k
+  file k = steady.fileAt setting size table h p fs k
 
   abbrev LoadedSet : Type 0
-  LoadedSet = steady.LoadedSet address size table h p fs
+  LoadedSet = steady.LoadedSet setting size table h p fs
 
   abbrev Steady : List ℕ → Type 0
-  Steady a = steady.Steady address size table h p fs a
+  Steady a = steady.Steady setting size table h p fs a
 
   abbrev Written : List ℕ → List ℕ → ℕ → Type 0
-  Written a b k = steady.Written address size table h p fs a b k
+  Written a b k = steady.Written setting size table h p fs a b k
 
   -- ---- writes one after another
 
@@ -152,7 +159,16 @@ module _ (address size : ℕ) (table : List ℕ) (h p : File) (fs : List File) w
     r = fileRecord (file k)
 
     abbrev t : Turn
-    t = turnOf address table k
+    t = turnOf table k
+
+    long : (a : List ℕ) → Steady a → t .offset ≤ length a
+    long a s =
+        let at = laws.lies setting size table h p fs L k member in
+        omega (arith, at .fits, ap (λ (x : Link). x .offset) (at .link), s .size-is)
+
+    -- the arena in which the word at `q` of the object gained the base
+    abbrev added : ℕ → List ℕ → List ℕ
+    added q a = withPart t a (wordAdded (t .base) q (partOf t a))
 
     -- ---- one word
 
@@ -163,8 +179,8 @@ module _ (address size : ℕ) (table : List ℕ) (h p : File) (fs : List File) w
         go : (b : Bool) → inWritable (r .segments) q 8 ≡ b → b ≡ false
         go false e = refl
         go true e =
-            let i = laws.writable-inside address size table h p fs k q 8 e in
-            let f = laws.lies address size table h p fs L k member .fits in
+            let i = laws.writable-inside setting size table h p fs k q 8 e in
+            let f = laws.lies setting size table h p fs L k member .fits in
             let s = L .small in
             absurd (omega arith)
 
@@ -194,15 +210,15 @@ module _ (address size : ℕ) (table : List ℕ) (h p : File) (fs : List File) w
     -- the code's word is the model's
     added-is :
         (q : ℕ) (a : List ℕ) → Steady a → inWritable (r .segments) q 8 ≡ true
-        → Written a (wordAdded t q a) k × (mem (wordAdded t q a) ≡ addWord (obj S k) q (mem a))
-    unfolding wordAdded addWord
+        → Written a (added q a) k × (mem (added q a) ≡ addWord (obj S k) q (mem a))
+    unfolding addWord
     added-is q a s e =
-        let at = laws.lies address size table h p fs L k member in
-        let offset-is : t .offset ≡ (obj S k) .offset = ap (λ (x : Seat). x .offset) (at .seat) in
+        let at = laws.lies setting size table h p fs L k member in
+        let offset-is : t .offset ≡ (obj S k) .offset = ap (λ (x : Link). x .offset) (at .link) in
         let g : ℕ → ℕ = byteOf (sum64 (leAt 8 (mem a) ((obj S k) .offset + q)) ((obj S k) .base)) in
-        rw (at .base, offset-is) (laws.write-steady address size table h p fs L a s k member q 8 e g)
+        rw (word-added t a (long a s) q, at .base, offset-is) (laws.write-steady setting size table h p fs L a s k member q 8 e g)
 
-    ran-word : (w : Word) (q : ℕ) (a : List ℕ) → Same w q → Steady a → inWritable (r .segments) q 8 ≡ true → Ran k (w ∷ []) 0 a (wordAdded t q a)
+    ran-word : (w : Word) (q : ℕ) (a : List ℕ) → Same w q → Steady a → inWritable (r .segments) q 8 ≡ true → Ran k (w ∷ []) 0 a (added q a)
     unfolding wordsVerdict verdict addWords placesOf require
     ran-word w q a same s e =
         let i = added-is q a s e in
@@ -222,19 +238,19 @@ module _ (address size : ℕ) (table : List ℕ) (h p : File) (fs : List File) w
 
     ran-bits :
         (location : Location) (l bitmap : ℕ) → Sits location l → (n j : ℕ) (q bits : ℕ) → q ≡ l + 8 * j → bits ≡ bitmap / 2 ^ j
-        → (a : List ℕ) → Steady a → (z : ℕ) (b : List ℕ) → summed z b ≡ addBits t (r .segments) n q bits a
-        → Ran k (bitWords location bitmap j n) z a b
+        → (a : List ℕ) → Steady a → (z : ℕ) (x : List ℕ) → summed z x ≡ addBits (t .base) (r .segments) n q bits (partOf t a)
+        → Ran k (bitWords location bitmap j n) z a (withPart t a x)
     unfolding addBits bitWords
-    ran-bits location l bitmap at zero j q bits eq eb a s z b e =
+    ran-bits location l bitmap at zero j q bits eq eb a s z x e =
         let ez : z ≡ 0 = cc in
-        let ea : b ≡ a = cc in
-        rw (ez, ea) (ran-none k a s)
-    ran-bits location l bitmap at (suc n) j q bits eq eb a s z b e =
+        let ea : x ≡ partOf t a = cc in
+        rw (ez, ea, with-same t a) (ran-none k a s)
+    ran-bits location l bitmap at (suc n) j q bits eq eb a s z x e =
         go (eqb (bitmap / 2 ^ j % 2) 1) (inWritable (r .segments) q 8) refl (rw eb at e)
-        (λ c sc ec. ran-bits location l bitmap at n (j + 1) (q + 8) (bitmap / 2 ^ j / 2) (omega arith) (bits-next bitmap j) c sc z b ec)
+        (λ c sc ec. ran-bits location l bitmap at n (j + 1) (q + 8) (bitmap / 2 ^ j / 2) (omega arith) (bits-next bitmap j) c sc z x ec)
       where
         next : List ℕ → Summed
-        next c = addBits t (r .segments) n (q + 8) (bitmap / 2 ^ j / 2) c
+        next y = addBits (t .base) (r .segments) n (q + 8) (bitmap / 2 ^ j / 2) y
 
         rest : List Word
         rest = bitWords location bitmap (j + 1) n
@@ -243,18 +259,20 @@ module _ (address size : ℕ) (table : List ℕ) (h p : File) (fs : List File) w
         same = rw eq (same-after location l j at)
 
         go :
-            (x y : Bool) → inWritable (r .segments) q 8 ≡ y
-            → summed z b ≡ pick x (pick y (next (wordAdded t q a)) (summed 17 a)) (next a)
-            → ((c : List ℕ) → Steady c → summed z b ≡ next c → Ran k rest z c b)
-            → Ran k (pick x (wordAfter location j ∷ []) [] ++ rest) z a b
+            (set may : Bool) → inWritable (r .segments) q 8 ≡ may
+            → summed z x ≡ pick set (pick may (next (wordAdded (t .base) q (partOf t a))) (summed 17 (partOf t a))) (next (partOf t a))
+            → ((c : List ℕ) → Steady c → summed z x ≡ next (partOf t c) → Ran k rest z c (withPart t c x))
+            → Ran k (pick set (wordAfter location j ∷ []) [] ++ rest) z a (withPart t a x)
         go true true ey e more =
             let u = ran-word (wordAfter location j) q a same s ey in
-            ran-then k (wordAfter location j ∷ []) rest z a (wordAdded t q a) b u (more (wordAdded t q a) (u .done refl .1 .steady) e)
+            ran-then k (wordAfter location j ∷ []) rest z a (added q a) (withPart t a x) u
+            (rw (with-again t a (long a s) (wordAdded (t .base) q (partOf t a)) x) at
+            (more (added q a) (u .done refl .1 .steady) (rw (part-with t a (long a s) (wordAdded (t .base) q (partOf t a))) e)))
         go true false ey e more =
             let ez : z ≡ 17 = cc in
-            let ea : b ≡ a = cc in
-            rw (ez, ea) (ran-stops k (wordAfter location j ∷ []) rest 17 a a (λ n. omega arith) (ran-refused (wordAfter location j) q a same s ey))
-        go false y ey e more = more a s e
+            let ea : x ≡ partOf t a = cc in
+            rw (ez, ea, with-same t a) (ran-stops k (wordAfter location j ∷ []) rest 17 a a (λ n. omega arith) (ran-refused (wordAfter location j) q a same s ey))
+        go false may ey e more = more a s e
 
     -- ---- an entry
 
@@ -267,33 +285,34 @@ module _ (address size : ℕ) (table : List ℕ) (h p : File) (fs : List File) w
     sits-moved (word w) l bitmap at = omega arith
 
     ran-entry :
-        (location : Location) (l : ℕ) → Sits location l → (x : Relr) (a : List ℕ) → Steady a → (m : Moved) (b : List ℕ)
-        → shifted m b ≡ addRelr t (r .segments) l x a
-        → RanEntry location x m a b
+        (location : Location) (l : ℕ) → Sits location l → (e : Relr) (a : List ℕ) → Steady a → (m : Moved) (x : List ℕ)
+        → shifted m x ≡ addRelr (t .base) (r .segments) l e (partOf t a)
+        → RanEntry location e m a (withPart t a x)
     unfolding addRelr
-    ran-entry location l at (Address q) a s m b e = go (inWritable (r .segments) q 8) refl e
+    ran-entry location l at (Address q) a s m x e = go (inWritable (r .segments) q 8) refl e
       where
         go :
             (y : Bool) → inWritable (r .segments) q 8 ≡ y
-            → shifted m b
-            ≡ pick y (shifted (record { refusal = 0; location = min (q + 8) far }) (wordAdded t q a)) (shifted (record { refusal = 17; location = l }) a)
-            → RanEntry location (Address q) m a b
+            → shifted m x
+            ≡ pick y (shifted (record { refusal = 0; location = min (q + 8) far }) (wordAdded (t .base) q (partOf t a)))
+            (shifted (record { refusal = 17; location = l }) (partOf t a))
+            → RanEntry location (Address q) m a (withPart t a x)
         go true ey e =
             let em : m ≡ record { refusal = 0; location = min (q + 8) far } = cc in
-            let eb : b ≡ wordAdded t q a = cc in
+            let eb : x ≡ wordAdded (t .base) q (partOf t a) = cc in
             rw (em, eb) (record { words = ran-word (place q) q a (same-place q) s ey; next = λ z. refl })
         go false ey e =
             let em : m ≡ record { refusal = 17; location = l } = cc in
-            let eb : b ≡ a = cc in
-            rw (em, eb) (record { words = ran-refused (place q) q a (same-place q) s ey; next = λ z. absurd (omega arith) })
-    ran-entry location l at (Bitmap bits) a s m b e = go (addBits t (r .segments) 63 l bits a) refl e
+            let eb : x ≡ partOf t a = cc in
+            rw (em, eb, with-same t a) (record { words = ran-refused (place q) q a (same-place q) s ey; next = λ z. absurd (omega arith) })
+    ran-entry location l at (Bitmap bits) a s m x e = go (addBits (t .base) (r .segments) 63 l bits (partOf t a)) refl e
       where
         go :
-            (v : Summed) → v ≡ addBits t (r .segments) 63 l bits a → shifted m b ≡ bitsAdded t (r .segments) l v
-            → RanEntry location (Bitmap bits) m a b
+            (v : Summed) → v ≡ addBits (t .base) (r .segments) 63 l bits (partOf t a) → shifted m x ≡ bitsAdded (t .base) (r .segments) l v
+            → RanEntry location (Bitmap bits) m a (withPart t a x)
         go (summed z c) ev e =
             let em : m ≡ record { refusal = z; location = min (l + 504) far } = cc in
-            let eb : b ≡ c = cc in
+            let eb : x ≡ c = cc in
             rw (em, eb)
             (record {
               words = ran-bits location l bits at 63 0 l bits (omega arith) (sym (div-one bits)) a s z c ev;
@@ -305,21 +324,21 @@ module _ (address size : ℕ) (table : List ℕ) (h p : File) (fs : List File) w
     -- entry `i` of the arena is that of the placed bytes
     entry-is : (a : List ℕ) → Steady a → (i : ℕ) → i < r .relrs → relrAt (imageIn a t) (r .relr) i ≡ relrAt (fileImage (file k)) (r .relr) i
     entry-is a s i l =
-        let e = laws.readings address size table h p fs L a s k member .relrs (L .others k low member) in
+        let e = laws.readings setting size table h p fs L a s k member .relrs (L .others k low member) in
         rw (zero-add i) at (relr-at (imageIn a t) (fileImage (file k)) (r .relr) 0 (r .relrs) e i l)
 
     ran-entries :
         (n i : ℕ) → i + n ≤ r .relrs → (location : Location) (l : ℕ) → Sits location l → (a : List ℕ) → Steady a
-        → (z : ℕ) (b : List ℕ) → summed z b ≡ addRelrs t r n i l a
-        → Ran k (relrWords location (relrsFrom (fileImage (file k)) (r .relr) i n)) z a b
+        → (z : ℕ) (y : List ℕ) → summed z y ≡ addRelrs t r n i l (partOf t a)
+        → Ran k (relrWords location (relrsFrom (fileImage (file k)) (r .relr) i n)) z a (withPart t a y)
     unfolding addRelrs relrWords relrsFrom
-    ran-entries zero i few location l at a s z b e =
+    ran-entries zero i few location l at a s z y e =
         let ez : z ≡ 0 = cc in
-        let ea : b ≡ a = cc in
-        rw (ez, ea) (ran-none k a s)
-    ran-entries (suc n) i few location l at a s z b e =
-        go (addRelr t (r .segments) l x a) refl (rw (entry-is a s i (omega arith)) at e)
-        (λ v lv at′ c sc ec. ran-entries n (i + 1) (omega arith) v lv at′ c sc z b ec)
+        let ea : y ≡ partOf t a = cc in
+        rw (ez, ea, with-same t a) (ran-none k a s)
+    ran-entries (suc n) i few location l at a s z y e =
+        go (addRelr (t .base) (r .segments) l x (partOf t a)) refl (rw (entry-is a s i (omega arith)) at e)
+        (λ v lv at′ c sc ec. ran-entries n (i + 1) (omega arith) v lv at′ c sc z y ec)
       where
         x : Relr
         x = relrOf (relrAt (fileImage (file k)) (r .relr) i)
@@ -328,35 +347,44 @@ module _ (address size : ℕ) (table : List ℕ) (h p : File) (fs : List File) w
         rest v = relrWords v (relrsFrom (fileImage (file k)) (r .relr) (i + 1) n)
 
         go :
-            (y : Shifted) → y ≡ addRelr t (r .segments) l x a → summed z b ≡ thenRelr (addRelrs t r n (i + 1)) y
-            → ((v : Location) (lv : ℕ) → Sits v lv → (c : List ℕ) → Steady c → summed z b ≡ addRelrs t r n (i + 1) lv c → Ran k (rest v) z c b)
-            → Ran k (relrEntryWords location x ++ rest (nextLocation location x)) z a b
+            (w : Shifted) → w ≡ addRelr (t .base) (r .segments) l x (partOf t a) → summed z y ≡ thenRelr (addRelrs t r n (i + 1)) w
+            → ((v : Location) (lv : ℕ) → Sits v lv → (c : List ℕ) → Steady c → summed z y ≡ addRelrs t r n (i + 1) lv (partOf t c) → Ran k (rest v) z c (withPart t c y))
+            → Ran k (relrEntryWords location x ++ rest (nextLocation location x)) z a (withPart t a y)
         go (shifted m c) ey e more = ends (eqb (m .refusal) 0) refl e
           where
-            here : RanEntry location x m a c
+            here : RanEntry location x m a (withPart t a c)
             here = ran-entry location l at x a s m c ey
 
             ends :
-                (d : Bool) → eqb (m .refusal) 0 ≡ d → summed z b ≡ pick d (addRelrs t r n (i + 1) (m .location) c) (summed (m .refusal) c)
-                → Ran k (relrEntryWords location x ++ rest (nextLocation location x)) z a b
+                (d : Bool) → eqb (m .refusal) 0 ≡ d → summed z y ≡ pick d (addRelrs t r n (i + 1) (m .location) c) (summed (m .refusal) c)
+                → Ran k (relrEntryWords location x ++ rest (nextLocation location x)) z a (withPart t a y)
             ends true ed e =
                 let ez : m .refusal ≡ 0 = eqb-true _ _ ed in
-                let u : Ran k (relrEntryWords location x) 0 a c = rw ez at (here .words) in
-                ran-then k (relrEntryWords location x) (rest (nextLocation location x)) z a c b u
-                (more (nextLocation location x) (m .location) (here .next ez) c (u .done refl .1 .steady) e)
+                let u : Ran k (relrEntryWords location x) 0 a (withPart t a c) = rw ez at (here .words) in
+                ran-then k (relrEntryWords location x) (rest (nextLocation location x)) z a (withPart t a c) (withPart t a y) u
+                (rw (with-again t a (long a s) c y) at
+                (more (nextLocation location x) (m .location) (here .next ez) (withPart t a c) (u .done refl .1 .steady) (rw (part-with t a (long a s) c) e)))
             ends false ed e =
                 let ez : z ≡ m .refusal = cc in
-                let eb : b ≡ c = cc in
+                let eb : y ≡ c = cc in
                 rw (ez, eb)
-                (ran-stops k (relrEntryWords location x) (rest (nextLocation location x)) (m .refusal) a c (eqb-false _ _ ed) (here .words))
+                (ran-stops k (relrEntryWords location x) (rest (nextLocation location x)) (m .refusal) a (withPart t a c) (eqb-false _ _ ed) (here .words))
 
   pub relr-is :
       LoadedSet → (k : ℕ) → 1 ≤ k → k < count S → (a : List ℕ) → Steady a → (z : ℕ) (a′ : List ℕ)
-      → summed z a′ ≡ addRelrs (turnOf address table k) (fileRecord (file k)) (cutTo32 (fileRecord (file k) .relrs)) 0 far a
+      → summed z a′ ≡ runRelrs (turnOf table k) (fileRecord (file k)) a
       → RelrEnded k z a a′
-  unfolding namedWords
-  relr-is L k low member a s z a′ e =
-      let few = laws.counts address size table h p fs L k low member .2 in
-      let n : cutTo32 (fileRecord (file k) .relrs) ≡ fileRecord (file k) .relrs = omega arith in
-      let u = ran-entries L k low member (fileRecord (file k) .relrs) 0 (omega arith) none far refl a s z a′ (rw n at e) in
-      record { verdict-is = u .verdict-is; done = u .done; length-is = u .length-is }
+  unfolding namedWords runRelrs
+  relr-is L k low member a s z a′ e = go (addRelrs (turnOf table k) (fileRecord (file k)) (fileRecord (file k) .relrs) 0 far (partOf (turnOf table k) a)) refl (rw n at e)
+    where
+      n : cutTo32 (fileRecord (file k) .relrs) ≡ fileRecord (file k) .relrs
+      n = omega (arith, laws.counts setting size table h p fs L k low member .2)
+
+      go :
+          (v : Summed) → v ≡ addRelrs (turnOf table k) (fileRecord (file k)) (fileRecord (file k) .relrs) 0 far (partOf (turnOf table k) a) → summed z a′ ≡ summedIn (turnOf table k) a v
+          → RelrEnded k z a a′
+      go (summed z′ x) ev e =
+          let ez : z ≡ z′ = cc in
+          let ea : a′ ≡ withPart (turnOf table k) a x = cc in
+          let u = ran-entries L k low member (fileRecord (file k) .relrs) 0 (omega arith) none far refl a s z′ x ev in
+          rw (ez, ea) (record { verdict-is = u .verdict-is; done = u .done; length-is = u .length-is })

@@ -10,6 +10,7 @@ use borrow.Author.Tests.{eqb-true, ne-eqb, lt-ltb, le-ltb}
 use lib.Dec.{eqb, ltb}
 use lib.ListN.{length, set, take, replicate, length-append, length-replicate}
 use lib.Seq.{length-take-le, take-append-le}
+use Rattle.words.proofs.Slices.{take-zeros}
 use Rattle.words.specs.Choice.{pick, either}
 use Rattle.model.proofs.OrderLaws.{decide}
 use Rattle.object.specs.Symbol.{bindingOf}
@@ -43,11 +44,6 @@ pub fill-length : (n : ℕ) (ws : List ℕ) → length (fillOf n ws) ≡ n
 unfolding fillOf
 fill-length n ws =
     length-take-le n (ws ++ replicate n 0) (omega (arith, length-append ws (replicate n 0), length-replicate {A = ℕ} n 0))
-
-take-zeros : (n m : ℕ) → n ≤ m → take {A = ℕ} n (replicate m 0) ≡ replicate n 0
-take-zeros zero m h = refl
-take-zeros (suc n) zero h = absurd (omega arith)
-take-zeros (suc n) (suc m) h = ap (λ (l : List ℕ). 0 ∷ l) (take-zeros n m (omega arith))
 
 pub fill-none : (n : ℕ) → replicate n 0 ≡ fillOf n []
 unfolding fillOf

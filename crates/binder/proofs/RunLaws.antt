@@ -2,8 +2,8 @@
 -- and of an object; and what an object's turn comes to once its record is read again. Assumes nothing.
 use mathlib.Core.Bool.{Bool, true, false}
 use mathlib.Core.List.{List}
-use mathlib.Core.Path.{_≡_, sym, _∙_}
-use Prim.Native.Nat.{ℕ, suc, _+_, _-_, _%_, _^_, _≤_, _<_}
+use mathlib.Core.Path.{_≡_, sym, ap, _∙_}
+use Prim.Native.Nat.{ℕ, suc, _+_, _-_, _%_, _^_, _≤_, _<_, min}
 use native.Mathlib.Omega.{arith}
 use native.Mathlib.Numerals.{add-one}
 use borrow.Author.Tests.{eq-eqb, ne-eqb, le-leb, lt-leb}
@@ -26,52 +26,67 @@ use Rattle.object.specs.declared.dynamic_fields.Read.{Read}
 use Rattle.object.specs.declared.relocate.Rela.{Rela}
 use Rattle.sheet.specs.Sheet.{Input, noInput}
 use Rattle.binder.specs.declared.report.Progress.{Progress}
-use Rattle.scope.specs.declared.scope.Scoped.{Scoped}
+use Rattle.object.specs.declared.hash_tables.Definition.{Definition}
+use Rattle.scope.specs.Steps.Links.{linkAt}
+use Rattle.scope.specs.declared.links.Link.{Link}
+use Rattle.scope.specs.declared.scope.Resolved.{Resolved}
+use Rattle.scope.specs.declared.scope.Resolved.the-variants.{Absent, Found}
 use Rattle.binder.specs.declared.turn.Turn.{Turn}
-use Rattle.binder.specs.Steps.Relocating.{Left, left, noted, summed, unlessRefused, refusedBy, imageIn, turnOf, againRefusal, againRecord, symbolRefusal, soughtFor, soughtForCopy, keeps, writtenBytes, writeFound, copyOf, answeredOf, symbolicOf, copyingOf, runAction, runTable, far, cutTo32, reportSum, noteOf, addRelrs, runTables, runObject, runAt, runOrder}
+use Rattle.binder.specs.Steps.Relocating.{Left, left, wrote, noted, withArena, withReport, unresolvedOf, copyBytes, summed, unlessRefused, refusedBy, imageIn, turnOf, againRefusal, againRecord, symbolRefusal, soughtFor, soughtForCopy, keeps, writtenBytes, writeFound, copyOf, answeredOf, symbolicOf, copyingOf, runAction, runTable, cutTo32, reportSum, noteOf, runRelrs, runTables, runObject, runAt, runOrder}
 
 -- ---- the entries of a symbol
 
-module _ (address : ℕ) (table : List ℕ) (count : ℕ) (t : Turn) (r : Record) (e : Rela) (i : ℕ) (p : Progress) (a report : List ℕ) {x : CheckedSymbol}
+module _ (table : List ℕ) (t : Turn) (r : Record) (e : Rela) (i : ℕ) (p : Progress) (a report : List ℕ) {x : CheckedSymbol}
     (hx : x ≡ checkedSymbol (imageIn a t) r (e .symbol)) where
   module _ {n z : ℕ} {q : Progress} (hn : x ≡ Refused n) (hz : z ≡ symbolRefusal x) (hq : q ≡ refusedBy t z p) where
-    pub symbolic-refused : (f : Calculation) → left q a report ≡ symbolicOf address table count t r e f i (checkedSymbol (imageIn a t) r (e .symbol)) p a report
+    pub symbolic-refused : (f : Calculation) → left q a report ≡ symbolicOf table t r e f i (checkedSymbol (imageIn a t) r (e .symbol)) p a report
     unfolding symbolicOf
     symbolic-refused f = rw (hq, hz, ← hx, hn)
 
-    pub copying-refused : left q a report ≡ copyingOf address table count t r e i (checkedSymbol (imageIn a t) r (e .symbol)) p a report
+    pub copying-refused : left q a report ≡ copyingOf table t r e i (checkedSymbol (imageIn a t) r (e .symbol)) p a report
     unfolding copyingOf
     copying-refused = rw (hq, hz, ← hx, hn)
 
   module _ {y : Symbol} {segments : List Segment} (hy : x ≡ Checked y) (hs : segments ≡ r .segments) where
     -- the word is not inside a writable segment
-    pub symbolic-outside : (f : Calculation) {q : Progress} {b : Bool} → b ≡ inWritable segments (e .place) (f .width) → b ≡ false → q ≡ refusedBy t 17 p → left q a report ≡ symbolicOf address table count t r e f i (checkedSymbol (imageIn a t) r (e .symbol)) p a report
+    pub symbolic-outside : (f : Calculation) {q : Progress} {b : Bool} → b ≡ inWritable segments (e .place) (f .width) → b ≡ false → q ≡ refusedBy t 17 p → left q a report ≡ symbolicOf table t r e f i (checkedSymbol (imageIn a t) r (e .symbol)) p a report
     unfolding symbolicOf
     symbolic-outside f hb so hq = rw (hq, ← hx, hy, ← hs, ← hb, so)
 
     -- it is: the kept answer is the symbol's, or it is not
-    pub symbolic-kept : (f : Calculation) {b : Bool} {out : Left} → b ≡ inWritable segments (e .place) (f .width) → b ≡ true → p .last ≡ e .symbol + 1 → out ≡ left p (patch a (t .offset + e .place) (f .width) (writtenBytes t e f (p .address))) report → out ≡ symbolicOf address table count t r e f i (checkedSymbol (imageIn a t) r (e .symbol)) p a report
+    pub symbolic-kept : (f : Calculation) {b : Bool} {out : Left} → b ≡ inWritable segments (e .place) (f .width) → b ≡ true → p .last ≡ e .symbol + 1 → out ≡ left p (patch a (t .offset + e .place) (f .width) (writtenBytes t e f (p .address))) report → out ≡ symbolicOf table t r e f i (checkedSymbol (imageIn a t) r (e .symbol)) p a report
     unfolding symbolicOf answeredOf
     symbolic-kept f hb so same run = rw (← hx, hy, ← hs, ← hb, so, eq-eqb _ _ same) run
 
-    pub symbolic-inside : (f : Calculation) {b : Bool} {s : Scoped} {out : Left} → b ≡ inWritable segments (e .place) (f .width) → b ≡ true → (p .last ≡ e .symbol + 1 → ⊥) → s ≡ soughtFor address table count t a (nameOf (imageIn a t) r y) → out ≡ writeFound t e f i y s p a report → out ≡ symbolicOf address table count t r e f i (checkedSymbol (imageIn a t) r (e .symbol)) p a report
+    pub symbolic-inside : (f : Calculation) {b : Bool} {s : Resolved} {out : Left} → b ≡ inWritable segments (e .place) (f .width) → b ≡ true → (p .last ≡ e .symbol + 1 → ⊥) → s ≡ soughtFor table t a (nameOf (imageIn a t) r y) → out ≡ writeFound t e f i y s p a report → out ≡ symbolicOf table t r e f i (checkedSymbol (imageIn a t) r (e .symbol)) p a report
     unfolding symbolicOf answeredOf
     symbolic-inside f hb so other hf run = rw (← hx, hy, ← hs, ← hb, so, ne-eqb _ _ other, ← hf) run
 
-    pub copying-sought : {s : Scoped} {out : Left} → s ≡ soughtForCopy address table count a (nameOf (imageIn a t) r y) → out ≡ copyOf table t segments e i y s p a report → out ≡ copyingOf address table count t r e i (checkedSymbol (imageIn a t) r (e .symbol)) p a report
+    pub copying-sought : {s : Resolved} {out : Left} → s ≡ soughtForCopy table a (nameOf (imageIn a t) r y) → out ≡ copyOf table t segments e i y s p a report → out ≡ copyingOf table t r e i (checkedSymbol (imageIn a t) r (e .symbol)) p a report
     unfolding copyingOf
     copying-sought hf run = rw (← hx, hy, ← hs, ← hf) run
 
+-- ---- COPY, by what was found
+
+module _ (table : List ℕ) (t : Turn) (segments : List Segment) (e : Rela) (i : ℕ) (y : Symbol) {s : Resolved} (p : Progress) (a report : List ℕ) where
+  pub copy-absent : {q : Progress} {marks : List ℕ} → s ≡ Absent → noted q marks ≡ unresolvedOf y (t .number) i p report → left q a marks ≡ copyOf table t segments e i y s p a report
+  unfolding copyOf
+  copy-absent is g = rw is (ap (withArena a) g)
+
+  pub copy-there : {q : Progress} {b : List ℕ} {n : ℕ} {at : Link} (k : ℕ) (d : Definition) (x : ℕ) → s ≡ Found k d x → n ≡ min (y .size) (d .size) → at ≡ linkAt table k → wrote q b ≡ copyBytes t segments (e .place) at d n p a → left q b report ≡ copyOf table t segments e i y s p a report
+  unfolding copyOf
+  copy-there k d x is z l g = rw (is, ← z, ← l) (ap (withReport report) g)
+
 -- ---- the entries of a table
 
-module _ (address : ℕ) (table : List ℕ) (count : ℕ) (t : Turn) (r : Record) (at first : ℕ) where
+module _ (table : List ℕ) (t : Turn) (r : Record) (at first : ℕ) where
   -- what is left of a table of `n` entries from entry `i` on
   abbrev pub entriesLeft : ℕ → ℕ → Left → Left
-  entriesLeft n i st = runTable address table count t r at first (n - i) i st
+  entriesLeft n i st = runTable table t r at first (n - i) i st
 
   module _ (n i : ℕ) (p : Progress) (a report : List ℕ) {q : Progress} {b noted : List ℕ} {e : Rela} {act : Row} {number : ℕ} (some : i < n)
       (he : e ≡ relaAt (imageIn a t) at i) (ha : act ≡ rowOf (e .rtype)) (hn : number ≡ (first + i) % 2 ^ 32)
-      (run : left q b noted ≡ runAction address table count t r number e act p a report) {end : Left} (all : entriesLeft n i (left p a report) ≡ end) where
+      (run : left q b noted ≡ runAction table t r number e act p a report) {end : Left} (all : entriesLeft n i (left p a report) ≡ end) where
     entry-step : entriesLeft n i (left p a report) ≡ unlessRefused (entriesLeft n (i + 1)) (left q b noted)
     unfolding runTable
     entry-step =
@@ -94,37 +109,37 @@ module _ (address : ℕ) (table : List ℕ) (count : ℕ) (t : Turn) (r : Record
 
 -- ---- an object
 
-module _ (address : ℕ) (table : List ℕ) (count : ℕ) (t : Turn) (r : Record) (p : Progress) (a report : List ℕ) {q : Progress} {b marks : List ℕ} where
+module _ (table : List ℕ) (t : Turn) (r : Record) (p : Progress) (a report : List ℕ) {q : Progress} {b marks : List ℕ} where
   -- RELA, then PLT
-  module _ {n : ℕ} (hn : n ≡ cutTo32 (r .relas)) (run : left q b marks ≡ runTable address table count t r (r .rela) 0 n 0 (left p a report)) where
-    pub tables-stop : (q .refusal ≡ 0 → ⊥) → left q b marks ≡ runTables address table count t r (left p a report)
+  module _ {n : ℕ} (hn : n ≡ cutTo32 (r .relas)) (run : left q b marks ≡ runTable table t r (r .rela) 0 n 0 (left p a report)) where
+    pub tables-stop : (q .refusal ≡ 0 → ⊥) → left q b marks ≡ runTables table t r (left p a report)
     unfolding runTables
     tables-stop h = rw (← hn, ← run, ne-eqb _ _ h)
 
-    pub tables-go : {m : ℕ} {out : Left} → q .refusal ≡ 0 → m ≡ cutTo32 (r .plts) → out ≡ runTable address table count t r (r .plt) n m 0 (left q b marks) → out ≡ runTables address table count t r (left p a report)
+    pub tables-go : {m : ℕ} {out : Left} → q .refusal ≡ 0 → m ≡ cutTo32 (r .plts) → out ≡ runTable table t r (r .plt) n m 0 (left q b marks) → out ≡ runTables table t r (left p a report)
     unfolding runTables
     tables-go h hm next = rw (← hn, ← run, eq-eqb _ _ h, ← hm) next
 
   -- the report word and RELR, then the tables
-  module _ {w z : ℕ} {fresh : Progress} (hf : fresh ≡ keeps 0 0 p) (hw : w ≡ reportSum 5 (t .number)) (hq : noted q marks ≡ noteOf w fresh report) (hz : summed z b ≡ addRelrs t r (cutTo32 (r .relrs)) 0 far a) where
-    pub relr-stops : {q′ : Progress} → (z ≡ 0 → ⊥) → q′ ≡ refusedBy t z q → left q′ b marks ≡ runObject address table count t r p a report
+  module _ {w z : ℕ} {fresh : Progress} (hf : fresh ≡ keeps 0 0 p) (hw : w ≡ reportSum 5 (t .number)) (hq : noted q marks ≡ noteOf w fresh report) (hz : summed z b ≡ runRelrs t r a) where
+    pub relr-stops : {q′ : Progress} → (z ≡ 0 → ⊥) → q′ ≡ refusedBy t z q → left q′ b marks ≡ runObject table t r p a report
     unfolding runObject
     relr-stops h hr = rw (hr, ← hf, ← hw, ← hq, ← hz, ne-eqb _ _ h)
 
-    pub relr-goes : {out : Left} → z ≡ 0 → out ≡ runTables address table count t r (left q b marks) → out ≡ runObject address table count t r p a report
+    pub relr-goes : {out : Left} → z ≡ 0 → out ≡ runTables table t r (left q b marks) → out ≡ runObject table t r p a report
     unfolding runObject
     relr-goes h next = rw (← hf, ← hw, ← hq, ← hz, eq-eqb _ _ h) next
 
 -- ---- the objects of an order
 
-module _ (address : ℕ) (table : List ℕ) (count : ℕ) (os : List Input) (list : List ℕ) where
+module _ (table : List ℕ) (os : List Input) (list : List ℕ) where
   -- what is left of the first `n` of a list from object `i` of it on
   abbrev pub objectsLeft : ℕ → ℕ → Left → Left
-  objectsLeft n i st = runOrder address table count os (drop i (take n list)) st
+  objectsLeft n i st = runOrder table os (drop i (take n list)) st
 
   module _ (n i : ℕ) (p : Progress) (a report : List ℕ) {q : Progress} {b noted : List ℕ} {k : ℕ} {file : List ℕ} (room : n ≤ length list) (some : i < n)
       (hk : k ≡ getD list i 0) (hf : file ≡ getD os k noInput .file)
-      (run : left q b noted ≡ runAt address table count k file p a report) {end : Left} (all : objectsLeft n i (left p a report) ≡ end) where
+      (run : left q b noted ≡ runAt table k file p a report) {end : Left} (all : objectsLeft n i (left p a report) ≡ end) where
     object-step : objectsLeft n i (left p a report) ≡ unlessRefused (objectsLeft n (i + 1)) (left q b noted)
     unfolding runOrder
     object-step =
@@ -167,11 +182,11 @@ module _ (image file : List ℕ) (l : Loads) (loaded : SegmentsIn (loadsOf file)
     pub again-record : r .refusal ≡ 0 → heldBy (r .object) ≡ againRecord image file
     again-record z = rw (← found, ← loaded .list few-loads) (read .object z)
 
-module _ (address : ℕ) (table : List ℕ) (count k : ℕ) (file : List ℕ) (p : Progress) (a report : List ℕ) where
-  pub turn-stops : {t : Turn} {n : ℕ} → t ≡ turnOf address table k → againRefusal (imageIn a t) file ≡ n → (n ≡ 0 → ⊥) → left (refusedBy t n p) a report ≡ runAt address table count k file p a report
+module _ (table : List ℕ) (k : ℕ) (file : List ℕ) (p : Progress) (a report : List ℕ) where
+  pub turn-stops : {t : Turn} {n : ℕ} → t ≡ turnOf table k → againRefusal (imageIn a t) file ≡ n → (n ≡ 0 → ⊥) → left (refusedBy t n p) a report ≡ runAt table k file p a report
   unfolding runAt
   turn-stops e h ne = rw (e, rw e at h, ne-eqb _ _ ne)
 
-  pub turn-goes : {t : Turn} {r : Record} {out : Left} → t ≡ turnOf address table k → againRefusal (imageIn a t) file ≡ 0 → r ≡ againRecord (imageIn a t) file → out ≡ runObject address table count t r p a report → out ≡ runAt address table count k file p a report
+  pub turn-goes : {t : Turn} {r : Record} {out : Left} → t ≡ turnOf table k → againRefusal (imageIn a t) file ≡ 0 → r ≡ againRecord (imageIn a t) file → out ≡ runObject table t r p a report → out ≡ runAt table k file p a report
   unfolding runAt
   turn-goes e h hr run = rw (rw e at h) (rw (e, rw e at hr) at run)

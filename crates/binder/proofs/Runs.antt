@@ -7,7 +7,9 @@ use borrow.Author.Tests.{eq-eqb, ne-eqb}
 use lib.Dec.{eqb}
 use lib.ListN.{length}
 use Rattle.words.specs.Choice.{pick}
-use Rattle.binder.specs.Verdict.{Verdict, passed, refused, first, verdict}
+use Rattle.binder.specs.Verdict.{first, verdict}
+use Rattle.binder.specs.declared.Verdict.{Verdict}
+use Rattle.binder.specs.declared.Verdict.the-variants.{Passed, Refused}
 use Rattle.binder.specs.Steps.Relocating.{Left, left, unlessRefused}
 use Rattle.binder.specs.declared.report.Progress.{Progress}
 use Rattle.binder.proofs.OutcomeLaws.{refused-not, verdict-passed}
@@ -15,10 +17,10 @@ use Rattle.binder.proofs.OutcomeLaws.{refused-not, verdict-passed}
 -- ---- the first of two refusals
 
 pub first-assoc : (u v w : Verdict) → first (first u v) w ≡ first u (first v w)
-first-assoc passed v w = refl
-first-assoc (refused n k) v w = refl
+first-assoc Passed v w = refl
+first-assoc (Refused n k) v w = refl
 
-pub verdict-none : (n k : ℕ) → n ≡ 0 → verdict n k ≡ passed
+pub verdict-none : (n k : ℕ) → n ≡ 0 → verdict n k ≡ Passed
 unfolding verdict
 verdict-none n k e = rw (eq-eqb n 0 e)
 
@@ -27,11 +29,11 @@ pub first-met : (n k : ℕ) (v : Verdict) → (n ≡ 0 → ⊥) → first (verdi
 unfolding verdict
 first-met n k v ne = rw (ne-eqb n 0 ne)
 
-picked : (t : Bool) (x o z k : ℕ) → pick t passed (refused x o) ≡ refused z k → t ≡ false
+picked : (t : Bool) (x o z k : ℕ) → pick t Passed (Refused x o) ≡ Refused z k → t ≡ false
 picked true x o z k e = refused-not z k (sym e)
 picked false x o z k e = refl
 
-met : (x o z k : ℕ) → verdict x o ≡ refused z k → eqb x 0 ≡ false
+met : (x o z k : ℕ) → verdict x o ≡ Refused z k → eqb x 0 ≡ false
 unfolding verdict
 met x o z k e = picked (eqb x 0) x o z k e
 
@@ -43,7 +45,7 @@ module _ (size n : ℕ) where
     pub verdict-is : verdict (p .refusal) (p .object) ≡ v
     pub arena-length : length a ≡ size
     pub report-length : length report ≡ n
-    pub done : v ≡ passed → D p a report
+    pub done : v ≡ Passed → D p a report
 
   abbrev pub Ran : Verdict → (Progress → List ℕ → List ℕ → Type 0) → Left → Type 0
   Ran v D (left p a report) = RanTo v D p a report
@@ -62,7 +64,7 @@ module _ (size n : ℕ) where
 
   -- none
   pub ran-passed :
-      (v : Verdict) (D : Progress → List ℕ → List ℕ → Type 0) (p : Progress) (a report : List ℕ) → v ≡ passed
+      (v : Verdict) (D : Progress → List ℕ → List ℕ → Type 0) (p : Progress) (a report : List ℕ) → v ≡ Passed
       → p .refusal ≡ 0 → length a ≡ size → length report ≡ n → D p a report → Ran v D (left p a report)
   ran-passed v D p a report e z la lr d =
       record {
@@ -89,9 +91,9 @@ module _ (size n : ℕ) where
       (v w : Verdict) (D E : Progress → List ℕ → List ℕ → Type 0) (next : Left → Left)
       → ((p : Progress) (a report : List ℕ) → D p a report → Ran w E (next (left p a report)))
       → (st : Left) → Ran v D st → Ran (first v w) E (unlessRefused next st)
-  ran-then passed w D E next f (left p a report) r =
+  ran-then Passed w D E next f (left p a report) r =
       rw (eq-eqb (p .refusal) 0 (verdict-passed (p .refusal) (p .object) (r .verdict-is))) (f p a report (r .done refl))
-  ran-then (refused z k) w D E next f (left p a report) r = rw (met (p .refusal) (p .object) z k (r .verdict-is))
+  ran-then (Refused z k) w D E next f (left p a report) r = rw (met (p .refusal) (p .object) z k (r .verdict-is))
       record {
         verdict-is = r .verdict-is;
         arena-length = r .arena-length;

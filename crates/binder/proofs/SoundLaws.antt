@@ -23,8 +23,10 @@ use Rattle.object.specs.Loaded.{objectRefusal}
 use Rattle.object.specs.Loaded as loading
 use Rattle.object.proofs.RefusalLaws.{after-zero}
 use Rattle.object.proofs.LoadedLaws.{place-fits}
+use Rattle.binder.specs.Setting.{Setting}
 use Rattle.binder.specs.Instance.{File, fileImage, fileRecord, placesOf, namedWords, relasOf, entryOf, objectAt}
-use Rattle.binder.specs.Verdict.{passed, verdict, noFile, wordsVerdict, entriesVerdict, objectVerdict, orderVerdict}
+use Rattle.binder.specs.Verdict.{verdict, noFile, wordsVerdict, entriesVerdict, objectVerdict, orderVerdict}
+use Rattle.binder.specs.declared.Verdict.the-variants.{Passed}
 use Rattle.binder.specs.Steps.Prepared.{loadFrom}
 use Rattle.binder.proofs.OutcomeLaws.{first-passed, verdict-passed}
 use Rattle.binder.proofs.InsideLaws.{writable-inside, words-inside, entries-inside}
@@ -37,15 +39,15 @@ unfolding loading.objectRefusal
 load-fits f room e = place-fits (f .host) (f .bytes) room (after-zero (placeRefusal (f .host) room (f .bytes)) _ e .0)
 
 -- `o` is the object of the file `f` at an offset, and ends within the arena
-record Stands (address size : ℕ) (f : File) (o : Obj) : Type 0 where
+record Stands (setting : Setting) (size : ℕ) (f : File) (o : Obj) : Type 0 where
   off : ℕ
-  is : o ≡ objectAt address f off
+  is : o ≡ objectAt setting f off
   fits : off + objectSpan (f .host) (f .bytes) ≤ size
 
-module _ (address size : ℕ) where
+module _ (setting : Setting) (size : ℕ) where
   stands :
-      (files : List File) (n off k : ℕ) (d : Obj) → off ≤ size → loadFrom size n off files ≡ passed → k < length files
-      → Stands address size (getD files k noFile) (getD (layout (objectAt address) files off) k d)
+      (files : List File) (n off k : ℕ) (d : Obj) → off ≤ size → loadFrom size n off files ≡ Passed → k < length files
+      → Stands setting size (getD files k noFile) (getD (layout (objectAt setting) files off) k d)
   unfolding loadFrom layouts.layout objectAt
   stands [] n off k d l v h = absurd (omega arith)
   stands (f ∷ fs) n off zero d l v h =
@@ -57,25 +59,25 @@ module _ (address size : ℕ) where
       let b = load-fits f (size - off) (verdict-passed (objectRefusal (f .host) (size - off) (f .bytes)) n (a .0)) in
       stands fs (n + 1) (off + objectSpan (f .host) (f .bytes)) k d (omega arith) (a .1) (omega arith)
 
-  layout-length : (files : List File) (off : ℕ) → length (layout (objectAt address) files off) ≡ length files
+  layout-length : (files : List File) (off : ℕ) → length (layout (objectAt setting) files off) ≡ length files
   unfolding layouts.layout
   layout-length [] off = refl
   layout-length (f ∷ fs) off = ap suc (layout-length fs _)
 
-  pub count-is : (h p : File) (fs : List File) → count (objsOf (objectAt address) h p fs) ≡ length fs + 2
+  pub count-is : (h p : File) (fs : List File) → count (objsOf (objectAt setting) h p fs) ≡ length fs + 2
   unfolding layouts.objsOf
-  count-is h p fs = omega (arith, layout-length fs (layouts.nextFree (objectAt address) p (layouts.nextFree (objectAt address) h 0)))
+  count-is h p fs = omega (arith, layout-length fs (layouts.nextFree (objectAt setting) p (layouts.nextFree (objectAt setting) h 0)))
 
   object-is :
-      (h p : File) (fs : List File) → loadFrom size 0 0 (h ∷ (p ∷ fs)) ≡ passed → (k : ℕ) → k < count (objsOf (objectAt address) h p fs)
-      → Stands address size (getD (h ∷ (p ∷ fs)) k noFile) (obj (objsOf (objectAt address) h p fs) k)
+      (h p : File) (fs : List File) → loadFrom size 0 0 (h ∷ (p ∷ fs)) ≡ Passed → (k : ℕ) → k < count (objsOf (objectAt setting) h p fs)
+      → Stands setting size (getD (h ∷ (p ∷ fs)) k noFile) (obj (objsOf (objectAt setting) h p fs) k)
   unfolding layouts.objsOf layouts.layout
   object-is h p fs v k l =
-      stands (h ∷ (p ∷ fs)) 0 0 k (objectAt address h 0) (omega arith) v (omega (arith, layout-length (h ∷ (p ∷ fs)) 0))
+      stands (h ∷ (p ∷ fs)) 0 0 k (objectAt setting h 0) (omega arith) v (omega (arith, layout-length (h ∷ (p ∷ fs)) 0))
 
   -- the objects fit the arena
   pub set-fits :
-      (h p : File) (fs : List File) → loadFrom size 0 0 (h ∷ (p ∷ fs)) ≡ passed → Fits (objsOf (objectAt address) h p fs) size
+      (h p : File) (fs : List File) → loadFrom size 0 0 (h ∷ (p ∷ fs)) ≡ Passed → Fits (objsOf (objectAt setting) h p fs) size
   unfolding objectAt
   set-fits h p fs v k l =
       let s = object-is h p fs v k l in
@@ -86,14 +88,14 @@ module _ (address size : ℕ) where
 -- ---- every object of the order is checked
 
 order-checked :
-    (S : Objs) (files : List File) (order : List ℕ) → orderVerdict S files order ≡ passed → (k : ℕ) → 0 < times k order
-    → objectVerdict S k (getD files k noFile) ≡ passed
+    (S : Objs) (files : List File) (order : List ℕ) → orderVerdict S files order ≡ Passed → (k : ℕ) → 0 < times k order
+    → objectVerdict S k (getD files k noFile) ≡ Passed
 unfolding orderVerdict
 order-checked S files [] v k h = absurd (omega arith)
 order-checked S files (j ∷ js) v k h =
     let a = first-passed (objectVerdict S j (getD files j noFile)) (orderVerdict S files js) v in
     ⊎-elim
-    (λ (t : eqb j k ≡ true). subst (λ (i : ℕ). objectVerdict S i (getD files i noFile) ≡ passed) (eqb-true j k t) (a .0))
+    (λ (t : eqb j k ≡ true). subst (λ (i : ℕ). objectVerdict S i (getD files i noFile) ≡ Passed) (eqb-true j k t) (a .0))
     (λ (t : eqb j k ≡ false). order-checked S files js (a .1) k (rw t at h))
     (decide (eqb j k))
 
@@ -123,19 +125,19 @@ from-pick false xs m = m
 
 -- ---- the set
 
-module _ (address size : ℕ) (h p : File) (fs : List File) (v : loadFrom size 0 0 (h ∷ (p ∷ fs)) ≡ passed) (order : List ℕ)
-    (once : OnceEach (count (objsOf (objectAt address) h p fs)) order)
-    (w : orderVerdict (objsOf (objectAt address) h p fs) (h ∷ (p ∷ fs)) order ≡ passed) where
+module _ (setting : Setting) (size : ℕ) (h p : File) (fs : List File) (v : loadFrom size 0 0 (h ∷ (p ∷ fs)) ≡ Passed) (order : List ℕ)
+    (once : OnceEach (count (objsOf (objectAt setting) h p fs)) order)
+    (w : orderVerdict (objsOf (objectAt setting) h p fs) (h ∷ (p ∷ fs)) order ≡ Passed) where
   abbrev set : Objs
-  set = objsOf (objectAt address) h p fs
+  set = objsOf (objectAt setting) h p fs
 
   abbrev file : ℕ → File
   file k = getD (h ∷ (p ∷ fs)) k noFile
 
   checked :
       (k : ℕ) → 1 ≤ k → k < count set
-      → (wordsVerdict k (fileRecord (file k)) (namedWords (fileImage (file k)) (fileRecord (file k))) ≡ passed)
-      × (entriesVerdict set k (fileImage (file k)) (fileRecord (file k)) (relasOf (fileImage (file k)) (fileRecord (file k))) ≡ passed)
+      → (wordsVerdict k (fileRecord (file k)) (namedWords (fileImage (file k)) (fileRecord (file k))) ≡ Passed)
+      × (entriesVerdict set k (fileImage (file k)) (fileRecord (file k)) (relasOf (fileImage (file k)) (fileRecord (file k))) ≡ Passed)
   unfolding objectVerdict
   checked k a b =
       first-passed (wordsVerdict k (fileRecord (file k)) (namedWords (fileImage (file k)) (fileRecord (file k)))) _
@@ -145,27 +147,27 @@ module _ (address size : ℕ) (h p : File) (fs : List File) (v : loadFrom size 0
       (k : ℕ) → k < count set → (q n : ℕ) → inWritable (fileRecord (file k) .segments) q n ≡ true → q + n ≤ (obj set k) .span
   unfolding objectAt
   inner k b q n e =
-      let s = ap (λ (o : Obj). o .span) (object-is address size h p fs v k b .is) in
+      let s = ap (λ (o : Obj). o .span) (object-is setting size h p fs v k b .is) in
       omega (arith, writable-inside (file k .host) (file k .bytes) q n e)
 
-  pub set-sound : Sound (objsOf (objectAt address) h p fs)
+  pub set-sound : Sound (objsOf (objectAt setting) h p fs)
   unfolding objectAt
   set-sound =
       record {
-        apart = objs-apart (objectAt address) (λ f off. omega arith) h p fs;
+        apart = objs-apart (objectAt setting) (λ f off. omega arith) h p fs;
         words-in = λ k a b q m.
-            let s = object-is address size h p fs v k b in
+            let s = object-is setting size h p fs v k b in
             let ws : List ℕ = placesOf (namedWords (fileImage (file k)) (fileRecord (file k))) in
             let in-file : List·Memᴰ q ws =
             from-pick (file k .host) ws (subst (λ (l : List ℕ). List·Memᴰ q l) (ap (λ (o : Obj). o .words) (s .is)) m) in
             inner k b q 8
             (words-inside k (fileRecord (file k)) (namedWords (fileImage (file k)) (fileRecord (file k))) (checked k a b .0) q in-file);
         entries-in = λ k a b x m.
-            let s = object-is address size h p fs v k b in
+            let s = object-is setting size h p fs v k b in
             let es : List Entry =
-            map (entryOf (fileImage (file k)) (fileRecord (file k)) (address + s .off)) (relasOf (fileImage (file k)) (fileRecord (file k))) in
+            map (entryOf (fileImage (file k)) (fileRecord (file k)) (setting .address + s .off)) (relasOf (fileImage (file k)) (fileRecord (file k))) in
             let in-file : List·Memᴰ x es =
             from-pick (file k .host) es (subst (λ (l : List Entry). List·Memᴰ x l) (ap (λ (o : Obj). o .entries) (s .is)) m) in
-            entries-inside set k (fileImage (file k)) (fileRecord (file k)) (address + s .off) (inner k b)
+            entries-inside set k (fileImage (file k)) (fileRecord (file k)) (setting .address + s .off) (inner k b)
             (relasOf (fileImage (file k)) (fileRecord (file k))) (checked k a b .1) x in-file;
       }

@@ -13,15 +13,21 @@ use Rattle.object.specs.Record.{isTableOf}
 use Rattle.object.specs.Invariant.{SameReadings}
 use Rattle.object.specs.Placed.{objectSpan}
 use Rattle.object.specs.declared.hash_tables.Definition.{Definition}
-use Rattle.binder.specs.Instance.{File, fileImage, fileRecord, symOf, objectAt}
-use Rattle.binder.specs.Verdict.{passed, noFile, copyOk}
-use Rattle.scope.specs.Steps.Seats.{seatAt}
-use Rattle.binder.specs.Steps.Prepared.{loadFrom, seatOf, placeFiles, Seated}
+use Rattle.model.specs.Symbols.{byName}
+use Rattle.binder.specs.Instance.{File, fileImage, fileRecord, definitionOf, objectAt}
+use Rattle.binder.specs.Setting.{Setting}
+use Rattle.binder.specs.Verdict.{noFile, copyOk}
+use Rattle.binder.specs.declared.Verdict.the-variants.{Passed}
+use Rattle.scope.specs.Steps.Links.{linkAt, countIn, addressIn}
+use Rattle.binder.specs.Steps.Prepared.{loadFrom, linkOf, placeFiles, Linked}
 use Rattle.scope.specs.Steps.ScopeCode.{imageAt}
 use Rattle.binder.specs.Steps.ScopeModel.{scopedOf}
 use Rattle.binder.specs.Steps.Relocating.{turnOf, imageIn, soughtFor, soughtForCopy, againRefusal, againRecord, copyFits}
 
-module _ (address size : ℕ) (table : List ℕ) (h p : File) (fs : List File) where
+module _ (setting : Setting) (size : ℕ) (table : List ℕ) (h p : File) (fs : List File) where
+  abbrev address : ℕ
+  address = setting .address
+
   abbrev pub files : List File
   files = h ∷ (p ∷ fs)
 
@@ -29,37 +35,39 @@ module _ (address size : ℕ) (table : List ℕ) (h p : File) (fs : List File) w
   fileAt k = getD files k noFile
 
   abbrev pub set : Objs
-  set = objsOf (objectAt address) h p fs
+  set = objsOf (objectAt setting) h p fs
 
-  -- refusals 2 and 4 to 12 were passed, and the table has the seats
+  -- refusals 2 and 4 to 12 were passed, and the table has the links, the count and the address
   pub record LoadedSet : Type 0 where
     pub others : (k : ℕ) → 1 ≤ k → k < count set → fileAt k .host ≡ false
-    pub loads : loadFrom size 0 0 files ≡ passed
-    pub seats : Seated table 0 0 files
+    pub loads : loadFrom size 0 0 files ≡ Passed
+    pub links : Linked table 0 0 files
+    pub counted : countIn table ≡ count set
+    pub addressed : addressIn table ≡ address
     pub end : address + size ≤ 2 ^ 63
     pub small : size ≤ 2 ^ 28
 
   -- the bytes of object `k` are as they were placed
   abbrev pub PlacedAt : List ℕ → ℕ → Type 0
-  PlacedAt a k = imageAt a (seatAt table k) ≡ fileImage (fileAt k)
+  PlacedAt a k = imageAt a (linkAt table k) ≡ fileImage (fileAt k)
 
   -- the table bytes of every object are
   pub record Steady (a : List ℕ) : Type 0 where
     pub size-is : length a ≡ size
-    pub tables : (k : ℕ) → k < count set → Agree (isTableOf (fileRecord (fileAt k))) (fileImage (fileAt k)) (imageAt a (seatAt table k))
+    pub tables : (k : ℕ) → k < count set → Agree (isTableOf (fileRecord (fileAt k))) (fileImage (fileAt k)) (imageAt a (linkAt table k))
 
   -- where object `k` lies
   pub record At (k : ℕ) : Type 0 where
-    pub is : obj set k ≡ objectAt address (fileAt k) ((obj set k) .offset)
+    pub is : obj set k ≡ objectAt setting (fileAt k) ((obj set k) .offset)
     pub fits : (obj set k) .offset + objectSpan (fileAt k .host) (fileAt k .bytes) ≤ size
-    pub seat : seatAt table k ≡ seatOf (fileAt k) ((obj set k) .offset)
+    pub link : linkAt table k ≡ linkOf (fileAt k) ((obj set k) .offset)
     -- base = address + offset, without wrapping
-    pub base : turnOf address table k .base ≡ (obj set k) .base
+    pub base : turnOf table k .base ≡ (obj set k) .base
 
   -- a write to object `k` left the other objects' bytes
   pub record Written (a a′ : List ℕ) (k : ℕ) : Type 0 where
     pub steady : Steady a′
-    pub others : (j : ℕ) → j < count set → (j ≡ k → ⊥) → imageAt a′ (seatAt table j) ≡ imageAt a (seatAt table j)
+    pub others : (j : ℕ) → j < count set → (j ≡ k → ⊥) → imageAt a′ (linkAt table j) ≡ imageAt a (linkAt table j)
 
   -- ---- the laws, as SteadyLaws proves them
 
@@ -77,16 +85,16 @@ module _ (address size : ℕ) (table : List ℕ) (h p : File) (fs : List File) w
   abbrev pub Readings : Type 0
   Readings =
       LoadedSet → (a : List ℕ) → Steady a → (k : ℕ) → k < count set
-      → SameReadings (fileAt k .host) (fileRecord (fileAt k)) (fileImage (fileAt k)) (imageAt a (seatAt table k))
+      → SameReadings (fileAt k .host) (fileRecord (fileAt k)) (fileImage (fileAt k)) (imageAt a (linkAt table k))
 
   abbrev pub Searches : Type 0
   Searches =
       LoadedSet → (a : List ℕ) → Steady a → (k : ℕ) → k < count set → (name : List ℕ)
-      → scopedOf (soughtFor address table (count set) (turnOf address table k) a name) ≡ resolve set k name
+      → scopedOf (soughtFor table (turnOf table k) a name) ≡ resolve set k (byName name)
 
   abbrev pub CopySearches : Type 0
   CopySearches =
-      LoadedSet → (a : List ℕ) → Steady a → (name : List ℕ) → scopedOf (soughtForCopy address table (count set) a name) ≡ resolveCopy set name
+      LoadedSet → (a : List ℕ) → Steady a → (name : List ℕ) → scopedOf (soughtForCopy table a name) ≡ resolveCopy set (byName name)
 
   -- a range in a writable segment ends inside the span
   abbrev pub WritableInside : Type 0
@@ -105,7 +113,7 @@ module _ (address size : ℕ) (table : List ℕ) (h p : File) (fs : List File) w
   abbrev pub CopyTests : Type 0
   CopyTests =
       LoadedSet → (k d : ℕ) → k < count set → d < count set → (q n : ℕ) → q + n ≤ objectSpan (fileAt k .host) (fileAt k .bytes)
-      → (x : Definition) → copyFits size (turnOf address table k) q (seatAt table d) x n ≡ copyOk set k q d (symOf x) n
+      → (x : Definition) → copyFits size (turnOf table k) q (linkAt table d) x n ≡ copyOk set k q d (definitionOf x) n
 
   -- the counted relocation entries of program and libraries are in the span
   abbrev pub Counts : Type 0
@@ -117,5 +125,5 @@ module _ (address size : ℕ) (table : List ℕ) (h p : File) (fs : List File) w
   abbrev pub Again : Type 0
   Again =
       LoadedSet → (a : List ℕ) (k : ℕ) → 1 ≤ k → k < count set → PlacedAt a k
-      → (againRefusal (imageIn a (turnOf address table k)) (fileAt k .bytes) ≡ 0)
-      × (againRecord (imageIn a (turnOf address table k)) (fileAt k .bytes) ≡ fileRecord (fileAt k))
+      → (againRefusal (imageIn a (turnOf table k)) (fileAt k .bytes) ≡ 0)
+      × (againRecord (imageIn a (turnOf table k)) (fileAt k .bytes) ≡ fileRecord (fileAt k))

@@ -37,20 +37,22 @@ use Rattle.object.specs.Loaded as loading
 use Rattle.object.specs.declared.program_header.Segment.{Segment}
 use Rattle.object.specs.declared.program_header.Dynamic.{Dynamic}
 use Rattle.object.specs.declared.program_header.Dynamic.the-variants.{Missing, At}
+use Rattle.object.proofs.LoadedLaws.{record-span}
 use Rattle.object.proofs.Ranges.{spares, seg-in, below-at, table-inside}
 use Rattle.object.proofs.RefusalLaws.{required, after-zero}
 use Rattle.object.proofs.ReadingsSame.{invariance}
 use Rattle.binder.specs.Instance.{File, fileImage, fileRecord, objectAt}
+use Rattle.binder.specs.Setting.{Setting}
 use Rattle.binder.specs.Verdict.{noFile, copyOk}
-use Rattle.scope.specs.Steps.Seats.{seatAt}
-use Rattle.binder.specs.Steps.Prepared.{seatOf, placeFiles}
+use Rattle.scope.specs.Steps.Links.{linkAt}
+use Rattle.binder.specs.Steps.Prepared.{linkOf, placeFiles}
 use Rattle.scope.specs.Steps.ScopeCode.{imageAt}
-use Rattle.binder.specs.Steps.ScopeModel.{SeatedFor}
+use Rattle.binder.specs.Steps.ScopeModel.{LinkedFor}
 use Rattle.binder.specs.Steps.Relocating.{copyFits, againRefusal}
-use Rattle.scope.specs.declared.seats.Seat.{Seat}
+use Rattle.scope.specs.declared.links.Link.{Link}
 use Rattle.binder.proofs.InsideLaws as inside
 use Rattle.binder.proofs.ScopeIs.{resolve-is, resolve-copy-is}
-use Rattle.binder.proofs.QueryLaws.{Sits, sits-at, image-at, seat-of}
+use Rattle.binder.proofs.QueryLaws.{Sits, sits-at, image-at, link-of}
 use Rattle.binder.proofs.Steady as steady
 
 -- ---- table bytes
@@ -83,15 +85,8 @@ table-few span ss at zero e = omega arith
 table-few span ss at (suc n) e =
     omega (arith, table-inside span ss (at + n) (below-at (λ k. isTable span ss (at + k)) (suc n) n e (omega arith)))
 
--- the span of the record
-record-span : (image : List ℕ) (ss : List Segment) (d : Dynamic) → records.recordAt image ss d .span ≡ length image
-unfolding records.recordAt records.recordIn
-record-span image ss Missing = refl
-record-span image ss (At at) = refl
-
 file-span : (f : File) → fileRecord f .span ≡ objectSpan (f .host) (f .bytes)
-unfolding loading.objectRecord
-file-span f = record-span (fileImage f) (segmentsOf (f .host) (f .bytes)) (dynamicOf (f .bytes)) ∙ length-tab (objectSpan (f .host) (f .bytes)) _
+file-span f = record-span (f .host) (f .bytes)
 
 -- ---- a file that was loaded
 
@@ -166,9 +161,12 @@ copy-same a t size off place start value n span fits ends = ap (both a) (go (leb
         rw (le-leb (off + place + n) size fits, le-leb (start + value + n) size (omega arith)) refl
     go false e = refl
 
-module _ (address size : ℕ) (table : List ℕ) (h p : File) (fs : List File) where
+module _ (setting : Setting) (size : ℕ) (table : List ℕ) (h p : File) (fs : List File) where
+  abbrev address : ℕ
+  address = setting .address
+
   abbrev set : Objs
-  set = objsOf (objectAt address) h p fs
+  set = objsOf (objectAt setting) h p fs
 
   abbrev fileAt : ℕ → File
   fileAt k = getD (h ∷ (p ∷ fs)) k noFile
@@ -177,29 +175,30 @@ module _ (address size : ℕ) (table : List ℕ) (h p : File) (fs : List File) w
   spanAt k = objectSpan (fileAt k .host) (fileAt k .bytes)
 
   abbrev LoadedSet : Type 0
-  LoadedSet = steady.LoadedSet address size table h p fs
+  LoadedSet = steady.LoadedSet setting size table h p fs
 
   abbrev Steady : List ℕ → Type 0
-  Steady = steady.Steady address size table h p fs
+  Steady = steady.Steady setting size table h p fs
 
   -- ---- where an object lies
 
-  sits : LoadedSet → (m : Mem) (k : ℕ) → k < count set → Sits address size table (placeFiles (h ∷ (p ∷ fs)) 0 m) k (fileAt k) (obj set k)
-  sits s m k l = sits-at address size table h p fs m (s .loads) (s .seats) k l
+  sits : LoadedSet → (m : Mem) (k : ℕ) → k < count set → Sits setting size table (placeFiles (h ∷ (p ∷ fs)) 0 m) k (fileAt k) (obj set k)
+  sits s m k l = sits-at setting size table h p fs m (s .loads) (s .links) k l
 
-  pub lies : steady.Lies address size table h p fs
+  pub lies : steady.Lies setting size table h p fs
   unfolding objectAt
   lies s k l =
       record {
-        is = t .is ∙ ap (objectAt address (fileAt k)) (sym off);
+        is = t .is ∙ ap (objectAt setting (fileAt k)) (sym off);
         fits = omega (arith, off, t .fits);
-        seat = t .seat ∙ ap (seatOf (fileAt k)) (sym off);
+        link = t .link ∙ ap (linkOf (fileAt k)) (sym off);
         base =
-            ap (λ (x : Seat). (address + x .offset) % 2 ^ 64) (t .seat)
-            ∙ (mod-eq-of-lt (omega (arith, t .fits, s .end)) ∙ sym (ap (λ (o : Obj). o .base) (t .is)));
+            ap (λ (n : ℕ). (n + linkAt table k .offset) % 2 ^ 64) (s .addressed)
+            ∙ (ap (λ (x : Link). (address + x .offset) % 2 ^ 64) (t .link)
+            ∙ (mod-eq-of-lt (omega (arith, t .fits, s .end)) ∙ sym (ap (λ (o : Obj). o .base) (t .is))));
       }
     where
-      t : Sits address size table (placeFiles (h ∷ (p ∷ fs)) 0 (λ _. 0)) k (fileAt k) (obj set k)
+      t : Sits setting size table (placeFiles (h ∷ (p ∷ fs)) 0 (λ _. 0)) k (fileAt k) (obj set k)
       t = sits s (λ _. 0) k l
 
       off : (obj set k) .offset ≡ t .off
@@ -213,42 +212,42 @@ module _ (address size : ℕ) (table : List ℕ) (h p : File) (fs : List File) w
 
   -- ---- an arena with the placed bytes
 
-  pub starts : steady.Starts address size table h p fs
-  starts s a m len e k l = image-at address size table k (fileAt k) (obj set k) (placeFiles (h ∷ (p ∷ fs)) 0 m) (sits s m k l) a len e
+  pub starts : steady.Starts setting size table h p fs
+  starts s a m len e k l = image-at setting size table k (fileAt k) (obj set k) (placeFiles (h ∷ (p ∷ fs)) 0 m) (sits s m k l) a len e
 
-  pub placed-steady : steady.PlacedSteady address size table h p fs
+  pub placed-steady : steady.PlacedSteady setting size table h p fs
   placed-steady s a len placed =
       record { size-is = len; tables = λ k l i t. ap (λ (image : List ℕ). mem image i) (placed k l) }
 
   -- ---- an arena with the table bytes
 
   -- an object's part of an arena, as long as its span
-  length-at : LoadedSet → (a : List ℕ) → length a ≡ size → (k : ℕ) → k < count set → length (imageAt a (seatAt table k)) ≡ spanAt k
+  length-at : LoadedSet → (a : List ℕ) → length a ≡ size → (k : ℕ) → k < count set → length (imageAt a (linkAt table k)) ≡ spanAt k
   length-at s a len k l =
       let t = lies s k l in
-      ap (λ (x : Seat). length (imageAt a x)) (t .seat) ∙ simp (length-take, length-drop) (omega (arith, t .fits))
+      ap (λ (x : Link). length (imageAt a x)) (t .link) ∙ simp (length-take, length-drop) (omega (arith, t .fits))
 
-  pub readings : steady.Readings address size table h p fs
+  pub readings : steady.Readings setting size table h p fs
   readings s a st k l =
-      invariance (fileAt k .host) (fileRecord (fileAt k)) (fileImage (fileAt k)) (imageAt a (seatAt table k))
+      invariance (fileAt k .host) (fileRecord (fileAt k)) (fileImage (fileAt k)) (imageAt a (linkAt table k))
       (load-tables (fileAt k) (size - (obj set k) .offset) (loaded-at s k l))
       (length-at s a (st .size-is) k l ∙ sym (length-tab (spanAt k) _)) (st .tables k l)
 
-  seated : LoadedSet → (a : List ℕ) → Steady a → SeatedFor address a table set
-  seated s a st k l =
+  linked : LoadedSet → (a : List ℕ) → Steady a → LinkedFor address a table set
+  linked s a st k l =
       let t = lies s k l in
-      seat-of address size table k (fileAt k) (obj set k) ((obj set k) .offset) a (t .is) (t .seat) (omega (arith, t .fits, s .end))
+      link-of setting size table k (fileAt k) (obj set k) ((obj set k) .offset) a (t .is) (t .link) (omega (arith, t .fits, s .end))
       (λ name. readings s a st k l .answers name _ _)
 
-  pub searches : steady.Searches address size table h p fs
-  searches s a st k l name = resolve-is address a table name set (count set) refl (seated s a st) k l
+  pub searches : steady.Searches setting size table h p fs
+  searches s a st k l name = resolve-is address a table name set (s .addressed) (s .counted) (linked s a st) k l
 
-  pub copy-searches : steady.CopySearches address size table h p fs
-  copy-searches s a st name = resolve-copy-is address a table name set (count set) refl (seated s a st)
+  pub copy-searches : steady.CopySearches setting size table h p fs
+  copy-searches s a st name = resolve-copy-is address a table name set (s .addressed) (s .counted) (linked s a st)
 
   -- ---- a write
 
-  pub writable-inside : steady.WritableInside address size table h p fs
+  pub writable-inside : steady.WritableInside setting size table h p fs
   writable-inside k q n e = inside.writable-inside (fileAt k .host) (fileAt k .bytes) q n e
 
   -- spans of two objects lie apart
@@ -262,15 +261,15 @@ module _ (address size : ℕ) (table : List ℕ) (h p : File) (fs : List File) w
       span i x = ap (λ (o : Obj). o .span) (lies s i x .is)
 
       go : Dec (j < k) → ((obj set j) .offset + spanAt j ≤ (obj set k) .offset) ⊎ ((obj set k) .offset + spanAt k ≤ (obj set j) .offset)
-      go (yes x) = inl (omega (arith, span j l, objs-apart (objectAt address) (λ f off. omega arith) h p fs j k x g))
-      go (no x) = inr (omega (arith, span k g, objs-apart (objectAt address) (λ f off. omega arith) h p fs k j (omega arith) l))
+      go (yes x) = inl (omega (arith, span j l, objs-apart (objectAt setting) (λ f off. omega arith) h p fs j k x g))
+      go (no x) = inr (omega (arith, span k g, objs-apart (objectAt setting) (λ f off. omega arith) h p fs k j (omega arith) l))
 
   -- a byte of object `j`, in an arena
   byte-at :
       LoadedSet → (a : List ℕ) (j : ℕ) → j < count set → (i : ℕ) → i < spanAt j
-      → mem (imageAt a (seatAt table j)) i ≡ mem a ((obj set j) .offset + i)
+      → mem (imageAt a (linkAt table j)) i ≡ mem a ((obj set j) .offset + i)
   byte-at s a j l i x =
-      ap (λ (y : Seat). mem (imageAt a y) i) (lies s j l .seat) ∙ mem-part (spanAt j) ((obj set j) .offset) a i x
+      ap (λ (y : Link). mem (imageAt a y) i) (lies s j l .link) ∙ mem-part (spanAt j) ((obj set j) .offset) a i x
 
   module _
       (s : LoadedSet)
@@ -297,7 +296,7 @@ module _ (address size : ℕ) (table : List ℕ) (h p : File) (fs : List File) w
       -- a byte of object `j` that the write leaves
       kept :
           (j : ℕ) → j < count set → (i : ℕ) → i < spanAt j → Out to n ((obj set j) .offset + i)
-          → mem (imageAt after (seatAt table j)) i ≡ mem (imageAt a (seatAt table j)) i
+          → mem (imageAt after (linkAt table j)) i ≡ mem (imageAt a (linkAt table j)) i
       kept j x i y out =
           byte-at s after j x i y
           ∙ (ap (λ (m : Mem). m ((obj set j) .offset + i)) written
@@ -308,13 +307,13 @@ module _ (address size : ℕ) (table : List ℕ) (h p : File) (fs : List File) w
 
       others-kept :
           (j : ℕ) → j < count set → (j ≡ k → ⊥)
-          → imageAt after (seatAt table j) ≡ imageAt a (seatAt table j)
+          → imageAt after (linkAt table j) ≡ imageAt a (linkAt table j)
       others-kept j x ne =
-          mem-ext (imageAt after (seatAt table j)) (imageAt a (seatAt table j))
+          mem-ext (imageAt after (linkAt table j)) (imageAt a (linkAt table j))
           (many ∙ sym (length-at s a (st .size-is) j x))
           (λ i y. let z : i < spanAt j = omega (arith, many) in kept j x i z (out i z (apart s j k x l ne)))
         where
-          many : length (imageAt after (seatAt table j)) ≡ spanAt j
+          many : length (imageAt after (linkAt table j)) ≡ spanAt j
           many = length-at s after long j x
 
           out :
@@ -326,7 +325,7 @@ module _ (address size : ℕ) (table : List ℕ) (h p : File) (fs : List File) w
 
       own-kept :
           (i : ℕ) → isTableOf (fileRecord (fileAt k)) i ≡ true
-          → mem (imageAt after (seatAt table k)) i ≡ mem (imageAt a (seatAt table k)) i
+          → mem (imageAt after (linkAt table k)) i ≡ mem (imageAt a (linkAt table k)) i
       own-kept i t =
           kept k l i (omega (arith, table-inside (fileRecord (fileAt k) .span) (fileRecord (fileAt k) .segments) i t, file-span (fileAt k)))
           (⊎-elim
@@ -338,17 +337,17 @@ module _ (address size : ℕ) (table : List ℕ) (h p : File) (fs : List File) w
       -- so the table bytes stay
       tables-kept :
           (j : ℕ) → j < count set → (i : ℕ) → isTableOf (fileRecord (fileAt j)) i ≡ true
-          → mem (imageAt after (seatAt table j)) i ≡ mem (imageAt a (seatAt table j)) i
+          → mem (imageAt after (linkAt table j)) i ≡ mem (imageAt a (linkAt table j)) i
       tables-kept j x i t = go (ℕ-discrete j k)
         where
-          go : Dec (j ≡ k) → mem (imageAt after (seatAt table j)) i ≡ mem (imageAt a (seatAt table j)) i
+          go : Dec (j ≡ k) → mem (imageAt after (linkAt table j)) i ≡ mem (imageAt a (linkAt table j)) i
           go (yes e) =
               subst
-              (λ (c : ℕ). isTableOf (fileRecord (fileAt c)) i ≡ true → mem (imageAt after (seatAt table c)) i ≡ mem (imageAt a (seatAt table c)) i)
+              (λ (c : ℕ). isTableOf (fileRecord (fileAt c)) i ≡ true → mem (imageAt after (linkAt table c)) i ≡ mem (imageAt a (linkAt table c)) i)
               (sym e) (own-kept i) t
           go (no ne) = ap (λ (image : List ℕ). mem image i) (others-kept j x ne)
 
-  pub write-steady : steady.Writes address size table h p fs
+  pub write-steady : steady.Writes setting size table h p fs
   write-steady s a st k l q n w g = (
     record {
       steady =
@@ -363,26 +362,26 @@ module _ (address size : ℕ) (table : List ℕ) (h p : File) (fs : List File) w
 
   -- ---- refusal 18
 
-  pub copy-tests : steady.CopyTests address size table h p fs
+  pub copy-tests : steady.CopyTests setting size table h p fs
   unfolding copyFits copyOk objectAt
   copy-tests s k d l m q n fits x =
       let t = lies s k l in
       let u = lies s d m in
       let span : (obj set d) .span ≡ spanAt d = ap (λ (o : Obj). o .span) (u .is) in
-      rw (t .seat, u .seat, span)
+      rw (t .link, u .link, span)
       (copy-same (not (x .absolute))
       (either (leb ((obj set k) .offset + q + n) ((obj set d) .offset + x .value)) (leb ((obj set d) .offset + x .value + n) ((obj set k) .offset + q)))
       size ((obj set k) .offset) q ((obj set d) .offset) (x .value) n (spanAt d) (omega (arith, t .fits)) (u .fits))
 
   -- ---- an object's turn
 
-  pub counts : steady.Counts address size table h p fs
+  pub counts : steady.Counts setting size table h p fs
   counts s k g l =
       let c = load-counts (fileAt k) (size - (obj set k) .offset) (loaded-at s k l) (s .others k g l) in
       let e : fileRecord (fileAt k) .span ≤ 2 ^ 28 = omega (arith, file-span (fileAt k), lies s k l .fits, s .small) in
       (omega (arith, c .0), omega (arith, c .1), omega (arith, c .2))
 
-  pub again : steady.Again address size table h p fs
+  pub again : steady.Again setting size table h p fs
   unfolding againRefusal loading.objectRecord
   again s a k g l placed =
       let f : File = fileAt k in

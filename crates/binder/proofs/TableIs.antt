@@ -15,7 +15,9 @@ use Rattle.object.specs.Entries.{relaAt, relasFrom}
 use Rattle.object.specs.Record.{Record}
 use Rattle.object.specs.declared.relocate.Rela.{Rela}
 use Rattle.binder.specs.Instance.{File, fileImage, fileRecord, relasOf, entryOf}
-use Rattle.binder.specs.Verdict.{passed, first, verdict, entryRefusal, entriesVerdict}
+use Rattle.binder.specs.Setting.{Setting}
+use Rattle.binder.specs.Verdict.{first, verdict, entryRefusal, entriesVerdict}
+use Rattle.binder.specs.declared.Verdict.the-variants.{Passed}
 use Rattle.binder.specs.Report.{reportWord, isUndefined, isPassed, entryReport}
 use Rattle.binder.specs.Steps.Relocating.{left, imageIn, cutTo32, turnOf, runAction, runTable, runTables}
 use Rattle.binder.specs.declared.turn.Turn.{Turn}
@@ -83,16 +85,19 @@ module _ (S : Objs) (k : ℕ) (image : List ℕ) (r : Record) where
 
 -- ---- a table
 
-module _ (address size : ℕ) (table : List ℕ) (h pr : File) (fs : List File) (L : LoadedSet address size table h pr fs)
-    (k : ℕ) (lo : 1 ≤ k) (hi : k < count (set address size table h pr fs)) (n : ℕ) (a₀ : List ℕ) where
+module _ (setting : Setting) (size : ℕ) (table : List ℕ) (h pr : File) (fs : List File) (L : LoadedSet setting size table h pr fs)
+    (k : ℕ) (lo : 1 ≤ k) (hi : k < count (set setting size table h pr fs)) (n : ℕ) (a₀ : List ℕ) where
+  abbrev address : ℕ
+  address = setting .address
+
   abbrev S : Objs
-  S = set address size table h pr fs
+  S = set setting size table h pr fs
 
   abbrev t : Turn
-  t = turnOf address table k
+  t = turnOf table k
 
   abbrev f : File
-  f = fileAt address size table h pr fs k
+  f = fileAt setting size table h pr fs k
 
   abbrev r : Record
   r = fileRecord f
@@ -101,7 +106,7 @@ module _ (address size : ℕ) (table : List ℕ) (h pr : File) (fs : List File) 
   image = fileImage f
 
   abbrev Does : List ℕ → ℕ → Mem → Progress → List ℕ → List ℕ → Type 0
-  Does = Doing address size table h pr fs L k lo hi n a₀
+  Does = Doing setting size table h pr fs L k lo hi n a₀
 
   -- after entries, the first of which has the number `i`
   abbrev pub Entered : List ℕ → ℕ → Mem → ℕ → List Rela → Progress → List ℕ → List ℕ → Type 0
@@ -139,7 +144,7 @@ module _ (address size : ℕ) (table : List ℕ) (h pr : File) (fs : List File) 
       d
 
   module _ (at start c′ : ℕ) (l : start + c′ ≤ 2 ^ 28)
-      (same : (a : List ℕ) → Steady address size table h pr fs a → (j : ℕ) → j < c′ → relaAt (imageIn a t) at j ≡ relaAt image at j) where
+      (same : (a : List ℕ) → Steady setting size table h pr fs a → (j : ℕ) → j < c′ → relaAt (imageIn a t) at j ≡ relaAt image at j) where
     number : (i j : ℕ) → i ≡ start + j → j < c′ → (start + j) % 2 ^ 32 ≡ i
     number i j e b = omega arith
 
@@ -149,36 +154,36 @@ module _ (address size : ℕ) (table : List ℕ) (h pr : File) (fs : List File) 
         → Ran size n (verdict (entryRefusal S k image r (relaAt image at j)) k)
         (Does (ws ++ entryWord S k image r i (relaAt image at j)) (earlier u (pick (isUndefined S k image r (relaAt image at j)) k 0))
         (effect S k (entryOf image r ((obj S k) .base) (relaAt image at j)) m))
-        (runAction address table (count S) t r ((start + j) % 2 ^ 32) (relaAt (imageIn a t) at j) (rowOf (relaAt (imageIn a t) at j .rtype)) p a report)
+        (runAction table t r ((start + j) % 2 ^ 32) (relaAt (imageIn a t) at j) (rowOf (relaAt (imageIn a t) at j .rtype)) p a report)
     one-entry i j e b ws u m p a report d =
         rw (number i j e b, same a (d .written .steady) j b)
-        (entry-ran address size table h pr fs L k lo hi n a₀ ws u m p a report d i (omega arith) (relaAt image at j)
+        (entry-ran setting size table h pr fs L k lo hi n a₀ ws u m p a report d i (omega arith) (relaAt image at j)
         (rowOf (relaAt image at j .rtype)))
 
     pub table-ran :
         (c i j : ℕ) → i ≡ start + j → j + c ≤ c′ → (ws : List ℕ) (u : ℕ) (m : Mem) (p : Progress) (a report : List ℕ) → Does ws u m p a report
         → Ran size n (entriesVerdict S k image r (relasFrom image at j c)) (Entered ws u m i (relasFrom image at j c))
-        (runTable address table (count S) t r at start c j (left p a report))
+        (runTable table t r at start c j (left p a report))
     unfolding runTable relasFrom entriesVerdict entryReport some effects
     table-ran zero i j e b ws u m p a report d =
-        plain address size table h pr fs L k lo hi n a₀ ws u m p a report d passed m a refl (d .written) (d .memory)
+        plain setting size table h pr fs L k lo hi n a₀ ws u m p a report d Passed m a refl (d .written) (d .memory)
     table-ran (suc c) i j e b ws u m p a report d =
         ran-then size n (verdict (entryRefusal S k image r (relaAt image at j)) k) (entriesVerdict S k image r (relasFrom image at (j + 1) c))
         (Does (ws ++ entryWord S k image r i (relaAt image at j)) (earlier u (pick (isUndefined S k image r (relaAt image at j)) k 0))
         (effect S k (entryOf image r ((obj S k) .base) (relaAt image at j)) m))
         (Entered ws u m i (relaAt image at j ∷ relasFrom image at (j + 1) c))
-        (runTable address table (count S) t r at start c (j + 1))
+        (runTable table t r at start c (j + 1))
         (λ p′ a′ report′ d′.
         ran-weaker size n (entriesVerdict S k image r (relasFrom image at (j + 1) c))
         (Entered (ws ++ entryWord S k image r i (relaAt image at j)) (earlier u (pick (isUndefined S k image r (relaAt image at j)) k 0))
         (effect S k (entryOf image r ((obj S k) .base) (relaAt image at j)) m) (i + 1) (relasFrom image at (j + 1) c))
         (Entered ws u m i (relaAt image at j ∷ relasFrom image at (j + 1) c))
         (entered-more ws u m i (relaAt image at j) (relasFrom image at (j + 1) c))
-        (runTable address table (count S) t r at start c (j + 1) (left p′ a′ report′))
+        (runTable table t r at start c (j + 1) (left p′ a′ report′))
         (table-ran c (i + 1) (j + 1) (omega arith) (omega arith) (ws ++ entryWord S k image r i (relaAt image at j))
         (earlier u (pick (isUndefined S k image r (relaAt image at j)) k 0))
         (effect S k (entryOf image r ((obj S k) .base) (relaAt image at j)) m) p′ a′ report′ d′))
-        (runAction address table (count S) t r ((start + j) % 2 ^ 32) (relaAt (imageIn a t) at j) (rowOf (relaAt (imageIn a t) at j .rtype)) p a report)
+        (runAction table t r ((start + j) % 2 ^ 32) (relaAt (imageIn a t) at j) (rowOf (relaAt (imageIn a t) at j .rtype)) p a report)
         (one-entry i j e (omega arith) ws u m p a report d)
 
   -- ---- RELA, then PLT
@@ -189,25 +194,25 @@ module _ (address size : ℕ) (table : List ℕ) (h pr : File) (fs : List File) 
   pub tables-ran :
       (ws : List ℕ) (u : ℕ) (m : Mem) (p : Progress) (a report : List ℕ) → Does ws u m p a report
       → Ran size n (entriesVerdict S k image r (relasOf image r)) (Entered ws u m 0 (relasOf image r))
-      (runTables address table (count S) t r (left p a report))
+      (runTables table t r (left p a report))
   unfolding relasOf runTables
   tables-ran ws u m p a report d =
-      let few = counts address size table h pr fs L k lo hi in
+      let few = counts setting size table h pr fs L k lo hi in
       let o = L .others k lo hi in
       let xs : List Rela = relasFrom image (r .rela) 0 (r .relas) in
       let ys : List Rela = relasFrom image (r .plt) 0 (r .plts) in
       rw (cut-is (r .relas) (few .0), cut-is (r .plts) (few .1), verdicts-append S k image r xs ys)
       (ran-then size n (entriesVerdict S k image r xs) (entriesVerdict S k image r ys) (Entered ws u m 0 xs) (Entered ws u m 0 (xs ++ ys))
-      (runTable address table (count S) t r (r .plt) (r .relas) (r .plts) 0)
+      (runTable table t r (r .plt) (r .relas) (r .plts) 0)
       (λ p′ a′ report′ d′.
       ran-weaker size n (entriesVerdict S k image r ys)
       (Entered (ws ++ entryReport S k image r 0 xs) (earlier u (pick (some (isUndefined S k image r) xs) k 0))
       (effects S k (map (entryOf image r ((obj S k) .base)) xs) m) (r .relas) ys)
       (Entered ws u m 0 (xs ++ ys))
       (entered-join ws u m 0 (r .relas) xs ys (omega (arith, relas-length image (r .rela) 0 (r .relas))))
-      (runTable address table (count S) t r (r .plt) (r .relas) (r .plts) 0 (left p′ a′ report′))
-      (table-ran (r .plt) (r .relas) (r .plts) (omega (arith, few .0, few .1)) (λ a s. entry-same image (imageIn a t) (r .plt) (r .plts) (readings address size table h pr fs L a s k hi .plts o)) (r .plts) (r .relas) 0 (omega arith) (omega arith)
+      (runTable table t r (r .plt) (r .relas) (r .plts) 0 (left p′ a′ report′))
+      (table-ran (r .plt) (r .relas) (r .plts) (omega (arith, few .0, few .1)) (λ a s. entry-same image (imageIn a t) (r .plt) (r .plts) (readings setting size table h pr fs L a s k hi .plts o)) (r .plts) (r .relas) 0 (omega arith) (omega arith)
       (ws ++ entryReport S k image r 0 xs) (earlier u (pick (some (isUndefined S k image r) xs) k 0))
       (effects S k (map (entryOf image r ((obj S k) .base)) xs) m) p′ a′ report′ d′))
-      (runTable address table (count S) t r (r .rela) 0 (r .relas) 0 (left p a report))
-      (table-ran (r .rela) 0 (r .relas) (omega (arith, few .0)) (λ a s. entry-same image (imageIn a t) (r .rela) (r .relas) (readings address size table h pr fs L a s k hi .relas o)) (r .relas) 0 0 (omega arith) (omega arith) ws u m p a report d))
+      (runTable table t r (r .rela) 0 (r .relas) 0 (left p a report))
+      (table-ran (r .rela) 0 (r .relas) (omega (arith, few .0)) (λ a s. entry-same image (imageIn a t) (r .rela) (r .relas) (readings setting size table h pr fs L a s k hi .relas o)) (r .relas) 0 0 (omega arith) (omega arith) ws u m p a report d))

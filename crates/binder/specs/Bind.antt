@@ -8,7 +8,7 @@ use lib.Dec.{eqb, leb, ltb}
 use lib.ListN.{length, drop, replicate}
 use Rattle.words.specs.Choice.{pick, both, either}
 use Rattle.words.specs.Memory.{tab}
-use Rattle.model.specs.Symbols.{absent, answer}
+use Rattle.model.specs.Symbols.{byName, absent, answer}
 use Rattle.model.specs.Symbols as symbols
 use Rattle.model.specs.Objects.{Objs}
 use Rattle.model.specs.Scope.{resolve}
@@ -20,13 +20,16 @@ use Rattle.binder.specs.declared.Answer.{Answer}
 use Rattle.binder.specs.declared.Answer as answers
 use Rattle.binder.specs.declared.Reply.{Reply}
 use Rattle.binder.specs.declared.Reply as replies
-use Rattle.sheet.specs.Sheet.{Input, sheetOk, setOf, arenaOk, twinOf}
+use Rattle.sheet.specs.Sheet.{Input, sheetOk, setOf, arenaOk, duplicateOf}
+use Rattle.binder.specs.Setting.{Setting}
 use Rattle.binder.specs.Instance.{File, objectAt}
-use Rattle.binder.specs.Verdict.{Verdict, passed, refused, first, noFile, loadVerdict, orderVerdict}
+use Rattle.binder.specs.Verdict.{first, noFile, loadVerdict, orderVerdict}
+use Rattle.binder.specs.declared.Verdict.{Verdict}
+use Rattle.binder.specs.declared.Verdict.the-variants.{Passed, Refused}
 use Rattle.binder.specs.Report.{orderWords, firstUndefined}
 use Rattle.binder.specs.SetOrder.{setOrder}
 
--- ---- a set: its files by object number, the libraries' names, and its objects in an arena at `address`
+-- ---- a set: its files by object number, the libraries' names, and its objects in a setting
 
 unfoldable pub filesOf : List Input → List File
 filesOf [] = []
@@ -35,24 +38,23 @@ filesOf (h ∷ os) = record { host = true; bytes = h .file } ∷ map (λ o. reco
 unfoldable pub namesOf : List Input → List (List ℕ)
 namesOf os = map (λ o. o .name) (drop 2 os)
 
-unfoldable pub objectsOf : ℕ → List File → Objs
-objectsOf address [] = objsOf (objectAt address) noFile noFile []
-objectsOf address (h ∷ []) = objsOf (objectAt address) h noFile []
-objectsOf address (h ∷ (p ∷ fs)) = objsOf (objectAt address) h p fs
+unfoldable pub objectsOf : Setting → List File → Objs
+objectsOf setting [] = objsOf (objectAt setting) noFile noFile []
+objectsOf setting (h ∷ []) = objsOf (objectAt setting) h noFile []
+objectsOf setting (h ∷ (p ∷ fs)) = objsOf (objectAt setting) h p fs
 
 -- ---- the refusals, in checking order
 
 -- refusal `n`, object `k`, unless the test holds
 unfoldable pub unless : Bool → ℕ → ℕ → Verdict
-unless t n k = pick t passed (refused n k)
+unless t n k = pick t Passed (Refused n k)
 
--- 1 to 12, which a query meets too
-unfoldable pub prepareVerdict : List ℕ → List ℕ → ℕ → ℕ → Verdict
-prepareVerdict sheet bytes size address =
-    first (unless (sheetOk sheet (length bytes)) 1 0)
-    (first (unless (arenaOk size address) 2 0)
-    (first (unless (eqb (twinOf (setOf sheet bytes)) 0) 3 (twinOf (setOf sheet bytes)))
-    (loadVerdict (objectsOf address (filesOf (setOf sheet bytes))) size 0 (filesOf (setOf sheet bytes)))))
+-- 2 to 12 of a set, which a query meets too
+unfoldable pub prepareVerdict : Setting → List Input → ℕ → Verdict
+prepareVerdict setting os size =
+    first (unless (arenaOk size (setting .address)) 2 0)
+    (first (unless (eqb (duplicateOf os) 0) 3 (duplicateOf os))
+    (loadVerdict (objectsOf setting (filesOf os)) size 0 (filesOf os)))
 
 -- 19: "Strict policy and an undefined entry"
 abbrev pub allows : Policy → ℕ → Bool
@@ -72,22 +74,30 @@ relocateVerdict S files order policy words =
 pub data Outcome : Type 0 where
   outcome : (answer : Answer) (arena report : List ℕ) → Outcome
 
--- a refusal leaves zeros; else the arena and the report, "Unused words are 0"
+-- "a refusal leaves zeros in arena and report"
+abbrev pub refusedBind : ℕ → ℕ → ℕ → ℕ → Outcome
+refusedBind size words n k = outcome (answers.the-variants.Refused n k) (replicate size 0) (replicate words 0)
+
+-- a refusal; else the arena and the report, "Unused words are 0"
 unfoldable pub outcomeOf : ℕ → ℕ → Verdict → List ℕ → List ℕ → Outcome
-outcomeOf size words (refused n k) arena report = outcome (answers.the-variants.Refused n k) (replicate size 0) (replicate words 0)
-outcomeOf size words passed arena report = outcome answers.the-variants.Bound arena (report ++ replicate (words - length report) 0)
+outcomeOf size words (Refused n k) arena report = refusedBind size words n k
+outcomeOf size words Passed arena report = outcome answers.the-variants.Bound arena (report ++ replicate (words - length report) 0)
 
--- a set bound in an order
-unfoldable pub bindIn : Verdict → List File → List ℕ → ℕ → ℕ → Policy → ℕ → Outcome
-bindIn prepared files order size address policy words =
-    outcomeOf size words (first prepared (relocateVerdict (objectsOf address files) files order policy words))
-    (tab size (bound (objectsOf address files) order)) (orderWords (objectsOf address files) files order)
+-- a set bound in an order, in an arena of `size` bytes and with a report of `words` words
+unfoldable pub bindIn : Setting → Verdict → List File → List ℕ → ℕ → Policy → ℕ → Outcome
+bindIn setting prepared files order size policy words =
+    outcomeOf size words (first prepared (relocateVerdict (objectsOf setting files) files order policy words))
+    (tab size (bound (objectsOf setting files) order)) (orderWords (objectsOf setting files) files order)
 
--- what `bind` answers for an arena of `size` bytes and a report of `words` words
-unfoldable pub bindOf : List ℕ → List ℕ → ℕ → ℕ → Policy → ℕ → Outcome
-bindOf sheet bytes size address policy words =
-    bindIn (prepareVerdict sheet bytes size address) (filesOf (setOf sheet bytes))
-    (setOrder (filesOf (setOf sheet bytes)) (namesOf (setOf sheet bytes))) size address policy words
+-- a set bound in its order: refusals 2 to 20
+unfoldable pub bindSet : Setting → List Input → ℕ → Policy → ℕ → Outcome
+bindSet setting os size policy words =
+    bindIn setting (prepareVerdict setting os size) (filesOf os) (setOrder (filesOf os) (namesOf os)) size policy words
+
+-- what `bind` answers for a sheet and its bytes: refusal 1, or what it does for the sheet's set
+unfoldable pub bindOf : Setting → List ℕ → List ℕ → ℕ → Policy → ℕ → Outcome
+bindOf setting sheet bytes size policy words =
+    pick (sheetOk sheet (length bytes)) (bindSet setting (setOf sheet bytes) size policy words) (refusedBind size words 1 0)
 
 -- ---- query
 
@@ -95,19 +105,26 @@ pub data Replied : Type 0 where
   replied : (reply : Reply) (arena : List ℕ) → Replied
 
 -- "A lookup yields an object, a symbol index and an address, or absence"
-abbrev pub replyOf : symbols.Answer → Reply
+abbrev pub replyOf : symbols.Resolved → Reply
 replyOf absent = replies.the-variants.Absent
 replyOf (answer k s a) = replies.the-variants.Found k (s .index) a
 
+-- a refusal leaves zeros
+abbrev pub refusedQuery : ℕ → ℕ → ℕ → Replied
+refusedQuery size n k = replied (replies.the-variants.Refused n k) (replicate size 0)
+
 -- "after an answer the arena holds the placed, unrelocated bytes"
 unfoldable pub repliedOf : ℕ → Verdict → Reply → List ℕ → Replied
-repliedOf size (refused n k) reply arena = replied (replies.the-variants.Refused n k) (replicate size 0)
-repliedOf size passed reply arena = replied reply arena
+repliedOf size (Refused n k) reply arena = refusedQuery size n k
+repliedOf size Passed reply arena = replied reply arena
 
--- what `query` answers: it "meets only refusals 1 to 13"
-unfoldable pub queryOf : List ℕ → List ℕ → ℕ → ℕ → ℕ → List ℕ → Replied
-queryOf sheet bytes size address requester name =
-    repliedOf size
-    (first (prepareVerdict sheet bytes size address) (unless (ltb requester (length (setOf sheet bytes))) 13 0))
-    (replyOf (resolve (objectsOf address (filesOf (setOf sheet bytes))) requester name))
-    (tab size (placed (objectsOf address (filesOf (setOf sheet bytes)))))
+-- a set that is asked: it "meets only refusals 1 to 13", 2 to 13 here
+unfoldable pub askSet : Setting → List Input → ℕ → ℕ → List ℕ → Replied
+askSet setting os size requester name =
+    repliedOf size (first (prepareVerdict setting os size) (unless (ltb requester (length os)) 13 0))
+    (replyOf (resolve (objectsOf setting (filesOf os)) requester (byName name))) (tab size (placed (objectsOf setting (filesOf os))))
+
+-- what `query` answers for a sheet and its bytes
+unfoldable pub queryOf : Setting → List ℕ → List ℕ → ℕ → ℕ → List ℕ → Replied
+queryOf setting sheet bytes size requester name =
+    pick (sheetOk sheet (length bytes)) (askSet setting (setOf sheet bytes) size requester name) (refusedQuery size 1 0)

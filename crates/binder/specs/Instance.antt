@@ -1,17 +1,18 @@
 -- The objects of a set as the model has them: its objects made of files by the reader's definitions. Document 01, "Placed bytes" ("base =
 -- arena address + offset"), "An address for a name", "Relocated bytes and report". An object depends on its file, on whether it is the
--- host's, on its offset and on the arena's address, and on nothing else. Assumes nothing.
+-- host's, on its offset and on the setting, and on nothing else. Assumes nothing.
 use mathlib.Core.Bool.{Bool, true, false}
 use mathlib.Core.List.{List, [], _∷_, _++_, map}
 use Prim.Native.Nat.{ℕ, _+_}
 use lib.ListN.{length}
 use Rattle.words.specs.Choice.{pick}
-use Rattle.model.specs.Symbols.{Name, Sym, Found, none, hit}
+use Rattle.model.specs.Symbols.{Wanted, byName, none, hit}
+use Rattle.model.specs.Symbols as model
 use Rattle.model.specs.Objects.{Entry, fixed, symbol, copy, pass, Obj}
 use Rattle.object.specs.declared.relocate.Rela.{Rela}
 use Rattle.object.specs.declared.hash_tables.Definition.{Definition}
-use Rattle.object.specs.declared.hash_tables.Answer.{Answer}
-use Rattle.object.specs.declared.hash_tables.Answer.the-variants.{Absent, Present}
+use Rattle.object.specs.declared.hash_tables.Exported.{Exported}
+use Rattle.object.specs.declared.hash_tables.Exported.the-variants.{Absent, Present}
 use Rattle.object.specs.Symbol.{symbolAt, symbolName}
 use Rattle.object.specs.HashTable.{answerIn}
 use Rattle.object.specs.RelocationTypes.{Row, noSearch, inScope, ignored, passedOver, turnedAway, copies, writes, rowOf}
@@ -20,6 +21,7 @@ use Rattle.object.specs.Entries as entries
 use Rattle.object.specs.Record.{Record, viewOf}
 use Rattle.object.specs.Placed.{objectSpan, objectBytes, objectImage}
 use Rattle.object.specs.Loaded.{objectRecord}
+use Rattle.binder.specs.Setting.{Setting}
 
 -- a file of the set, and whether it is the host's
 pub record File : Type 0 where
@@ -33,12 +35,12 @@ abbrev pub fileRecord : File → Record
 fileRecord f = objectRecord (f .host) (f .bytes)
 
 -- a symbol that answers
-abbrev pub symOf : Definition → Sym
-symOf d = record { index = d .index; value = d .value; size = d .size; protected = d .guarded; absolute = d .absolute }
+abbrev pub definitionOf : Definition → model.Definition
+definitionOf d = record { index = d .index; value = d .value; size = d .size; protected = d .protected; absolute = d .absolute }
 
-abbrev pub definitionFound : Answer → Found
-definitionFound Absent = none
-definitionFound (Present d) = hit (symOf d)
+abbrev pub exportedOf : Exported → model.Exported
+exportedOf Absent = none
+exportedOf (Present d) = hit (definitionOf d)
 
 -- the places of the words that RELR names; refusal 17 leaves no word before any address
 unfoldable pub placesOf : List Word → List ℕ
@@ -53,6 +55,10 @@ namedWords image r = relrWords entries.none (relrsFrom image (r .relr) 0 (r .rel
 unfoldable pub relasOf : List ℕ → Record → List Rela
 relasOf image r = relasFrom image (r .rela) 0 (r .relas) ++ relasFrom image (r .plt) 0 (r .plts)
 
+-- what an entry with that symbol searches for
+abbrev pub wantedBy : List ℕ → Record → ℕ → Wanted
+wantedBy image r index = byName (symbolName image (r .symbols) (r .strings) index)
+
 -- what an entry is, by the row of its type
 unfoldable pub entryBy : List ℕ → Record → ℕ → Rela → Row → Entry
 entryBy image r base e ignored = pass
@@ -60,22 +66,22 @@ entryBy image r base e passedOver = pass
 entryBy image r base e turnedAway = pass
 entryBy image r base e (writes noSearch f) = fixed (e .place) (f .width) (f .value 0 (e .addend) base (base + e .place))
 entryBy image r base e (writes inScope f) =
-    symbol (e .place) (f .width) (symbolName image (r .symbols) (r .strings) (e .symbol)) (λ S. f .value S (e .addend) base (base + e .place))
+    symbol (e .place) (f .width) (wantedBy image r (e .symbol)) (λ S. f .value S (e .addend) base (base + e .place))
 entryBy image r base e copies =
-    copy (e .place) (symbolName image (r .symbols) (r .strings) (e .symbol)) (symbolAt image (r .symbols) (e .symbol) .size)
+    copy (e .place) (wantedBy image r (e .symbol)) (symbolAt image (r .symbols) (e .symbol) .size)
 
 abbrev pub entryOf : List ℕ → Record → ℕ → Rela → Entry
 entryOf image r base e = entryBy image r base e (rowOf (e .rtype))
 
--- the object of a file at an offset, in an arena at `address`; the host's relocation tables are not read
-unfoldable pub objectAt : ℕ → File → ℕ → Obj
-objectAt address f off =
+-- the object of a file at an offset, in a setting; the host's relocation tables are not read
+unfoldable pub objectAt : Setting → File → ℕ → Obj
+objectAt setting f off =
     record {
       offset = off;
       span = objectSpan (f .host) (f .bytes);
-      base = address + off;
+      base = setting .address + off;
       image = objectBytes (f .host) (f .bytes);
-      find = λ name. definitionFound (answerIn (fileImage f) (viewOf (fileRecord f)) name);
+      find = λ wanted. exportedOf (answerIn (fileImage f) (viewOf (fileRecord f)) (wanted .name));
       words = pick (f .host) [] (placesOf (namedWords (fileImage f) (fileRecord f)));
-      entries = pick (f .host) [] (map (entryOf (fileImage f) (fileRecord f) (address + off)) (relasOf (fileImage f) (fileRecord f)));
+      entries = pick (f .host) [] (map (entryOf (fileImage f) (fileRecord f) (setting .address + off)) (relasOf (fileImage f) (fileRecord f)));
     }

@@ -1,3 +1,4 @@
+pub mod Setting
 pub mod Instance
 pub mod Verdict
 pub mod Report

@@ -7,26 +7,26 @@ use Prim.Native.Nat.{ℕ, _+_, _*_, _^_}
 use lib.Dec.{eqb}
 use lib.ListN.{getD}
 use Rattle.words.specs.Choice.{pick, both, some}
-use Rattle.model.specs.Symbols.{Answer, absent, answer}
+use Rattle.model.specs.Symbols.{Resolved, absent, answer}
 use Rattle.model.specs.Objects.{Objs}
 use Rattle.model.specs.Scope.{resolve, resolveCopy}
-use Rattle.object.specs.Symbol.{symbolAt, symbolName, bindingOf}
+use Rattle.object.specs.Symbol.{symbolAt, bindingOf}
 use Rattle.object.specs.RelocationTypes.{Row, noSearch, inScope, ignored, passedOver, turnedAway, copies, writes, rowOf}
 use Rattle.object.specs.Record.{Record}
 use Rattle.object.specs.declared.relocate.Rela.{Rela}
-use Rattle.binder.specs.Instance.{File, fileImage, fileRecord, relasOf}
+use Rattle.binder.specs.Instance.{File, fileImage, fileRecord, relasOf, wantedBy}
 use Rattle.binder.specs.Verdict.{noFile}
 
 -- a word: the top four bits are the kind, the low 28 a number
 abbrev pub reportWord : ℕ → ℕ → ℕ
 reportWord kind n = kind * 2 ^ 28 + n
 
-abbrev pub isAbsent : Answer → Bool
+abbrev pub isAbsent : Resolved → Bool
 isAbsent absent = true
 isAbsent (answer k s a) = false
 
 -- "Unresolved with binding other than 2", of an entry of object `k` whose search had that answer
-abbrev pub unresolved : List ℕ → Record → Rela → Answer → Bool
+abbrev pub unresolved : List ℕ → Record → Rela → Resolved → Bool
 unresolved image r e a = both (isAbsent a) (not (eqb (bindingOf (symbolAt image (r .symbols) (e .symbol))) 2))
 
 -- an undefined entry, by the row of its type
@@ -35,8 +35,8 @@ undefinedBy S k image r e ignored = false
 undefinedBy S k image r e passedOver = false
 undefinedBy S k image r e turnedAway = false
 undefinedBy S k image r e (writes noSearch f) = false
-undefinedBy S k image r e (writes inScope f) = unresolved image r e (resolve S k (symbolName image (r .symbols) (r .strings) (e .symbol)))
-undefinedBy S k image r e copies = unresolved image r e (resolveCopy S (symbolName image (r .symbols) (r .strings) (e .symbol)))
+undefinedBy S k image r e (writes inScope f) = unresolved image r e (resolve S k (wantedBy image r (e .symbol)))
+undefinedBy S k image r e copies = unresolved image r e (resolveCopy S (wantedBy image r (e .symbol)))
 
 abbrev pub isUndefined : Objs → ℕ → List ℕ → Record → Rela → Bool
 isUndefined S k image r e = undefinedBy S k image r e (rowOf (e .rtype))

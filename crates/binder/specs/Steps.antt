@@ -4,8 +4,7 @@ pub mod Table
 pub mod OrderState
 pub mod Prepared
 pub mod ScopeModel
-pub mod Asked
 pub mod Relocating
 pub mod RunSteps
 pub mod Needed
-pub mod Settled
+pub mod Finished

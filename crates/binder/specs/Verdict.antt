@@ -6,7 +6,7 @@ use Prim.Native.Nat.{ℕ, zero, suc, _+_, _-_, min}
 use lib.Dec.{eqb, leb}
 use lib.ListN.{getD}
 use Rattle.words.specs.Choice.{pick, both, either}
-use Rattle.model.specs.Symbols.{Name, Sym, Answer, absent, answer}
+use Rattle.model.specs.Symbols.{Definition, Resolved, absent, answer}
 use Rattle.model.specs.Objects.{Objs, obj}
 use Rattle.model.specs.Scope.{resolve, resolveCopy}
 use Rattle.object.specs.Refusal.{require}
@@ -14,33 +14,30 @@ use Rattle.object.specs.TableBytes.{inWritable}
 use Rattle.object.specs.Symbol.{bindingOf}
 use Rattle.object.specs.RelocationTypes.{Row, noSearch, inScope, ignored, passedOver, turnedAway, copies, writes, rowOf}
 use Rattle.object.specs.Entries.{Word, place, nowhere}
-use Rattle.object.specs.Record.{Record, checkedSymbol, nameOf}
+use Rattle.object.specs.Record.{Record, checkedSymbol}
 use Rattle.object.specs.Loaded.{objectRefusal}
 use Rattle.object.specs.declared.symbol.Symbol.{Symbol}
 use Rattle.object.specs.declared.relocate.Rela.{Rela}
 use Rattle.object.specs.declared.entry_symbol.CheckedSymbol.{CheckedSymbol}
-use Rattle.object.specs.declared.entry_symbol.CheckedSymbol.the-variants.{Refused, Checked}
-use Rattle.binder.specs.Instance.{File, fileImage, fileRecord, namedWords, relasOf}
-
--- a refusal with its object, or none
-pub data Verdict : Type 0 where
-  passed : Verdict
-  refused : (number object : ℕ) → Verdict
+use Rattle.object.specs.declared.entry_symbol.CheckedSymbol as checked
+use Rattle.binder.specs.declared.Verdict.{Verdict}
+use Rattle.binder.specs.declared.Verdict.the-variants.{Passed, Refused}
+use Rattle.binder.specs.Instance.{File, fileImage, fileRecord, namedWords, relasOf, wantedBy}
 
 -- the first refusal of two
 abbrev pub first : Verdict → Verdict → Verdict
-first passed v = v
-first (refused n k) v = refused n k
+first Passed v = v
+first (Refused n k) v = Refused n k
 
 -- a refusal of object `k`; 0 is none
 unfoldable pub verdict : ℕ → ℕ → Verdict
-verdict n k = pick (eqb n 0) passed (refused n k)
+verdict n k = pick (eqb n 0) Passed (Refused n k)
 
 -- ---- 4 to 12: "object by object"
 
 -- the files from object `k` on, each at its object's offset in an arena of `size` bytes
 unfoldable pub loadVerdict : Objs → ℕ → ℕ → List File → Verdict
-loadVerdict S size k [] = passed
+loadVerdict S size k [] = Passed
 loadVerdict S size k (f ∷ fs) =
     first (verdict (objectRefusal (f .host) (size - (obj S k) .offset) (f .bytes)) k) (loadVerdict S size (k + 1) fs)
 
@@ -56,14 +53,14 @@ wordRefusal r nowhere = 17
 
 -- not 18: "A non-empty COPY from an absolute symbol, from outside the definer's span, or overlapping its destination": `n` bytes from the
 -- symbol `s` of object `d` to the place `p` of object `k`
-unfoldable pub copyOk : Objs → ℕ → ℕ → ℕ → Sym → ℕ → Bool
+unfoldable pub copyOk : Objs → ℕ → ℕ → ℕ → Definition → ℕ → Bool
 copyOk S k p d s n =
     both (not (s .absolute))
     (both (leb (s .value + n) ((obj S d) .span))
     (either (leb ((obj S k) .offset + p + n) ((obj S d) .offset + s .value)) (leb ((obj S d) .offset + s .value + n) ((obj S k) .offset + p))))
 
 -- 17 and 18 of a COPY to the place `p` of object `k`, whose own symbol has that size: nothing is looked at where nothing is copied
-unfoldable pub copyRefusal : Objs → ℕ → Record → ℕ → ℕ → Answer → ℕ
+unfoldable pub copyRefusal : Objs → ℕ → Record → ℕ → ℕ → Resolved → ℕ
 copyRefusal S k r p size absent = 0
 copyRefusal S k r p size (answer d s a) =
     pick (eqb (min size (s .size)) 0) 0
@@ -71,8 +68,8 @@ copyRefusal S k r p size (answer d s a) =
 
 -- 14 and 15 of the entry's symbol, else what follows
 abbrev pub symbolThen : CheckedSymbol → (Symbol → ℕ) → ℕ
-symbolThen (Refused n) rest = n
-symbolThen (Checked y) rest = rest y
+symbolThen (checked.the-variants.Refused n) rest = n
+symbolThen (checked.the-variants.Checked y) rest = rest y
 
 -- 14 to 18 of an entry, by the row of its type
 unfoldable pub refusalBy : Objs → ℕ → List ℕ → Record → Rela → Row → ℕ
@@ -82,18 +79,18 @@ refusalBy S k image r e turnedAway = 16
 refusalBy S k image r e (writes noSearch f) = writtenRefusal r (e .place) (f .width)
 refusalBy S k image r e (writes inScope f) = symbolThen (checkedSymbol image r (e .symbol)) (λ y. writtenRefusal r (e .place) (f .width))
 refusalBy S k image r e copies =
-    symbolThen (checkedSymbol image r (e .symbol)) (λ y. copyRefusal S k r (e .place) (y .size) (resolveCopy S (nameOf image r y)))
+    symbolThen (checkedSymbol image r (e .symbol)) (λ y. copyRefusal S k r (e .place) (y .size) (resolveCopy S (wantedBy image r (e .symbol))))
 
 abbrev pub entryRefusal : Objs → ℕ → List ℕ → Record → Rela → ℕ
 entryRefusal S k image r e = refusalBy S k image r e (rowOf (e .rtype))
 
 -- the words that RELR names, then the entries of RELA and PLT
 unfoldable pub wordsVerdict : ℕ → Record → List Word → Verdict
-wordsVerdict k r [] = passed
+wordsVerdict k r [] = Passed
 wordsVerdict k r (w ∷ ws) = first (verdict (wordRefusal r w) k) (wordsVerdict k r ws)
 
 unfoldable pub entriesVerdict : Objs → ℕ → List ℕ → Record → List Rela → Verdict
-entriesVerdict S k image r [] = passed
+entriesVerdict S k image r [] = Passed
 entriesVerdict S k image r (e ∷ es) = first (verdict (entryRefusal S k image r e) k) (entriesVerdict S k image r es)
 
 unfoldable pub objectVerdict : Objs → ℕ → File → Verdict
@@ -107,5 +104,5 @@ noFile = record { host = true; bytes = [] }
 
 -- the objects of an order, one after another
 unfoldable pub orderVerdict : Objs → List File → List ℕ → Verdict
-orderVerdict S files [] = passed
+orderVerdict S files [] = Passed
 orderVerdict S files (k ∷ ks) = first (objectVerdict S k (getD files k noFile)) (orderVerdict S files ks)

@@ -4,14 +4,14 @@ ghost use Prim.Native.Nat.{_≤_};
 ghost use lib.Dec.{eqb};
 ghost use lib.ListN.{length, replicate, take};
 ghost use Rattle.sheet.specs.Steps.Parts.{inputsIn};
+ghost use Rattle.binder.specs.Setting.{settingAt};
 ghost use Rattle.binder.specs.Bind.{outcome, bindOf, allows};
-ghost use Rattle.scope.specs.Steps.Seats.{Filtered};
-ghost use Rattle.binder.specs.Steps.Settled.{endsBy, Relocated, BoundSet, settledOf};
-ghost use Rattle.binder.specs.Steps.Prepared.{metBy};
+ghost use Rattle.scope.specs.Steps.Links.{Filtered};
+ghost use Rattle.binder.specs.Steps.Finished.{endsBy, Relocated, BoundSet, finishedOf};
 use crate::Answer;
 use crate::Policy;
+use crate::Verdict;
 use crate::order::Order;
-use crate::prepare::Met;
 use crate::report::Progress;
 use sheet::sheet::Parts;
 
@@ -35,28 +35,28 @@ fn is_zero(n: u32) -> bool
 }
 
 // The refusal of relocating: 14 to 18, then 19, then 20.
-fn end(p: Progress, policy: Policy) -> Met
-    ensures { λ r. ⌜ metBy r ≡ endsBy policy p ⌝ }
+fn end(p: Progress, policy: Policy) -> Verdict
+    ensures { λ r. ⌜ r ≡ endsBy policy p ⌝ }
 {
     if p.refusal != 0 {
-        return Met::Refused {
+        return Verdict::Refused {
             number: p.refusal,
             object: p.object,
         };
     }
     if !allows_undefined(policy, p.undefined) {
-        return Met::Refused {
+        return Verdict::Refused {
             number: 19,
             object: p.undefined,
         };
     }
     if p.full {
-        return Met::Refused {
+        return Verdict::Refused {
             number: 20,
             object: 0,
         };
     }
-    Met::Passed
+    Verdict::Passed
 }
 
 // Refusals 14 to 20 of the objects that the table of parts names, which are loaded: they are relocated in any order of them.
@@ -64,20 +64,19 @@ fn bind_in(
     bytes: &[u8],
     parts: Parts,
     arena: &mut [u8],
-    address: u64,
     policy: Policy,
     report: &mut [u32],
     table: &[u64],
     order: Order,
-) -> Met
-    requires { ⌜ (order .count ≤ 64) × Filtered (now table) (parts .count) ⌝ }
-    ensures { λ r. ⌜ Relocated (inputsIn (now (bytes .entry)) parts) (parts .count) (now (table .entry)) (take (order .count) (order .list)) (now (arena .entry)) address policy (now (report .entry)) (now (arena .exit)) (now (report .exit)) r ⌝ }
+) -> Verdict
+    requires { ⌜ (order .count ≤ 64) × Filtered (now table) ⌝ }
+    ensures { λ r. ⌜ Relocated (inputsIn (now (bytes .entry)) parts) (now (table .entry)) (take (order .count) (order .list)) (now (arena .entry)) policy (now (report .entry)) (now (arena .exit)) (now (report .exit)) r ⌝ }
 {
-    let p = crate::relocate::run_order(bytes, parts, arena, report, table, address, order);
+    let p = crate::relocate::run_order(bytes, parts, arena, report, table, order);
     end(p, policy)
 }
 
-// Refusals 1 to 20 of the objects that the table of parts names, bound in the order of the set.
+// Refusals 2 to 20 of the objects that the table of parts names, bound in the order of the set.
 fn bind_set(
     bytes: &[u8],
     parts: Parts,
@@ -85,24 +84,24 @@ fn bind_set(
     address: u64,
     policy: Policy,
     report: &mut [u32],
-) -> Met
-    requires { ⌜ (parts .count ≤ 64) × (length (inputsIn (now bytes) parts) ≡ parts .count) × (now report ≡ replicate (length (now report)) 0) ⌝ }
-    ensures { λ r. ⌜ BoundSet (inputsIn (now (bytes .entry)) parts) (length (now (arena .entry))) address policy (length (now (report .entry))) (now (arena .exit)) (now (report .exit)) r ⌝ }
+) -> Verdict
+    requires { ⌜ (2 ≤ parts .count) × (parts .count ≤ 64) × (length (inputsIn (now bytes) parts) ≡ parts .count) × (now report ≡ replicate (length (now report)) 0) ⌝ }
+    ensures { λ r. ⌜ BoundSet (settingAt address) (inputsIn (now (bytes .entry)) parts) (length (now (arena .entry))) policy (length (now (report .entry))) (now (arena .exit)) (now (report .exit)) r ⌝ }
 {
-    let mut table = [0u64; 1024];
+    let mut table = [0u64; 1026];
     let m = crate::prepare::prepare(bytes, parts, arena, address, &mut table);
-    let Met::Passed = m else {
+    let Verdict::Passed = m else {
         return m;
     };
     let order = crate::needs::order_of(bytes, parts, arena, &table);
-    bind_in(bytes, parts, arena, address, policy, report, &table, order)
+    bind_in(bytes, parts, arena, policy, report, &table, order)
 }
 
 // The answer; a refusal leaves zeros. No other function clears after a refusal of `bind`.
-fn settle(m: Met, arena: &mut [u8], report: &mut [u32]) -> Answer
-    ensures { λ r. ⌜ outcome r (now (arena .exit)) (now (report .exit)) ≡ settledOf m (now (arena .entry)) (now (report .entry)) ⌝ }
+fn finish(m: Verdict, arena: &mut [u8], report: &mut [u32]) -> Answer
+    ensures { λ r. ⌜ outcome r (now (arena .exit)) (now (report .exit)) ≡ finishedOf m (now (arena .entry)) (now (report .entry)) ⌝ }
 {
-    let Met::Refused { number, object } = m else {
+    let Verdict::Refused { number, object } = m else {
         return Answer::Bound;
     };
     words::bytes::clear(arena);
@@ -113,7 +112,7 @@ fn settle(m: Met, arena: &mut [u8], report: &mut [u32]) -> Answer
     }
 }
 
-// Binds the set of a sheet and its bytes in the arena at `address`.
+// Binds the set of a sheet and its bytes in the arena at `address`. A refused sheet's table of parts names no object.
 pub fn bind(
     sheet: &[u32],
     bytes: &[u8],
@@ -122,10 +121,17 @@ pub fn bind(
     policy: Policy,
     report: &mut [u32],
 ) -> Answer
-    ensures { λ r. ⌜ outcome r (now (arena .exit)) (now (report .exit)) ≡ bindOf (now (sheet .entry)) (now (bytes .entry)) (length (now (arena .entry))) address policy (length (now (report .entry))) ⌝ }
+    ensures { λ r. ⌜ outcome r (now (arena .exit)) (now (report .exit)) ≡ bindOf (settingAt address) (now (sheet .entry)) (now (bytes .entry)) (length (now (arena .entry))) policy (length (now (report .entry))) ⌝ }
 {
     words::bytes::clear_words(report);
     let parts = sheet::sheet::parts_of(sheet, bytes.len());
+    if parts.count < 2 {
+        let one = Verdict::Refused {
+            number: 1,
+            object: 0,
+        };
+        return finish(one, arena, report);
+    }
     let m = bind_set(bytes, parts, arena, address, policy, report);
-    settle(m, arena, report)
+    finish(m, arena, report)
 }

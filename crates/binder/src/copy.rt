@@ -3,15 +3,12 @@ ghost use mathlib.Core.Path.{_≡_};
 ghost use Prim.Native.Nat.{_+_};
 ghost use lib.Dec.{leb};
 ghost use lib.ListN.{take};
-ghost use Rattle.binder.specs.Steps.Relocating.{left, wrote, copyFits, copyBytes, copyOf};
+ghost use Rattle.binder.specs.Steps.Relocating.{wrote, copyFits, copyBytes};
 use crate::report::Progress;
 use crate::turn::Turn;
 use object::hash_tables::Definition;
-use object::relocate::Rela;
-use object::symbol::Symbol;
 use object::table_bytes::Bounds;
-use scope::scope::Scoped;
-use scope::seats::Seat;
+use scope::links::Link;
 
 // Whether the `n` bytes at `place` of what starts at `off` end inside `size` bytes.
 pub(crate) fn ends_inside(size: usize, off: usize, place: usize, n: usize) -> bool
@@ -29,9 +26,9 @@ pub(crate) fn ends_inside(size: usize, off: usize, place: usize, n: usize) -> bo
     true
 }
 
-// Whether a COPY of `n` bytes of the definition `d`, in the object at the seat `s`, to the place `to` passes refusal 18; `size` is the
+// Whether a COPY of `n` bytes of the definition `d`, in the object at the link `s`, to the place `to` passes refusal 18; `size` is the
 // arena's length.
-pub(crate) fn copy_fits(size: usize, t: Turn, to: usize, s: Seat, d: Definition, n: usize) -> bool
+pub(crate) fn copy_fits(size: usize, t: Turn, to: usize, s: Link, d: Definition, n: usize) -> bool
     ensures { λ r. ⌜ r ≡ copyFits size t to s d n ⌝ }
 {
     let value = d.value as usize;
@@ -56,14 +53,14 @@ pub(crate) fn copy_fits(size: usize, t: Turn, to: usize, s: Seat, d: Definition,
     false
 }
 
-// Type 5, where the definition `d` was found in the object at the seat `s`: `n` bytes.
+// Type 5, where the definition `d` was found in the object at the link `s`: `n` bytes.
 pub(crate) fn copy_found(
     arena: &mut [u8],
     p: Progress,
     t: Turn,
     b: Bounds,
     to: usize,
-    s: Seat,
+    s: Link,
     d: Definition,
     n: usize,
 ) -> Progress
@@ -80,32 +77,4 @@ pub(crate) fn copy_found(
     }
     crate::turn::copy_part(arena, t.offset, to, s.offset + (d.value as usize), n);
     p
-}
-
-// Type 5, of the entry with number `i` and the symbol `y`, with the answer of its search.
-pub(crate) fn copy_answer(
-    arena: &mut [u8],
-    report: &mut [u32],
-    p: Progress,
-    table: &[u64],
-    t: Turn,
-    b: Bounds,
-    i: u32,
-    e: Rela,
-    y: Symbol,
-    s: Scoped,
-) -> Progress
-    ensures { λ r. ⌜ left r (now (arena .exit)) (now (report .exit)) ≡ copyOf (now (table .entry)) t (take (b .count) (b .segments)) e i y s p (now (arena .entry)) (now (report .entry)) ⌝ }
-{
-    let Scoped::Found {
-        object,
-        definition,
-        address: _,
-    } = s
-    else {
-        return crate::report::unresolved(report, p, y, t.number, i);
-    };
-    let n = words::bytes::smaller(y.size as usize, definition.size as usize);
-    let seat = scope::seats::seat_at(table, object);
-    copy_found(arena, p, t, b, e.place, seat, definition, n)
 }

@@ -16,6 +16,12 @@ pub enum Policy {
     Lenient,
 }
 
+// The checks of a set: passed, or the first refusal with its object.
+pub enum Verdict {
+    Passed,
+    Refused { number: u32, object: u32 },
+}
+
 // The answer of a call that binds: refusals have a number and an object.
 pub enum Answer {
     Bound,

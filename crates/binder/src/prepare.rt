@@ -1,23 +1,19 @@
-// What every call does first: refusals 1 to 3 of a set, then its objects into the arena, refusals 4 to 12, object by object.
+// What every call does with a set first: refusals 2 and 3, then its objects into the arena, refusals 4 to 12, object by object.
 ghost use mathlib.Core.Path.{_≡_};
 ghost use Prim.Native.Nat.{_≤_};
 ghost use lib.ListN.{length};
 ghost use Rattle.sheet.specs.Steps.Parts.{inputsIn};
+ghost use Rattle.binder.specs.Setting.{settingAt};
 ghost use Rattle.binder.specs.Bind.{filesOf};
 ghost use Rattle.binder.specs.Steps.Prepared.{LoadedAt, LoadedFiles, Prepared};
-use scope::seats::Seat;
+use crate::Verdict;
+use scope::links::Link;
 use sheet::sheet::Parts;
 
-// The checks of a set: passed, or the first refusal with its object.
-pub enum Met {
-    Passed,
-    Refused { number: u32, object: u32 },
-}
-
-// One object: its refusal, or its seat.
+// One object: its refusal, or its link.
 pub enum Loaded {
     Refused(u32),
-    At(Seat),
+    At(Link),
 }
 
 // Loads an object at the offset `off`, in the part of the arena from there to its end.
@@ -32,16 +28,16 @@ fn load_at(arena: &mut [u8], off: usize, file: &[u8], host: bool) -> Loaded
     }
     let o = r.object;
     let view = object::dynamic_fields::view_of(o);
-    let seat = Seat {
+    let link = Link {
         offset: off,
         span: o.span,
         view: view,
     };
-    Loaded::At(seat)
+    Loaded::At(link)
 }
 
-// Loads the objects that the table of parts names, one after another, writes zeros behind the last, and fills the table of seats.
-fn load_all(bytes: &[u8], parts: Parts, arena: &mut [u8], table: &mut [u64]) -> Met
+// Loads the objects that the table of parts names, one after another, writes zeros behind the last, and fills the table of links.
+fn load_all(bytes: &[u8], parts: Parts, arena: &mut [u8], table: &mut [u64]) -> Verdict
     requires { ⌜ (parts .count ≤ 64) × (length (inputsIn (now bytes) parts) ≡ parts .count) × (1024 ≤ length (now table)) ⌝ }
     ensures { λ r. ⌜ LoadedFiles (filesOf (inputsIn (now (bytes .entry)) parts)) (now (arena .entry)) (now (arena .exit)) (now (table .exit)) r ⌝ }
 {
@@ -53,52 +49,48 @@ fn load_all(bytes: &[u8], parts: Parts, arena: &mut [u8], table: &mut [u64]) -> 
         let p = load_at(arena, off, file, k == 0);
         match p {
             Loaded::Refused(number) => {
-                return Met::Refused {
+                return Verdict::Refused {
                     number: number,
                     object: k as u32,
                 };
             }
             Loaded::At(s) => {
-                scope::seats::put_seat(table, k, s);
+                scope::links::put_link(table, k, s);
                 off += s.span;
                 k += 1;
             }
         }
     }
     words::bytes::zero(arena, off, arena.len() - off);
-    Met::Passed
+    Verdict::Passed
 }
 
-// Refusals 1 to 12 of the objects that the table of parts names; what passes is loaded, whatever the arena holds before, and its seats are
-// in the table. A refused sheet's table of parts names no object.
+// Refusals 2 to 12 of the objects that the table of parts names; what passes is loaded, whatever the arena holds before, and its links,
+// its count and the arena's address are in the table.
 pub(crate) fn prepare(
     bytes: &[u8],
     parts: Parts,
     arena: &mut [u8],
     address: u64,
     table: &mut [u64],
-) -> Met
-    requires { ⌜ (parts .count ≤ 64) × (length (inputsIn (now bytes) parts) ≡ parts .count) × (1024 ≤ length (now table)) ⌝ }
-    ensures { λ r. ⌜ Prepared (inputsIn (now (bytes .entry)) parts) address (now (arena .entry)) (now (arena .exit)) (now (table .exit)) r ⌝ }
+) -> Verdict
+    requires { ⌜ (parts .count ≤ 64) × (length (inputsIn (now bytes) parts) ≡ parts .count) × (1026 ≤ length (now table)) ⌝ }
+    ensures { λ r. ⌜ Prepared (settingAt address) (inputsIn (now (bytes .entry)) parts) (now (arena .entry)) (now (arena .exit)) (now (table .exit)) r ⌝ }
 {
-    if parts.count < 2 {
-        return Met::Refused {
-            number: 1,
-            object: 0,
-        };
-    }
     if !sheet::sheet::arena_ok(arena.len(), address) {
-        return Met::Refused {
+        return Verdict::Refused {
             number: 2,
             object: 0,
         };
     }
-    let t = sheet::sheet::twin(bytes, parts);
+    let t = sheet::sheet::duplicate(bytes, parts);
     if t != 0 {
-        return Met::Refused {
+        return Verdict::Refused {
             number: 3,
             object: t as u32,
         };
     }
-    load_all(bytes, parts, arena, table)
+    let m = load_all(bytes, parts, arena, table);
+    scope::links::put_set(table, parts.count, address);
+    m
 }

@@ -4,19 +4,19 @@ ghost use Prim.Native.Nat.{_≤_};
 ghost use lib.ListN.{length, replicate};
 ghost use Rattle.sheet.specs.Steps.Parts.{inputsIn};
 ghost use Rattle.binder.specs.Steps.ScopeModel.{scopedOf};
-ghost use Rattle.binder.specs.Bind.{replied, replyOf, queryOf};
-ghost use Rattle.binder.specs.Steps.Asked.{askOf};
+ghost use Rattle.binder.specs.Setting.{settingAt};
+ghost use Rattle.binder.specs.Bind.{replied, replyOf, askSet, queryOf};
 ghost use Rattle.binder.specs.declared.Reply.the-variants.{Refused};
 use crate::Reply;
-use crate::prepare::Met;
-use scope::scope::Scoped;
+use crate::Verdict;
+use scope::scope::Resolved;
 use sheet::sheet::Parts;
 
 // The answer of a search, as a query gives it.
-fn reply_of(s: Scoped) -> Reply
+fn reply_of(s: Resolved) -> Reply
     ensures { λ r. ⌜ r ≡ replyOf (scopedOf s) ⌝ }
 {
-    let Scoped::Found {
+    let Resolved::Found {
         object,
         definition,
         address,
@@ -42,7 +42,7 @@ fn refuse(number: u32, object: u32, arena: &mut [u8]) -> Reply
     }
 }
 
-// Refusals 1 to 13 of the objects that the table of parts names, and the answer.
+// Refusals 2 to 13 of the objects that the table of parts names, and the answer.
 fn ask_set(
     bytes: &[u8],
     parts: Parts,
@@ -51,20 +51,20 @@ fn ask_set(
     requester: usize,
     name: &[u8],
 ) -> Reply
-    requires { ⌜ (parts .count ≤ 64) × (length (inputsIn (now bytes) parts) ≡ parts .count) ⌝ }
-    ensures { λ r. ⌜ replied r (now (arena .exit)) ≡ askOf (inputsIn (now (bytes .entry)) parts) (length (now (arena .entry))) address requester (now (name .entry)) ⌝ }
+    requires { ⌜ (2 ≤ parts .count) × (parts .count ≤ 64) × (length (inputsIn (now bytes) parts) ≡ parts .count) ⌝ }
+    ensures { λ r. ⌜ replied r (now (arena .exit)) ≡ askSet (settingAt address) (inputsIn (now (bytes .entry)) parts) (length (now (arena .entry))) requester (now (name .entry)) ⌝ }
 {
     let count = parts.count;
-    let mut table = [0u64; 1024];
+    let mut table = [0u64; 1026];
     let m = crate::prepare::prepare(bytes, parts, arena, address, &mut table);
-    if let Met::Refused { number, object } = m {
+    if let Verdict::Refused { number, object } = m {
         return refuse(number, object, arena);
     }
     if count <= requester {
         return refuse(13, 0, arena);
     }
     let gnu = words::hash::gnu_hash(name);
-    let s = scope::scope::resolve(arena, &table, count, address, requester, name, gnu);
+    let s = scope::scope::resolve(arena, &table, requester, name, gnu);
     reply_of(s)
 }
 
@@ -77,8 +77,11 @@ pub fn query(
     requester: u32,
     name: &[u8],
 ) -> Reply
-    ensures { λ r. ⌜ replied r (now (arena .exit)) ≡ queryOf (now (sheet .entry)) (now (bytes .entry)) (length (now (arena .entry))) address requester (now (name .entry)) ⌝ }
+    ensures { λ r. ⌜ replied r (now (arena .exit)) ≡ queryOf (settingAt address) (now (sheet .entry)) (now (bytes .entry)) (length (now (arena .entry))) requester (now (name .entry)) ⌝ }
 {
     let parts = sheet::sheet::parts_of(sheet, bytes.len());
+    if parts.count < 2 {
+        return refuse(1, 0, arena);
+    }
     ask_set(bytes, parts, arena, address, requester as usize, name)
 }

@@ -1,7 +1,7 @@
 // Relocation: port of strategies/relocate.rs. The objects one after another: RELR, RELA, PLT; refusals 14 to 18, entry by entry.
 ghost use mathlib.Core.Path.{_≡_};
 ghost use mathlib.Core.Bool.{true};
-ghost use Prim.Native.Nat.{_+_, _*_, _≤_};
+ghost use Prim.Native.Nat.{_+_, _-_, _*_, _≤_};
 ghost use lib.Dec.{eqb};
 ghost use lib.ListN.{length, take};
 ghost use Rattle.words.specs.Choice.{pick};
@@ -13,9 +13,9 @@ ghost use Rattle.object.specs.declared.relocate.Action.the-variants as actions;
 ghost use Rattle.object.specs.Record.{heldBy, checkedSymbol};
 ghost use Rattle.object.specs.Steps.WritableRange.{WritableRange};
 ghost use Rattle.sheet.specs.Steps.Parts.{inputsIn};
-ghost use Rattle.scope.specs.Steps.Seats.{Filtered};
+ghost use Rattle.scope.specs.Steps.Links.{Filtered};
 ghost use Rattle.binder.specs.Steps.Relocating.{left, wrote, started, imageIn, fixedOf, symbolRefusal, writeFound, soughtFor, soughtForCopy, symbolicOf, copyingOf, runAction, runTable, runTables, runObject, runAt, runOrder};
-ghost use Rattle.binder.specs.Steps.RunSteps.{InReach, EntriesPassed, SymbolsOf, EntryRead, addressIn, SymbolsPassed};
+ghost use Rattle.binder.specs.Steps.RunSteps.{InReach, RelativesWritten, EntriesPassed, SymbolsOf, EntryRead, addressFound, SymbolsPassed};
 ghost use Rattle.binder.specs.declared.relocate.Address.the-variants.{At};
 use crate::order::Order;
 use crate::report::Progress;
@@ -27,7 +27,7 @@ use object::relocate::Rela;
 use object::symbol::Symbol;
 use object::table_bytes::Bounds;
 use object::table_bytes::Writable;
-use scope::scope::Scoped;
+use scope::scope::Resolved;
 use sheet::sheet::Parts;
 
 // ---- RELA and PLT
@@ -56,39 +56,23 @@ fn symbol_of(arena: &[u8], t: Turn, o: ObjectData, index: u32) -> CheckedSymbol
 }
 
 // The search for the name of an entry's symbol.
-fn search(
-    arena: &[u8],
-    table: &[u64],
-    count: usize,
-    address: u64,
-    t: Turn,
-    strings: usize,
-    name: u32,
-) -> Scoped
-    requires { ⌜ Filtered (now table) count ⌝ }
-    ensures { λ r. ⌜ r ≡ soughtFor address (now (table .entry)) count t (now (arena .entry)) (nameAt (imageIn (now (arena .entry)) t) (strings + name)) ⌝ }
+fn search(arena: &[u8], table: &[u64], t: Turn, strings: usize, name: u32) -> Resolved
+    requires { ⌜ Filtered (now table) ⌝ }
+    ensures { λ r. ⌜ r ≡ soughtFor (now (table .entry)) t (now (arena .entry)) (nameAt (imageIn (now (arena .entry)) t) (strings + name)) ⌝ }
 {
     let wanted = words::names::name_off(crate::turn::image_of(arena, t), strings, name as usize);
     let gnu = words::hash::gnu_hash(wanted);
-    scope::scope::resolve(arena, table, count, address, t.number as usize, wanted, gnu)
+    scope::scope::resolve(arena, table, t.number as usize, wanted, gnu)
 }
 
 // COPY's search.
-fn search_copy(
-    arena: &[u8],
-    table: &[u64],
-    count: usize,
-    address: u64,
-    t: Turn,
-    strings: usize,
-    name: u32,
-) -> Scoped
-    requires { ⌜ Filtered (now table) count ⌝ }
-    ensures { λ r. ⌜ r ≡ soughtForCopy address (now (table .entry)) count (now (arena .entry)) (nameAt (imageIn (now (arena .entry)) t) (strings + name)) ⌝ }
+fn search_copy(arena: &[u8], table: &[u64], t: Turn, strings: usize, name: u32) -> Resolved
+    requires { ⌜ Filtered (now table) ⌝ }
+    ensures { λ r. ⌜ r ≡ soughtForCopy (now (table .entry)) (now (arena .entry)) (nameAt (imageIn (now (arena .entry)) t) (strings + name)) ⌝ }
 {
     let wanted = words::names::name_off(crate::turn::image_of(arena, t), strings, name as usize);
     let gnu = words::hash::gnu_hash(wanted);
-    scope::scope::resolve_copy(arena, table, count, address, wanted, gnu)
+    scope::scope::resolve_copy(arena, table, wanted, gnu)
 }
 
 // Symbolic, of the entry with number `i` and the symbol `y`: what was found, which is kept, or 0 and a word of the report.
@@ -100,11 +84,11 @@ fn write_found(
     i: u32,
     e: Rela,
     y: Symbol,
-    s: Scoped,
+    s: Resolved,
 ) -> Progress
     ensures { λ r. ⌜ left r (now (arena .exit)) (now (report .exit)) ≡ writeFound t e symbolicWord i y s p (now (arena .entry)) (now (report .entry)) ⌝ }
 {
-    let Scoped::Found {
+    let Resolved::Found {
         object: _,
         definition: _,
         address,
@@ -133,15 +117,13 @@ fn symbolic(
     report: &mut [u32],
     p: Progress,
     table: &[u64],
-    count: usize,
-    address: u64,
     t: Turn,
     o: ObjectData,
     i: u32,
     e: Rela,
 ) -> Progress
-    requires { ⌜ Filtered (now table) count ⌝ }
-    ensures { λ r. ⌜ left r (now (arena .exit)) (now (report .exit)) ≡ symbolicOf address (now (table .entry)) count t (heldBy o) e symbolicWord i (checkedSymbol (imageIn (now (arena .entry)) t) (heldBy o) (e .symbol)) p (now (arena .entry)) (now (report .entry)) ⌝ }
+    requires { ⌜ Filtered (now table) ⌝ }
+    ensures { λ r. ⌜ left r (now (arena .exit)) (now (report .exit)) ≡ symbolicOf (now (table .entry)) t (heldBy o) e symbolicWord i (checkedSymbol (imageIn (now (arena .entry)) t) (heldBy o) (e .symbol)) p (now (arena .entry)) (now (report .entry)) ⌝ }
 {
     let c = symbol_of(arena, t, o, e.symbol);
     let CheckedSymbol::Checked(y) = c else {
@@ -155,7 +137,7 @@ fn symbolic(
         crate::turn::write_word(arena, t.offset, e.place, p.address);
         return p;
     }
-    let s = search(arena, table, count, address, t, o.strings, y.name);
+    let s = search(arena, table, t, o.strings, y.name);
     write_found(arena, report, p, t, i, e, y, s)
 }
 
@@ -164,23 +146,31 @@ fn copying(
     report: &mut [u32],
     p: Progress,
     table: &[u64],
-    count: usize,
-    address: u64,
     t: Turn,
     o: ObjectData,
     i: u32,
     e: Rela,
 ) -> Progress
-    requires { ⌜ Filtered (now table) count ⌝ }
-    ensures { λ r. ⌜ left r (now (arena .exit)) (now (report .exit)) ≡ copyingOf address (now (table .entry)) count t (heldBy o) e i (checkedSymbol (imageIn (now (arena .entry)) t) (heldBy o) (e .symbol)) p (now (arena .entry)) (now (report .entry)) ⌝ }
+    requires { ⌜ Filtered (now table) ⌝ }
+    ensures { λ r. ⌜ left r (now (arena .exit)) (now (report .exit)) ≡ copyingOf (now (table .entry)) t (heldBy o) e i (checkedSymbol (imageIn (now (arena .entry)) t) (heldBy o) (e .symbol)) p (now (arena .entry)) (now (report .entry)) ⌝ }
 {
     let c = symbol_of(arena, t, o, e.symbol);
     let CheckedSymbol::Checked(y) = c else {
         return crate::report::refused(p, t, symbol_refusal(c));
     };
     let b = object::dynamic_fields::bounds_of(o);
-    let s = search_copy(arena, table, count, address, t, o.strings, y.name);
-    crate::copy::copy_answer(arena, report, p, table, t, b, i, e, y, s)
+    let s = search_copy(arena, table, t, o.strings, y.name);
+    let Resolved::Found {
+        object,
+        definition,
+        address: _,
+    } = s
+    else {
+        return crate::report::unresolved(report, p, y, t.number, i);
+    };
+    let n = words::bytes::smaller(y.size as usize, definition.size as usize);
+    let link = scope::links::link_at(table, object);
+    crate::copy::copy_found(arena, p, t, b, e.place, link, definition, n)
 }
 
 // What the type of an entry asks for.
@@ -189,17 +179,15 @@ fn run_action(
     report: &mut [u32],
     p: Progress,
     table: &[u64],
-    count: usize,
-    address: u64,
     t: Turn,
     o: ObjectData,
     i: u32,
     e: Rela,
-    a: Action,
 ) -> Progress
-    requires { ⌜ Filtered (now table) count ⌝ }
-    ensures { λ r. ⌜ left r (now (arena .exit)) (now (report .exit)) ≡ runAction address (now (table .entry)) count t (heldBy o) i e (rowBy a) p (now (arena .entry)) (now (report .entry)) ⌝ }
+    requires { ⌜ Filtered (now table) ⌝ }
+    ensures { λ r. ⌜ left r (now (arena .exit)) (now (report .exit)) ≡ runAction (now (table .entry)) t (heldBy o) i e (rowOf (e .rtype)) p (now (arena .entry)) (now (report .entry)) ⌝ }
 {
+    let a = object::relocate::action_of(e.rtype);
     match a {
         Action::Ignored => p,
         Action::Passed => crate::report::note(
@@ -209,8 +197,8 @@ fn run_action(
         ),
         Action::Irelative => crate::report::refused(p, t, 16),
         Action::Relative => relative(arena, p, t, object::dynamic_fields::bounds_of(o), e),
-        Action::Symbolic => symbolic(arena, report, p, table, count, address, t, o, i, e),
-        Action::Copy => copying(arena, report, p, table, count, address, t, o, i, e),
+        Action::Symbolic => symbolic(arena, report, p, table, t, o, i, e),
+        Action::Copy => copying(arena, report, p, table, t, o, i, e),
     }
 }
 
@@ -243,10 +231,45 @@ fn in_reach(len: usize, t: Turn, at: usize, n: u32, high: usize) -> bool
     n as usize <= (t.span - at) / 24
 }
 
-// As many entries that are Relative as follow one another from entry `start` on, below `n`, with places in low .. high, which is in a writable
-// segment: base + addend. The first entry that is not of this kind. The entries are read where the table is inside the span, and nothing is
-// done elsewhere.
+// As many entries that are Relative as follow one another from entry `start` on, below `n`, with places in low .. high: base + addend. The
+// first entry that is not of this kind. The table and low .. high lie in the part.
 fn relatives(
+    part: &mut [u8],
+    base: u64,
+    at: usize,
+    start: u32,
+    n: u32,
+    low: usize,
+    high: usize,
+) -> u32
+    requires { ⌜ (start ≤ n) × (at + 24 * n ≤ length (now part)) × (8 ≤ high) × (high ≤ length (now part)) ⌝ }
+    ensures { λ r. ⌜ (start ≤ r) × (r ≤ n) × RelativesWritten base at low high start (r - start) (now (part .entry)) (now (part .exit)) ⌝ }
+{
+    let last = high - 8;
+    let mut i = start;
+    let mut k = at + 24 * (start as usize);
+    while i < n {
+        if !is_relative(words::bytes::u32_in(part, k + 8)) {
+            return i;
+        }
+        let place = words::bytes::u64_in(part, k) as usize;
+        if place < low {
+            return i;
+        }
+        if last < place {
+            return i;
+        }
+        let v = words::bytes::sum_u64(base, words::bytes::u64_in(part, k + 16));
+        words::bytes::store_in(part, place, v);
+        k += 24;
+        i += 1;
+    }
+    i
+}
+
+// The same, of the object at its place in the arena, where low .. high is in a writable segment: its part is lent. Nothing is done where the
+// table is not inside the span.
+fn run_relatives(
     arena: &mut [u8],
     t: Turn,
     at: usize,
@@ -261,26 +284,8 @@ fn relatives(
     if !in_reach(arena.len(), t, at, n, high) {
         return start;
     }
-    let last = high - 8;
-    let mut i = start;
-    let mut k = t.offset + at + 24 * (start as usize);
-    while i < n {
-        if !is_relative(words::bytes::u32_in(arena, k + 8)) {
-            return i;
-        }
-        let place = words::bytes::u64_in(arena, k) as usize;
-        if place < low {
-            return i;
-        }
-        if last < place {
-            return i;
-        }
-        let v = words::bytes::sum_u64(t.base, words::bytes::u64_in(arena, k + 16));
-        words::bytes::store_in(arena, t.offset + place, v);
-        k += 24;
-        i += 1;
-    }
-    i
+    let off = t.offset;
+    relatives(&mut arena[off..], t.base, at, start, n, low, high)
 }
 
 // The symbols of an object: where they and their names are, and which of them need no further test of refusals 14 and 15.
@@ -386,8 +391,6 @@ fn symbol_entry(arena: &[u8], t: Turn, y: Symbols, k: usize, low: usize, high: u
 fn address_of(
     arena: &[u8],
     table: &[u64],
-    count: usize,
-    address: u64,
     t: Turn,
     strings: usize,
     name: u32,
@@ -395,16 +398,16 @@ fn address_of(
     last: u64,
     kept: u64,
 ) -> Address
-    requires { ⌜ Filtered (now table) count ⌝ }
-    ensures { λ r. ⌜ r ≡ pick (eqb last number) (At kept) (addressIn (soughtFor address (now (table .entry)) count t (now (arena .entry)) (nameAt (imageIn (now (arena .entry)) t) (strings + name)))) ⌝ }
+    requires { ⌜ Filtered (now table) ⌝ }
+    ensures { λ r. ⌜ r ≡ pick (eqb last number) (At kept) (addressFound (soughtFor (now (table .entry)) t (now (arena .entry)) (nameAt (imageIn (now (arena .entry)) t) (strings + name)))) ⌝ }
 {
     if last == number {
         return Address::At(kept);
     }
-    let s = search(arena, table, count, address, t, strings, name);
+    let s = search(arena, table, t, strings, name);
     match s {
-        Scoped::Absent => Address::Nowhere,
-        Scoped::Found {
+        Resolved::Absent => Address::Nowhere,
+        Resolved::Found {
             object: _,
             definition: _,
             address: found,
@@ -412,25 +415,22 @@ fn address_of(
     }
 }
 
-// As `relatives`, for entries that are Symbolic whose symbols need no further test and are found: the address. The first entry that is not of
+// As `run_relatives`, for entries that are Symbolic whose symbols need no further test and are found: the address. The first entry that is not of
 // this kind, and the answer that is kept then.
 fn symbolics(
     arena: &mut [u8],
     table: &[u64],
-    count: usize,
-    address: u64,
     t: Turn,
     y: Symbols,
     at: usize,
     s: Run,
     n: u32,
-    low: usize,
-    high: usize,
+    w: Writable,
 ) -> Run
-    requires { ⌜ (s .next ≤ n) × Filtered (now table) count ⌝ }
-    ensures { λ r. ⌜ (s .next ≤ r .next) × (r .next ≤ n) × SymbolsPassed address (now (table .entry)) count t y at n low high s (now (arena .entry)) r (now (arena .exit)) ⌝ }
+    requires { ⌜ (s .next ≤ n) × Filtered (now table) ⌝ }
+    ensures { λ r. ⌜ (s .next ≤ r .next) × (r .next ≤ n) × SymbolsPassed (now (table .entry)) t y at n (w .low) (w .high) s (now (arena .entry)) r (now (arena .exit)) ⌝ }
 {
-    if !in_reach(arena.len(), t, at, n, high) {
+    if !in_reach(arena.len(), t, at, n, w.high) {
         return s;
     }
     if !symbols_in(t, y) {
@@ -439,23 +439,12 @@ fn symbolics(
     let mut p = s;
     let mut k = t.offset + at + 24 * (s.next as usize);
     while p.next < n {
-        let e = symbol_entry(arena, t, y, k, low, high);
+        let e = symbol_entry(arena, t, y, k, w.low, w.high);
         let SymbolEntry::Here { place, index, name } = e else {
             return p;
         };
         let number = index as u64 + 1;
-        let a = address_of(
-            arena,
-            table,
-            count,
-            address,
-            t,
-            y.strings,
-            name,
-            number,
-            p.last,
-            p.address,
-        );
+        let a = address_of(arena, table, t, y.strings, name, number, p.last, p.address);
         let Address::At(found) = a else {
             return p;
         };
@@ -483,44 +472,48 @@ fn range_after(w: Writable, b: Bounds, rtype: u32, place: usize) -> Writable
     object::table_bytes::writable_at(b, place, 8)
 }
 
-// The `n` entries of the table at `at`; the first has the number `first`.
+// The table of `count` entries at `at`, of which the first has the number `first`.
+pub struct Entries {
+    pub at: usize,
+    pub first: u32,
+    pub count: u32,
+}
+
+// The entries of a table.
 fn run_table(
     arena: &mut [u8],
     report: &mut [u32],
     p: Progress,
     table: &[u64],
-    count: usize,
-    address: u64,
     t: Turn,
     o: ObjectData,
-    at: usize,
-    first: u32,
-    n: u32,
+    x: Entries,
 ) -> Progress
-    requires { ⌜ Filtered (now table) count ⌝ }
-    ensures { λ r. ⌜ left r (now (arena .exit)) (now (report .exit)) ≡ runTable address (now (table .entry)) count t (heldBy o) at first n 0 (left p (now (arena .entry)) (now (report .entry))) ⌝ }
+    requires { ⌜ Filtered (now table) ⌝ }
+    ensures { λ r. ⌜ left r (now (arena .exit)) (now (report .exit)) ≡ runTable (now (table .entry)) t (heldBy o) (x .at) (x .first) (x .count) 0 (left p (now (arena .entry)) (now (report .entry))) ⌝ }
 {
     let b = object::dynamic_fields::bounds_of(o);
     let y = symbols_of(arena, t, o);
+    let at = x.at;
+    let n = x.count;
     let mut w = Writable { low: 0, high: 0 };
     let mut q = p;
     let mut i = 0u32;
     while i < n {
         let s = Run {
-            next: relatives(arena, t, at, i, n, w.low, w.high),
+            next: run_relatives(arena, t, at, i, n, w.low, w.high),
             last: q.last,
             address: q.address,
         };
-        let r = symbolics(arena, table, count, address, t, y, at, s, n, w.low, w.high);
+        let r = symbolics(arena, table, t, y, at, s, n, w);
         q = crate::report::keep(q, r.last, r.address);
         let j = r.next;
         if n <= j {
             return q;
         }
         let e = rela_in(arena, t, at, j);
-        let a = object::relocate::action_of(e.rtype);
-        let number = std::num::wrapping_add_u32(first, j);
-        q = run_action(arena, report, q, table, count, address, t, o, number, e, a);
+        let number = std::num::wrapping_add_u32(x.first, j);
+        q = run_action(arena, report, q, table, t, o, number, e);
         if q.refusal != 0 {
             return q;
         }
@@ -538,45 +531,28 @@ fn run_tables(
     report: &mut [u32],
     p: Progress,
     table: &[u64],
-    count: usize,
-    address: u64,
     t: Turn,
     o: ObjectData,
 ) -> Progress
-    requires { ⌜ Filtered (now table) count ⌝ }
-    ensures { λ r. ⌜ left r (now (arena .exit)) (now (report .exit)) ≡ runTables address (now (table .entry)) count t (heldBy o) (left p (now (arena .entry)) (now (report .entry))) ⌝ }
+    requires { ⌜ Filtered (now table) ⌝ }
+    ensures { λ r. ⌜ left r (now (arena .exit)) (now (report .exit)) ≡ runTables (now (table .entry)) t (heldBy o) (left p (now (arena .entry)) (now (report .entry))) ⌝ }
 {
     let relas = crate::relr::cut_to_32(o.relas);
-    let q = run_table(
-        arena,
-        report,
-        p,
-        table,
-        count,
-        address,
-        t,
-        o,
-        o.rela,
-        0,
-        relas,
-    );
+    let rela = Entries {
+        at: o.rela,
+        first: 0,
+        count: relas,
+    };
+    let q = run_table(arena, report, p, table, t, o, rela);
     if q.refusal != 0 {
         return q;
     }
-    let plts = crate::relr::cut_to_32(o.plts);
-    run_table(
-        arena,
-        report,
-        q,
-        table,
-        count,
-        address,
-        t,
-        o,
-        o.plt,
-        relas,
-        plts,
-    )
+    let plt = Entries {
+        at: o.plt,
+        first: relas,
+        count: crate::relr::cut_to_32(o.plts),
+    };
+    run_table(arena, report, q, table, t, o, plt)
 }
 
 // The word of the report, RELR, RELA, PLT. No answer is kept before: a symbol's index is the object's own.
@@ -585,21 +561,19 @@ fn run_object(
     report: &mut [u32],
     p: Progress,
     table: &[u64],
-    count: usize,
-    address: u64,
     t: Turn,
     o: ObjectData,
 ) -> Progress
-    requires { ⌜ Filtered (now table) count ⌝ }
-    ensures { λ r. ⌜ left r (now (arena .exit)) (now (report .exit)) ≡ runObject address (now (table .entry)) count t (heldBy o) p (now (arena .entry)) (now (report .entry)) ⌝ }
+    requires { ⌜ Filtered (now table) ⌝ }
+    ensures { λ r. ⌜ left r (now (arena .exit)) (now (report .exit)) ≡ runObject (now (table .entry)) t (heldBy o) p (now (arena .entry)) (now (report .entry)) ⌝ }
 {
     let z = crate::report::keep(p, 0, 0);
     let q = crate::report::note(report, z, std::num::wrapping_add_u32(0x5000_0000, t.number));
-    let number = crate::relr::add_relrs(arena, t, o);
+    let number = crate::relr::run_relrs(arena, t, o);
     if number != 0 {
         return crate::report::refused(q, t, number);
     }
-    run_tables(arena, report, q, table, count, address, t, o)
+    run_tables(arena, report, q, table, t, o)
 }
 
 // Object `k`, whose file is given. Its record is read again: no relocation before its turn wrote to its part of the arena.
@@ -608,15 +582,13 @@ fn run_at(
     report: &mut [u32],
     p: Progress,
     table: &[u64],
-    count: usize,
-    address: u64,
     k: u32,
     file: &[u8],
 ) -> Progress
-    requires { ⌜ Filtered (now table) count ⌝ }
-    ensures { λ r. ⌜ left r (now (arena .exit)) (now (report .exit)) ≡ runAt address (now (table .entry)) count k (now (file .entry)) p (now (arena .entry)) (now (report .entry)) ⌝ }
+    requires { ⌜ Filtered (now table) ⌝ }
+    ensures { λ r. ⌜ left r (now (arena .exit)) (now (report .exit)) ≡ runAt (now (table .entry)) k (now (file .entry)) p (now (arena .entry)) (now (report .entry)) ⌝ }
 {
-    let t = crate::turn::turn_of(table, address, k);
+    let t = crate::turn::turn_of(table, k);
     let l = object::program_header::read_loads(file);
     if 16 < l.count {
         return crate::report::refused(p, t, 7);
@@ -627,7 +599,7 @@ fn run_at(
         return crate::report::refused(p, t, r.refusal);
     }
     let o = r.object;
-    run_object(arena, report, p, table, count, address, t, o)
+    run_object(arena, report, p, table, t, o)
 }
 
 // ---- the objects
@@ -639,13 +611,11 @@ pub(crate) fn run_order(
     arena: &mut [u8],
     report: &mut [u32],
     table: &[u64],
-    address: u64,
     order: Order,
 ) -> Progress
-    requires { ⌜ (order .count ≤ 64) × Filtered (now table) (parts .count) ⌝ }
-    ensures { λ r. ⌜ left r (now (arena .exit)) (now (report .exit)) ≡ runOrder address (now (table .entry)) (parts .count) (inputsIn (now (bytes .entry)) parts) (take (order .count) (order .list)) (left started (now (arena .entry)) (now (report .entry))) ⌝ }
+    requires { ⌜ (order .count ≤ 64) × Filtered (now table) ⌝ }
+    ensures { λ r. ⌜ left r (now (arena .exit)) (now (report .exit)) ≡ runOrder (now (table .entry)) (inputsIn (now (bytes .entry)) parts) (take (order .count) (order .list)) (left started (now (arena .entry)) (now (report .entry))) ⌝ }
 {
-    let count = parts.count;
     let list = order.list;
     let n = order.count;
     let mut p = Progress {
@@ -661,7 +631,7 @@ pub(crate) fn run_order(
     while i < n {
         let k = list[i];
         let file = sheet::sheet::file_of(bytes, parts, k as usize);
-        p = run_at(arena, report, p, table, count, address, k, file);
+        p = run_at(arena, report, p, table, k, file);
         if p.refusal != 0 {
             return p;
         }

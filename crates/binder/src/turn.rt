@@ -4,6 +4,7 @@ ghost use Prim.Native.Nat.{_+_, _≤_};
 ghost use lib.ListN.{length, set};
 ghost use Rattle.words.specs.Memory.{mem, from, patch};
 ghost use Rattle.words.specs.Words.{byteOf};
+ghost use Rattle.scope.specs.Steps.Links.{Filtered};
 ghost use Rattle.binder.specs.Steps.Relocating.{imageIn, CopyApart, turnOf};
 
 // The object whose turn it is: its number, its part of the arena, and its base.
@@ -14,15 +15,16 @@ pub struct Turn {
     pub base: u64,
 }
 
-pub(crate) fn turn_of(table: &[u64], address: u64, k: u32) -> Turn
-    ensures { λ r. ⌜ r ≡ turnOf address (now (table .entry)) k ⌝ }
+pub(crate) fn turn_of(table: &[u64], k: u32) -> Turn
+    requires { ⌜ Filtered (now table) ⌝ }
+    ensures { λ r. ⌜ r ≡ turnOf (now (table .entry)) k ⌝ }
 {
-    let s = scope::seats::seat_at(table, k as usize);
+    let s = scope::links::link_at(table, k as usize);
     Turn {
         number: k,
         offset: s.offset,
         span: s.span,
-        base: words::bytes::sum_u64(address, s.offset as u64),
+        base: words::bytes::sum_u64(scope::links::address_in(table), s.offset as u64),
     }
 }
 

@@ -21,17 +21,20 @@ use Rattle.sheet.proofs.SheetLonger.{Shape, sheet-shape}
 use Rattle.binder.specs.declared.Policy.{Policy}
 use Rattle.binder.specs.declared.Reply as replies
 use Rattle.binder.specs.declared.Reply.{Reply}
+use Rattle.binder.specs.Setting.{Setting}
 use Rattle.binder.specs.Instance.{File, objectAt}
-use Rattle.binder.specs.Verdict.{Verdict, passed, refused, orderVerdict}
+use Rattle.binder.specs.Verdict.{orderVerdict}
+use Rattle.binder.specs.declared.Verdict.{Verdict}
+use Rattle.binder.specs.declared.Verdict.the-variants.{Passed, Refused}
 use Rattle.binder.specs.SetOrder.{setOrder}
 use Rattle.binder.specs.Steps.Prepared.{loadFrom, placeFiles}
-use Rattle.binder.specs.Bind.{filesOf, namesOf, objectsOf, prepareVerdict, replied, repliedOf, queryOf}
+use Rattle.binder.specs.Bind.{filesOf, namesOf, objectsOf, replied, repliedOf, queryOf}
 use Rattle.binder.proofs.FileLaws.{hostFile, fileOf, files-are}
-use Rattle.binder.proofs.OutcomeLaws.{objectsIn, orderIn, bound-passed, first-passed}
+use Rattle.binder.proofs.OutcomeLaws.{objectsIn, orderIn, sheetVerdict, query-one, bound-passed, first-passed}
 use Rattle.binder.proofs.OrderIs.{names-length, order-is}
 use Rattle.binder.proofs.QueryLaws.{placed-is}
 use Rattle.binder.proofs.SoundLaws.{set-sound, set-fits}
-use Rattle.demands.proofs.PassedSet.{prepared}
+use Rattle.demands.proofs.PassedSet.{prepared, sheet-prepared}
 use Rattle.demands.specs.LongerSet.{BoundBy}
 use Rattle.demands.specs.Refusals.{HostIn, HostKept}
 
@@ -45,12 +48,12 @@ place-below (f ∷ fs) off m i h =
     ∙ write-out m off (objectSpan (f .host) (f .bytes)) (objectBytes (f .host) (f .bytes)) i (inl h)
 
 placed-first :
-    (address : ℕ) (h p : File) (fs : List File) (i : ℕ) → i < objectSpan (h .host) (h .bytes)
-    → placed (objsOf (objectAt address) h p fs) i ≡ objectBytes (h .host) (h .bytes) i
+    (setting : Setting) (h p : File) (fs : List File) (i : ℕ) → i < objectSpan (h .host) (h .bytes)
+    → placed (objsOf (objectAt setting) h p fs) i ≡ objectBytes (h .host) (h .bytes) i
 unfolding placeFiles
-placed-first address h p fs i l =
+placed-first setting h p fs i l =
     let start : i - 0 ≡ i = omega arith in
-    ap (λ (m : Mem). m i) (placed-is address h p fs)
+    ap (λ (m : Mem). m i) (placed-is setting h p fs)
     ∙ (place-below (p ∷ fs) (0 + objectSpan (h .host) (h .bytes)) _ i (omega arith)
     ∙ (write-in (λ _. 0) 0 (objectSpan (h .host) (h .bytes)) (objectBytes (h .host) (h .bytes)) i (omega arith)
     ∙ ap (objectBytes (h .host) (h .bytes)) start))
@@ -78,81 +81,80 @@ first-bytes file size m l same =
     many : length (take (length file) (tab size m)) ≡ length file
     many = simp (length-take, length-tab) (omega arith)
 
-module _ (address size : ℕ) (h p : Input) (ls : List Input) (v : loadFrom size 0 0 (filesOf (h ∷ (p ∷ ls))) ≡ passed) where
+module _ (setting : Setting) (size : ℕ) (h p : Input) (ls : List Input) (v : loadFrom size 0 0 (filesOf (h ∷ (p ∷ ls))) ≡ Passed) where
   abbrev fs : List File
   fs = map fileOf ls
 
-  loads : loadFrom size 0 0 (hostFile h ∷ (fileOf p ∷ fs)) ≡ passed
+  loads : loadFrom size 0 0 (hostFile h ∷ (fileOf p ∷ fs)) ≡ Passed
   loads = rw (files-are h p ls) at v
 
   fits : length (h .file) ≤ size
   unfolding layouts.objsOf objectAt objectSpan
-  fits = omega (arith, set-fits address size (hostFile h) (fileOf p) fs loads 0 (omega arith))
+  fits = omega (arith, set-fits setting size (hostFile h) (fileOf p) fs loads 0 (omega arith))
 
-  placed-host : (i : ℕ) → i < length (h .file) → placed (objectsOf address (filesOf (h ∷ (p ∷ ls)))) i ≡ mem (h .file) i
+  placed-host : (i : ℕ) → i < length (h .file) → placed (objectsOf setting (filesOf (h ∷ (p ∷ ls)))) i ≡ mem (h .file) i
   unfolding objectsOf objectSpan objectBytes
-  placed-host i l = rw (files-are h p ls) (placed-first address (hostFile h) (fileOf p) fs i l)
+  placed-host i l = rw (files-are h p ls) (placed-first setting (hostFile h) (fileOf p) fs i l)
 
   bound-host :
-      orderVerdict (objectsIn address (h ∷ (p ∷ ls))) (filesOf (h ∷ (p ∷ ls))) (orderIn (h ∷ (p ∷ ls))) ≡ passed
+      orderVerdict (objectsIn setting (h ∷ (p ∷ ls))) (filesOf (h ∷ (p ∷ ls))) (orderIn (h ∷ (p ∷ ls))) ≡ Passed
       → (i : ℕ) → i < length (h .file)
-      → bound (objectsIn address (h ∷ (p ∷ ls))) (orderIn (h ∷ (p ∷ ls))) i ≡ mem (h .file) i
+      → bound (objectsIn setting (h ∷ (p ∷ ls))) (orderIn (h ∷ (p ∷ ls))) i ≡ mem (h .file) i
   unfolding objectsOf objectSpan objectAt layouts.objsOf
   bound-host w i l =
       let order : List ℕ = setOrder (hostFile h ∷ (fileOf p ∷ fs)) (namesOf (h ∷ (p ∷ ls))) in
-      let o = order-is address (hostFile h) (fileOf p) fs (namesOf (h ∷ (p ∷ ls))) (names-length h p ls ∙ sym (length-map ls fileOf)) in
-      let sound = set-sound address size (hostFile h) (fileOf p) fs loads order o (rw (files-are h p ls) at w) in
+      let o = order-is setting (hostFile h) (fileOf p) fs (namesOf (h ∷ (p ∷ ls))) (names-length h p ls ∙ sym (length-map ls fileOf)) in
+      let sound = set-sound setting size (hostFile h) (fileOf p) fs loads order o (rw (files-are h p ls) at w) in
       rw (files-are h p ls)
-      (bound-first (objsOf (objectAt address) (hostFile h) (fileOf p) fs) sound order o i l refl) ∙ placed-host i l
+      (bound-first (objsOf (objectAt setting) (hostFile h) (fileOf p) fs) sound order o i l refl) ∙ placed-host i l
 
 -- ---- of a set
 
-module _ (address size : ℕ) (os : List Input) (s : Shape os) (v : loadFrom size 0 0 (filesOf os) ≡ passed) where
+module _ (setting : Setting) (size : ℕ) (os : List Input) (s : Shape os) (v : loadFrom size 0 0 (filesOf os) ≡ Passed) where
   -- an arena whose first bytes are the host's
   host-in : (m : Mem) → ((i : ℕ) → i < length (s .host .file) → m i ≡ mem (s .host .file) i) → HostIn os (tab size m)
   host-in m same =
       rw (s .is)
-      (first-bytes (s .host .file) size m (fits address size (s .host) (s .program) (s .libs) (rw (s .is) at v)) same)
+      (first-bytes (s .host .file) size m (fits setting size (s .host) (s .program) (s .libs) (rw (s .is) at v)) same)
 
-  placed-in : HostIn os (tab size (placed (objectsIn address os)))
+  placed-in : HostIn os (tab size (placed (objectsIn setting os)))
   placed-in =
-      host-in (placed (objectsIn address os))
-      (λ i l. rw (s .is) (placed-host address size (s .host) (s .program) (s .libs) (rw (s .is) at v) i l))
+      host-in (placed (objectsIn setting os))
+      (λ i l. rw (s .is) (placed-host setting size (s .host) (s .program) (s .libs) (rw (s .is) at v) i l))
 
   bound-in :
-      orderVerdict (objectsIn address os) (filesOf os) (orderIn os) ≡ passed → HostIn os (tab size (bound (objectsIn address os) (orderIn os)))
+      orderVerdict (objectsIn setting os) (filesOf os) (orderIn os) ≡ Passed → HostIn os (tab size (bound (objectsIn setting os) (orderIn os)))
   bound-in w =
-      host-in (bound (objectsIn address os) (orderIn os))
-      (λ i l. rw (s .is) (bound-host address size (s .host) (s .program) (s .libs) (rw (s .is) at v) (rw (s .is) at w) i l))
+      host-in (bound (objectsIn setting os) (orderIn os))
+      (λ i l. rw (s .is) (bound-host setting size (s .host) (s .program) (s .libs) (rw (s .is) at v) (rw (s .is) at w) i l))
 
 -- a query that was answered
 answered :
     (size : ℕ) (v : Verdict) (x : Reply) (l : List ℕ) (r : Reply) (arena : List ℕ) → repliedOf size v x l ≡ replied r arena
     → ((n k : ℕ) → r ≢ replies.the-variants.Refused n k)
-    → (v ≡ passed) × (arena ≡ l)
+    → (v ≡ Passed) × (arena ≡ l)
 unfolding repliedOf
-answered size passed x l r arena e ne = (refl, cc)
-answered size (refused n k) x l r arena e ne = absurd (ne n k cc)
+answered size Passed x l r arena e ne = (refl, cc)
+answered size (Refused n k) x l r arena e ne = absurd (ne n k cc)
 
 pub host-kept : HostKept
-unfolding queryOf
 host-kept = record { bound = bind-host; asked = query-host }
   where
     bind-host :
-        (sheet bytes : List ℕ) (size address : ℕ) (policy : Policy) (words : ℕ) (arena report : List ℕ)
-        → BoundBy sheet bytes size address policy words arena report
+        (setting : Setting) (sheet bytes : List ℕ) (size : ℕ) (policy : Policy) (words : ℕ) (arena report : List ℕ)
+        → BoundBy setting sheet bytes size policy words arena report
         → HostIn (setOf sheet bytes) arena
-    bind-host sheet bytes size address policy words arena report e =
-        let q = bound-passed sheet bytes size address policy words arena report e in
+    bind-host setting sheet bytes size policy words arena report e =
+        let q = bound-passed setting sheet bytes size policy words arena report e in
         rw (q .arena-is)
-        (bound-in address size (setOf sheet bytes) (sheet-shape sheet bytes (length bytes) (q .sheet-ok)) (q .loads) (q .relocates))
+        (bound-in setting size (setOf sheet bytes) (sheet-shape sheet bytes (length bytes) (q .sheet-ok)) (q .loads) (q .relocates))
 
     query-host :
-        (sheet bytes : List ℕ) (size address requester : ℕ) (name : List ℕ) (r : Reply) (arena : List ℕ)
-        → queryOf sheet bytes size address requester name ≡ replied r arena
+        (setting : Setting) (sheet bytes : List ℕ) (size requester : ℕ) (name : List ℕ) (r : Reply) (arena : List ℕ)
+        → queryOf setting sheet bytes size requester name ≡ replied r arena
         → ((n k : ℕ) → r ≢ replies.the-variants.Refused n k)
         → HostIn (setOf sheet bytes) arena
-    query-host sheet bytes size address requester name r arena e ne =
-        let a = answered size _ _ _ r arena e ne in
-        let q = prepared sheet bytes size address (first-passed (prepareVerdict sheet bytes size address) _ (a .0) .0) in
-        rw (a .1) (placed-in address size (setOf sheet bytes) (sheet-shape sheet bytes (length bytes) (q .sheet-ok)) (q .loads))
+    query-host setting sheet bytes size requester name r arena e ne =
+        let a = answered size _ _ _ r arena (sym (query-one setting sheet bytes size requester name) ∙ e) ne in
+        let q = prepared sheet bytes setting size (sheet-prepared sheet bytes setting size (first-passed (sheetVerdict setting sheet bytes size) _ (a .0) .0)) in
+        rw (a .1) (placed-in setting size (setOf sheet bytes) (sheet-shape sheet bytes (length bytes) (q .sheet-ok)) (q .loads))

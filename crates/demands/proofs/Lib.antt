@@ -9,3 +9,5 @@ pub mod RefusalsHold
 pub mod HostStays
 pub mod PairFiles
 pub mod PairHolds
+pub mod ObjectRunsHold
+pub mod WalksEndLaw

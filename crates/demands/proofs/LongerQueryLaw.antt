@@ -1,5 +1,5 @@
 -- Demand 3 for what `query` answers: a longer set gives the same answer. Assumes nothing.
-use mathlib.Core.Path.{_≡_, refl, ap, _∙_}
+use mathlib.Core.Path.{_≡_, refl, sym, ap, _∙_}
 use mathlib.Core.Logic.{_≢_}
 use mathlib.Core.List.{List, [], _∷_, _++_, map}
 use Prim.Native.Nat.{ℕ, _+_, _<_}
@@ -8,7 +8,7 @@ use borrow.Author.Tests.{ltb-true, lt-ltb}
 use lib.Dec.{ltb}
 use lib.ListN.{length, length-append, length-map}
 use Rattle.words.specs.Memory.{tab}
-use Rattle.model.specs.Symbols.{Sym, absent, answer}
+use Rattle.model.specs.Symbols.{byName, Definition, absent, answer}
 use Rattle.model.specs.Symbols as symbols
 use Rattle.model.specs.Scope.{resolve}
 use Rattle.model.specs.Relocation.{placed}
@@ -19,37 +19,39 @@ use Rattle.sheet.proofs.SheetLonger.{Longer, sheet-longer}
 use Rattle.binder.specs.declared.Policy.{Policy}
 use Rattle.binder.specs.declared.Reply.{Reply}
 use Rattle.binder.specs.declared.Reply.the-variants.{Found}
+use Rattle.binder.specs.Setting.{Setting}
 use Rattle.binder.specs.Instance.{File, objectAt}
-use Rattle.binder.specs.Verdict.{Verdict, passed, refused, first}
-use Rattle.binder.specs.Bind.{filesOf, objectsOf, unless, prepareVerdict, replied, replyOf, repliedOf, queryOf}
-use Rattle.demands.proofs.PassedSet.{prepared}
+use Rattle.binder.specs.declared.Verdict.{Verdict}
+use Rattle.binder.specs.declared.Verdict.the-variants.{Passed, Refused}
+use Rattle.binder.specs.Bind.{filesOf, objectsOf, unless, prepareVerdict, replied, replyOf, repliedOf, askSet, queryOf}
+use Rattle.demands.proofs.PassedSet.{sheet-prepared}
 use Rattle.demands.specs.LongerSet.{PassesLoading, BoundBy, setObjects, LongerQuery}
 use Rattle.binder.proofs.LoadsSame.{loads-same}
-use Rattle.binder.proofs.OutcomeLaws.{first-passed, unless-passed, bound-passed}
+use Rattle.binder.proofs.OutcomeLaws.{first-passed, unless-passed, sheetVerdict, query-one, bound-passed}
 use Rattle.binder.proofs.FileLaws.{hostFile, fileOf, files-are, files-longer}
 use Rattle.binder.proofs.SoundLaws.{count-is}
 
 -- a query that found a symbol was not refused
 found-passed :
     (size : ℕ) (v : Verdict) (r : Reply) (l arena : List ℕ) (k i a : ℕ) → repliedOf size v r l ≡ replied (Found k i a) arena
-    → (v ≡ passed) × (r ≡ Found k i a)
+    → (v ≡ Passed) × (r ≡ Found k i a)
 unfolding repliedOf
-found-passed size passed r l arena k i a e = (refl, cc)
-found-passed size (refused n j) r l arena k i a e = let z : _≡_ {A = ℕ} 0 1 = cc in absurd (omega arith)
+found-passed size Passed r l arena k i a e = (refl, cc)
+found-passed size (Refused n j) r l arena k i a e = let z : _≡_ {A = ℕ} 0 1 = cc in absurd (omega arith)
 
 -- the lookup of which it is the reply
 found-answer :
-    (x : symbols.Answer) (k i a : ℕ) → replyOf x ≡ Found k i a → (s : Sym) × (x ≡ answer k s a) × (s .index ≡ i)
+    (x : symbols.Resolved) (k i a : ℕ) → replyOf x ≡ Found k i a → (s : Definition) × (x ≡ answer k s a) × (s .index ≡ i)
 found-answer absent k i a e = let z : _≡_ {A = ℕ} 0 1 = cc in absurd (omega arith)
 found-answer (answer j s b) k i a e = (s, cc, cc)
 
 -- of any two sets of which the second is the first and one object more
 kept :
-    (address : ℕ) (os os′ : List Input) → Longer os os′ → (r : ℕ) → r < length os → (name : List ℕ) (k : ℕ) (s : Sym) (a : ℕ)
-    → resolve (objectsOf address (filesOf os)) r name ≡ answer k s a → k ≢ 0
-    → (resolve (objectsOf address (filesOf os′)) r name ≡ answer k s a) × (r < length os′)
+    (setting : Setting) (os os′ : List Input) → Longer os os′ → (r : ℕ) → r < length os → (name : List ℕ) (k : ℕ) (s : Definition) (a : ℕ)
+    → resolve (objectsOf setting (filesOf os)) r (byName name) ≡ answer k s a → k ≢ 0
+    → (resolve (objectsOf setting (filesOf os′)) r (byName name) ≡ answer k s a) × (r < length os′)
 unfolding objectsOf
-kept address os os′ l r small name k s a e pos =
+kept setting os os′ l r small name k s a e pos =
     let fs : List File = map fileOf (l .libs) in
     let files : filesOf os ≡ hostFile (l .host) ∷ (fileOf (l .program) ∷ fs) =
     ap filesOf (l .is) ∙ files-are (l .host) (l .program) (l .libs) in
@@ -58,45 +60,44 @@ kept address os os′ l r small name k s a e pos =
     let n : length os ≡ length fs + 2 = ap length (l .is) ∙ omega (arith, length-map (l .libs) fileOf) in
     let n′ : length os′ ≡ length fs + 3 =
     ap length (l .longer) ∙ omega (arith, length-map (l .libs) fileOf, length-append (l .libs) (l .added ∷ [])) in (
-      rw (files′, objs-longer (objectAt address) (hostFile (l .host)) (fileOf (l .program)) fs (fileOf (l .added)))
-          (resolve-kept _ _ r (omega (arith, count-is address 0 (hostFile (l .host)) (fileOf (l .program)) fs)) name k s a (rw files at e) pos),
+      rw (files′, objs-longer (objectAt setting) (hostFile (l .host)) (fileOf (l .program)) fs (fileOf (l .added)))
+          (resolve-kept _ _ r (omega (arith, count-is setting 0 (hostFile (l .host)) (fileOf (l .program)) fs)) (byName name) k s a (rw files at e) pos),
       omega arith,
     )
 
 -- a bound set passed refusals 1 to 12
 loaded :
-    (sheet bytes : List ℕ) (size address : ℕ) (policy : Policy) (words : ℕ) (arena report : List ℕ)
-    → BoundBy sheet bytes size address policy words arena report → PassesLoading sheet bytes size address
+    (setting : Setting) (sheet bytes : List ℕ) (size : ℕ) (policy : Policy) (words : ℕ) (arena report : List ℕ)
+    → BoundBy setting sheet bytes size policy words arena report → PassesLoading setting sheet bytes size
 unfolding prepareVerdict unless
-loaded sheet bytes size address policy words arena report e =
-    let p = bound-passed sheet bytes size address policy words arena report e in
-    rw (p .sheet-ok, p .arena-ok, p .no-twin) (loads-same address size (filesOf (setOf sheet bytes)) ∙ p .loads)
+loaded setting sheet bytes size policy words arena report e =
+    let p = bound-passed setting sheet bytes size policy words arena report e in
+    (p .sheet-ok, rw (p .arena-ok, p .no-duplicate) (loads-same setting size (filesOf (setOf sheet bytes)) ∙ p .loads))
 
 -- what a set that is not refused replies
 pub asked :
-    (sheet bytes : List ℕ) (size address requester : ℕ) (name : List ℕ) → PassesLoading sheet bytes size address → requester < length (setOf sheet bytes)
-    → queryOf sheet bytes size address requester name
-    ≡ replied (replyOf (resolve (setObjects address sheet bytes) requester name)) (tab size (placed (setObjects address sheet bytes)))
-unfolding queryOf repliedOf unless
-asked sheet bytes size address requester name v l = rw (v, lt-ltb requester (length (setOf sheet bytes)) l)
+    (setting : Setting) (sheet bytes : List ℕ) (size requester : ℕ) (name : List ℕ) → PassesLoading setting sheet bytes size → requester < length (setOf sheet bytes)
+    → queryOf setting sheet bytes size requester name
+    ≡ replied (replyOf (resolve (setObjects setting sheet bytes) requester (byName name))) (tab size (placed (setObjects setting sheet bytes)))
+unfolding queryOf askSet repliedOf unless
+asked setting sheet bytes size requester name v l = rw (v .0, v .1, lt-ltb requester (length (setOf sheet bytes)) l)
 
 same :
-    (address : ℕ) (sheet bytes : List ℕ) (size requester : ℕ) (name : List ℕ) (k i a : ℕ) (arena : List ℕ)
-    → queryOf sheet bytes size address requester name ≡ replied (Found k i a) arena → k ≢ 0
-    → (f n : ℕ) (added : List ℕ) (size′ : ℕ) → PassesLoading (sheet ++ (f ∷ (n ∷ []))) (bytes ++ added) size′ address
-    → queryOf (sheet ++ (f ∷ (n ∷ []))) (bytes ++ added) size′ address requester name
-    ≡ replied (Found k i a) (tab size′ (placed (setObjects address (sheet ++ (f ∷ (n ∷ []))) (bytes ++ added))))
-unfolding queryOf
-same address sheet bytes size requester name k i a arena e pos f n added size′ v =
+    (setting : Setting) (sheet bytes : List ℕ) (size requester : ℕ) (name : List ℕ) (k i a : ℕ) (arena : List ℕ)
+    → queryOf setting sheet bytes size requester name ≡ replied (Found k i a) arena → k ≢ 0
+    → (f n : ℕ) (added : List ℕ) (size′ : ℕ) → PassesLoading setting (sheet ++ (f ∷ (n ∷ []))) (bytes ++ added) size′
+    → queryOf setting (sheet ++ (f ∷ (n ∷ []))) (bytes ++ added) size′ requester name
+    ≡ replied (Found k i a) (tab size′ (placed (setObjects setting (sheet ++ (f ∷ (n ∷ []))) (bytes ++ added))))
+same setting sheet bytes size requester name k i a arena e pos f n added size′ v =
     let os : List Input = setOf sheet bytes in
-    let p = found-passed size _ _ _ arena k i a e in
-    let q = first-passed (prepareVerdict sheet bytes size address) (unless (ltb requester (length os)) 13 0) (p .0) in
-    let ok = prepared sheet bytes size address (q .0) .sheet-ok in
+    let p = found-passed size _ _ _ arena k i a (sym (query-one setting sheet bytes size requester name) ∙ e) in
+    let q = first-passed (sheetVerdict setting sheet bytes size) (unless (ltb requester (length os)) 13 0) (p .0) in
+    let ok = sheet-prepared sheet bytes setting size (q .0) .0 in
     let l = ltb-true requester (length os) (unless-passed (ltb requester (length os)) 13 0 (q .1)) in
-    let x = found-answer (resolve (setObjects address sheet bytes) requester name) k i a (p .1) in
-    let t = kept address os (setOf (sheet ++ (f ∷ (n ∷ []))) (bytes ++ added)) (sheet-longer sheet bytes f n added ok) requester l name k (x .0) a
+    let x = found-answer (resolve (setObjects setting sheet bytes) requester (byName name)) k i a (p .1) in
+    let t = kept setting os (setOf (sheet ++ (f ∷ (n ∷ []))) (bytes ++ added)) (sheet-longer sheet bytes f n added ok) requester l name k (x .0) a
     (x .1) pos in
-    asked (sheet ++ (f ∷ (n ∷ []))) (bytes ++ added) size′ address requester name v (t .1) ∙ rw (t .0, x .2)
+    asked setting (sheet ++ (f ∷ (n ∷ []))) (bytes ++ added) size′ requester name v (t .1) ∙ rw (t .0, x .2)
 
 pub longer-query : LongerQuery
 longer-query = record { bound-loaded = loaded; same-answer = same }

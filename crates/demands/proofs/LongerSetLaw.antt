@@ -9,8 +9,10 @@ use Rattle.model.specs.Relocation.{bound}
 use Rattle.model.specs.Longer.{OnlyProgramCopies, Kept}
 use Rattle.model.proofs.Files.{longer-files}
 use Rattle.sheet.specs.Sheet.{Input, setOf}
+use Rattle.binder.specs.Setting.{Setting}
 use Rattle.binder.specs.Instance.{File, objectAt}
-use Rattle.binder.specs.Verdict.{passed, orderVerdict}
+use Rattle.binder.specs.Verdict.{orderVerdict}
+use Rattle.binder.specs.declared.Verdict.the-variants.{Passed}
 use Rattle.binder.specs.Steps.Prepared.{loadFrom}
 use Rattle.binder.specs.SetOrder.{setOrder}
 use Rattle.binder.specs.Bind.{filesOf, namesOf, objectsOf}
@@ -23,46 +25,46 @@ use Rattle.binder.proofs.OrderIs.{names-length, order-is}
 
 -- the two stages that a set passed, of its files and its libraries' names
 abbrev Loads : ℕ → List File → Type 0
-Loads size files = loadFrom size 0 0 files ≡ passed
+Loads size files = loadFrom size 0 0 files ≡ Passed
 
-abbrev Relocates : ℕ → List File → List (List ℕ) → Type 0
-Relocates address files names = orderVerdict (objectsOf address files) files (setOrder files names) ≡ passed
+abbrev Relocates : Setting → List File → List (List ℕ) → Type 0
+Relocates setting files names = orderVerdict (objectsOf setting files) files (setOrder files names) ≡ Passed
 
 -- what is claimed, of two sets in arenas of `size` and `size′` bytes
-abbrev Keeps : ℕ → ℕ → List File → List (List ℕ) → ℕ → List File → List (List ℕ) → Type 0
-Keeps address size files names size′ files′ names′ =
-    Kept (objectsOf address files) (objectsOf address files′)
-    (mem (tab size (bound (objectsOf address files) (setOrder files names))))
-    (mem (tab size′ (bound (objectsOf address files′) (setOrder files′ names′))))
+abbrev Keeps : Setting → ℕ → List File → List (List ℕ) → ℕ → List File → List (List ℕ) → Type 0
+Keeps setting size files names size′ files′ names′ =
+    Kept (objectsOf setting files) (objectsOf setting files′)
+    (mem (tab size (bound (objectsOf setting files) (setOrder files names))))
+    (mem (tab size′ (bound (objectsOf setting files′) (setOrder files′ names′))))
 
 -- of files
 keeps :
-    (address size size′ : ℕ) (h p : File) (fs : List File) (f : File) (names names′ : List (List ℕ)) → length names ≡ length fs
+    (setting : Setting) (size size′ : ℕ) (h p : File) (fs : List File) (f : File) (names names′ : List (List ℕ)) → length names ≡ length fs
     → length names′ ≡ length (fs ++ (f ∷ []))
     → Loads size (h ∷ (p ∷ fs))
-    → Relocates address (h ∷ (p ∷ fs)) names
-    → OnlyProgramCopies (objectsOf address (h ∷ (p ∷ fs)))
+    → Relocates setting (h ∷ (p ∷ fs)) names
+    → OnlyProgramCopies (objectsOf setting (h ∷ (p ∷ fs)))
     → Loads size′ (h ∷ (p ∷ (fs ++ (f ∷ []))))
-    → Relocates address (h ∷ (p ∷ (fs ++ (f ∷ [])))) names′
-    → Keeps address size (h ∷ (p ∷ fs)) names size′ (h ∷ (p ∷ (fs ++ (f ∷ [])))) names′
+    → Relocates setting (h ∷ (p ∷ (fs ++ (f ∷ [])))) names′
+    → Keeps setting size (h ∷ (p ∷ fs)) names size′ (h ∷ (p ∷ (fs ++ (f ∷ [])))) names′
 unfolding objectsOf
-keeps address size size′ h p fs f names names′ n n′ v w only v′ w′ =
+keeps setting size size′ h p fs f names names′ n n′ v w only v′ w′ =
     let order : List ℕ = setOrder (h ∷ (p ∷ fs)) names in
     let order′ : List ℕ = setOrder (h ∷ (p ∷ (fs ++ (f ∷ [])))) names′ in
-    let o = order-is address h p fs names n in
-    let o′ = order-is address h p (fs ++ (f ∷ [])) names′ n′ in
-    longer-files (objectAt address) h p fs order size (set-sound address size h p fs v order o w) o (set-fits address size h p fs v) only
-    f order′ size′ (set-sound address size′ h p (fs ++ (f ∷ [])) v′ order′ o′ w′) o′ (set-fits address size′ h p (fs ++ (f ∷ [])) v′)
+    let o = order-is setting h p fs names n in
+    let o′ = order-is setting h p (fs ++ (f ∷ [])) names′ n′ in
+    longer-files (objectAt setting) h p fs order size (set-sound setting size h p fs v order o w) o (set-fits setting size h p fs v) only
+    f order′ size′ (set-sound setting size′ h p (fs ++ (f ∷ [])) v′ order′ o′ w′) o′ (set-fits setting size′ h p (fs ++ (f ∷ [])) v′)
 
 -- of any two sets of which the second is the first and one object more
 keeps-any :
-    (address size size′ : ℕ) (os os′ : List Input) → Longer os os′ → Loads size (filesOf os)
-    → Relocates address (filesOf os) (namesOf os)
-    → OnlyProgramCopies (objectsIn address os)
+    (setting : Setting) (size size′ : ℕ) (os os′ : List Input) → Longer os os′ → Loads size (filesOf os)
+    → Relocates setting (filesOf os) (namesOf os)
+    → OnlyProgramCopies (objectsIn setting os)
     → Loads size′ (filesOf os′)
-    → Relocates address (filesOf os′) (namesOf os′)
-    → Keeps address size (filesOf os) (namesOf os) size′ (filesOf os′) (namesOf os′)
-keeps-any address size size′ os os′ l v w only v′ w′ =
+    → Relocates setting (filesOf os′) (namesOf os′)
+    → Keeps setting size (filesOf os) (namesOf os) size′ (filesOf os′) (namesOf os′)
+keeps-any setting size size′ os os′ l v w only v′ w′ =
     let fs : List File = map fileOf (l .libs) in
     let files : filesOf os ≡ hostFile (l .host) ∷ (fileOf (l .program) ∷ fs) =
     ap filesOf (l .is) ∙ files-are (l .host) (l .program) (l .libs) in
@@ -76,14 +78,14 @@ keeps-any address size size′ os os′ l v w only v′ w′ =
     let n′ : length (namesOf os′) ≡ length (fs ++ (fileOf (l .added) ∷ [])) =
     omega (arith, length-append fs (fileOf (l .added) ∷ []), length-append (l .libs) (l .added ∷ []), length-map (l .libs) fileOf) in
     rw (files, files′)
-    (keeps address size size′ (hostFile (l .host)) (fileOf (l .program)) fs (fileOf (l .added)) (namesOf os) (namesOf os′) n n′
-    (rw files at v) (rw files at w) (subst (λ (s : List File). OnlyProgramCopies (objectsOf address s)) files only) (rw files′ at v′)
+    (keeps setting size size′ (hostFile (l .host)) (fileOf (l .program)) fs (fileOf (l .added)) (namesOf os) (namesOf os′) n n′
+    (rw files at v) (rw files at w) (subst (λ (s : List File). OnlyProgramCopies (objectsOf setting s)) files only) (rw files′ at v′)
     (rw files′ at w′))
 
 pub longer-set : LongerSet
-longer-set address policy sheet bytes size words arena report b only f n added size′ words′ arena′ report′ b′ =
-    let p = bound-passed sheet bytes size address policy words arena report b in
-    let p′ = bound-passed (sheet ++ (f ∷ (n ∷ []))) (bytes ++ added) size′ address policy words′ arena′ report′ b′ in
+longer-set setting policy sheet bytes size words arena report b only f n added size′ words′ arena′ report′ b′ =
+    let p = bound-passed setting sheet bytes size policy words arena report b in
+    let p′ = bound-passed setting (sheet ++ (f ∷ (n ∷ []))) (bytes ++ added) size′ policy words′ arena′ report′ b′ in
     rw (p .arena-is, p′ .arena-is)
-    (keeps-any address size size′ (setOf sheet bytes) (setOf (sheet ++ (f ∷ (n ∷ []))) (bytes ++ added))
+    (keeps-any setting size size′ (setOf sheet bytes) (setOf (sheet ++ (f ∷ (n ∷ []))) (bytes ++ added))
     (sheet-longer sheet bytes f n added (p .sheet-ok)) (p .loads) (p .relocates) only (p′ .loads) (p′ .relocates))

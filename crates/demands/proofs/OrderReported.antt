@@ -103,17 +103,17 @@ unfolding setOrder
 set-needed-first os a b la ha lb hb n far = needed-first (needsIn os) (length (namesOf os)) a b la ha lb hb n far
 
 pub order-report : OrderReport
-order-report sheet bytes size address policy words arena report e =
+order-report setting sheet bytes size policy words arena report e =
     let os : List Input = setOf sheet bytes in
-    let p = bound-passed sheet bytes size address policy words arena report e in
+    let p = bound-passed setting sheet bytes size policy words arena report e in
     let c = counts sheet bytes (p .sheet-ok) in
-    let ws : List ℕ = orderWords (objectsIn address os) (filesOf os) (orderIn os) in
+    let ws : List ℕ = orderWords (objectsIn setting os) (filesOf os) (orderIn os) in
     let is : numbersOf 5 report ≡ orderIn os =
     ap (λ (l : List ℕ). numbersOf 5 l) (p .report-is)
     ∙ (numbers-append 5 ws (replicate (words - length ws) 0)
     ∙ (ap (λ (l : List ℕ). numbersOf 5 ws ++ l) (no-zeros (words - length ws))
     ∙ (append-nil (numbersOf 5 ws)
-    ∙ order-numbers (objectsIn address os) (filesOf os) (orderIn os) (order-small (filesOf os) (namesOf os) (c .few))))) in
+    ∙ order-numbers (objectsIn setting os) (filesOf os) (orderIn os) (order-small (filesOf os) (namesOf os) (c .few))))) in
     record {
       order = is;
       once = rw is (subst (λ (n : ℕ). OnceEach n (orderIn os)) (c .all) (set-order (filesOf os) (namesOf os)));

@@ -15,7 +15,7 @@ use Rattle.words.proofs.Slices.{mem-tab}
 use Rattle.words.proofs.Words.{leAt-same}
 use Rattle.model.specs.Objects as objects
 use Rattle.model.specs.Objects.{Obj, Objs}
-use Rattle.model.specs.Symbols.{Sym, absent, answer}
+use Rattle.model.specs.Symbols.{byName, Definition, absent, answer}
 use Rattle.model.specs.Symbols as symbols
 use Rattle.model.specs.Scope.{scopeAnswer, protectedOf, scan, resolve}
 use Rattle.model.specs.Order.{visit, orderOf}
@@ -32,18 +32,19 @@ use Rattle.object.specs.Entries.{relaAt, relasFrom, relrsFrom, relrWords}
 use Rattle.object.specs.RelocationTypes.{rowOf}
 use Rattle.object.specs.Placed.{objectBytes}
 use Rattle.object.specs.Record.{Record, viewOf, indexOk, checkedSymbol}
-use Rattle.sheet.specs.Sheet.{Input, pairOk, libWords, total, sheetOk, cut, libsOf, setOf, arenaOk, twinFrom}
+use Rattle.sheet.specs.Sheet.{Input, pairOk, libWords, total, sheetOk, cut, libsOf, setOf, arenaOk, duplicateFrom}
 use Rattle.sheet.specs.Sheet as sheets
 use Rattle.binder.specs.declared.Policy.the-variants.{Lenient}
 use Rattle.binder.specs.declared.Answer.the-variants.{Bound}
-use Rattle.binder.specs.Instance.{File, definitionFound, placesOf, namedWords, relasOf, entryBy, objectAt}
-use Rattle.binder.specs.Verdict.{passed, verdict, refusalBy, wordsVerdict, entriesVerdict, objectVerdict, orderVerdict}
+use Rattle.binder.specs.Instance.{File, exportedOf, placesOf, namedWords, relasOf, entryBy, objectAt}
+use Rattle.binder.specs.Verdict.{verdict, refusalBy, wordsVerdict, entriesVerdict, objectVerdict, orderVerdict}
+use Rattle.binder.specs.declared.Verdict.the-variants.{Passed}
 use Rattle.binder.specs.Steps.Prepared.{loadFrom}
 use Rattle.binder.specs.Report.{reportWord, isAbsent, undefinedBy, entryReport, objectWords, orderWords}
 use Rattle.binder.specs.SetOrder.{neededObjects, setOrder}
-use Rattle.binder.specs.Bind.{filesOf, namesOf, objectsOf, unless, prepareVerdict, relocateVerdict, outcome, outcomeOf, bindIn, bindOf, queryOf, replied, replyOf}
-use Rattle.demands.specs.LongerSet.{BoundBy, setObjects}
-use Rattle.demands.specs.PairOfSheets.{wordBytes, hostFile, programFile, libraryFile, sheet, bytes, longerSheet, longerBytes, PairOfSheets}
+use Rattle.binder.specs.Bind.{filesOf, namesOf, objectsOf, unless, prepareVerdict, relocateVerdict, outcome, outcomeOf, bindIn, bindSet, bindOf, queryOf, replied, replyOf}
+use Rattle.demands.specs.LongerSet.{PassesLoading, BoundBy, setObjects}
+use Rattle.demands.specs.PairOfSheets.{wordBytes, hostFile, programFile, libraryFile, setting, sheet, bytes, longerSheet, longerBytes, PairOfSheets}
 use Rattle.demands.proofs.LongerQueryLaw.{asked}
 use Rattle.demands.proofs.LongerSetLaw.{longer-set}
 use Rattle.demands.proofs.PairFiles.{
@@ -101,7 +102,7 @@ objectOf host bs off span image r es =
       span = span;
       base = 0x10000000 + off;
       image = objectBytes host bs;
-      find = λ name. definitionFound (answerIn image (viewOf r) name);
+      find = λ wanted. exportedOf (answerIn image (viewOf r) (wanted .name));
       words = [];
       entries = es;
     }
@@ -112,24 +113,24 @@ hostObj = objectOf true hostFile 0 0x1000 hostImage hostRecord []
 abbrev programObj : Obj
 programObj =
     objectOf false programFile 0x1000 0x2000 programImage programRecord
-    (objects.symbol 0x1000 8 (97 ∷ []) (λ a. a) ∷ (objects.symbol 0x1008 8 (98 ∷ []) (λ a. a) ∷ []))
+    (objects.symbol 0x1000 8 (byName (97 ∷ [])) (λ a. a) ∷ (objects.symbol 0x1008 8 (byName (98 ∷ [])) (λ a. a) ∷ []))
 
 abbrev libraryObj : ℕ → ℕ → Obj
 libraryObj c off = objectOf false (libraryFile c) off 0x1000 (libraryImage c) libraryRecord []
 
-host-is : objectAt 0x10000000 (file true hostFile) 0 ≡ hostObj
+host-is : objectAt setting (file true hostFile) 0 ≡ hostObj
 unfolding objectAt
 host-is = rw (host-reads .image-is, host-reads .record-is, host-reads .span-is)
 
-program-is : objectAt 0x10000000 (file false programFile) 0x1000 ≡ programObj
+program-is : objectAt setting (file false programFile) 0x1000 ≡ programObj
 unfolding objectAt wordBytes tab mem byteOf leAt untilZero placesOf namedWords relrWords relrsFrom relasOf relasFrom relaAt entryBy rowOf
 program-is = rw (program-reads .image-is, program-reads .record-is, program-reads .span-is)
 
-a-is : objectAt 0x10000000 (file false (libraryFile 97)) 0x3000 ≡ libraryObj 97 0x3000
+a-is : objectAt setting (file false (libraryFile 97)) 0x3000 ≡ libraryObj 97 0x3000
 unfolding objectAt placesOf namedWords relrWords relrsFrom relasOf relasFrom
 a-is = rw (a-reads .image-is, a-reads .record-is, a-reads .span-is)
 
-b-is : objectAt 0x10000000 (file false (libraryFile 98)) 0x4000 ≡ libraryObj 98 0x4000
+b-is : objectAt setting (file false (libraryFile 98)) 0x4000 ≡ libraryObj 98 0x4000
 unfolding objectAt placesOf namedWords relrWords relrsFrom relasOf relasFrom
 b-is = rw (b-reads .image-is, b-reads .record-is, b-reads .span-is)
 
@@ -145,11 +146,11 @@ files = file true hostFile ∷ (file false programFile ∷ (file false (libraryF
 abbrev longerFiles : List File
 longerFiles = file true hostFile ∷ (file false programFile ∷ (file false (libraryFile 97) ∷ (file false (libraryFile 98) ∷ [])))
 
-S-is : objectsOf 0x10000000 files ≡ S
+S-is : objectsOf setting files ≡ S
 unfolding objectsOf layouts.objsOf layouts.layout
 S-is = rw (host-is, program-is, a-is)
 
-T-is : objectsOf 0x10000000 longerFiles ≡ T
+T-is : objectsOf setting longerFiles ≡ T
 unfolding objectsOf layouts.objsOf layouts.layout
 T-is = rw (host-is, program-is, a-is, b-is)
 
@@ -157,35 +158,35 @@ T-is = rw (host-is, program-is, a-is, b-is)
 
 load-next :
     (size k off span : ℕ) (host : Bool) (bs image : List ℕ) (r : Record) (fs : List File) → Reads host bs span image r → span ≤ size - off
-    → loadFrom size (k + 1) (off + span) fs ≡ passed
-    → loadFrom size k off (file host bs ∷ fs) ≡ passed
+    → loadFrom size (k + 1) (off + span) fs ≡ Passed
+    → loadFrom size k off (file host bs ∷ fs) ≡ Passed
 unfolding loadFrom verdict
 load-next size k off span host bs image r fs reads fits rest = rw (reads .loads (size - off) fits, reads .span-is) rest
 
-load-end : (size k off : ℕ) → loadFrom size k off [] ≡ passed
+load-end : (size k off : ℕ) → loadFrom size k off [] ≡ Passed
 unfolding loadFrom
 load-end size k off = refl
 
-S-loads : loadFrom 0x4000 0 0 files ≡ passed
+S-loads : loadFrom 0x4000 0 0 files ≡ Passed
 S-loads =
     load-next 0x4000 0 0 0x1000 true hostFile hostImage hostRecord _ host-reads (omega arith)
     (load-next 0x4000 1 0x1000 0x2000 false programFile programImage programRecord _ program-reads (omega arith)
     (load-next 0x4000 2 0x3000 0x1000 false (libraryFile 97) (libraryImage 97) libraryRecord _ a-reads (omega arith) (load-end 0x4000 3 0x4000)))
 
-T-loads : loadFrom 0x5000 0 0 longerFiles ≡ passed
+T-loads : loadFrom 0x5000 0 0 longerFiles ≡ Passed
 T-loads =
     load-next 0x5000 0 0 0x1000 true hostFile hostImage hostRecord _ host-reads (omega arith)
     (load-next 0x5000 1 0x1000 0x2000 false programFile programImage programRecord _ program-reads (omega arith)
     (load-next 0x5000 2 0x3000 0x1000 false (libraryFile 97) (libraryImage 97) libraryRecord _ a-reads (omega arith)
     (load-next 0x5000 3 0x4000 0x1000 false (libraryFile 98) (libraryImage 98) libraryRecord _ b-reads (omega arith) (load-end 0x5000 4 0x5000))))
 
-S-prepared : prepareVerdict sheet bytes 0x4000 0x10000000 ≡ passed
-unfolding prepareVerdict unless arenaOk twinFrom some filesOf
-S-prepared = rw (sheet-ok, set-is) (loads-same 0x10000000 0x4000 files ∙ S-loads)
+S-prepared : PassesLoading setting sheet bytes 0x4000
+unfolding prepareVerdict unless arenaOk duplicateFrom some filesOf
+S-prepared = (sheet-ok, rw set-is (loads-same setting 0x4000 files ∙ S-loads))
 
-T-prepared : prepareVerdict longerSheet longerBytes 0x5000 0x10000000 ≡ passed
-unfolding prepareVerdict unless arenaOk twinFrom some filesOf sameBytes
-T-prepared = rw (longer-ok, longer-is) (loads-same 0x10000000 0x5000 longerFiles ∙ T-loads)
+T-prepared : PassesLoading setting longerSheet longerBytes 0x5000
+unfolding prepareVerdict unless arenaOk duplicateFrom some filesOf sameBytes
+T-prepared = (longer-ok, rw longer-is (loads-same setting 0x5000 longerFiles ∙ T-loads))
 
 -- ---- the order: no library needs another
 
@@ -207,33 +208,33 @@ T-order = order-two _ (rw (a-reads .record-is)) (rw (b-reads .record-is))
 
 -- ---- refusals 14 to 18: none reads another object
 
-program-verdict : (A : Objs) → objectVerdict A 1 (file false programFile) ≡ passed
+program-verdict : (A : Objs) → objectVerdict A 1 (file false programFile) ≡ Passed
 unfolding objectVerdict wordsVerdict entriesVerdict verdict refusalBy wordBytes every some tab mem byteOf leAt untilZero namedWords relrWords relrsFrom
     relasOf relasFrom relaAt rowOf checkedSymbol indexOk symbolOk isTable tableBytes tableName inWritable require below
 program-verdict A = rw (program-reads .image-is, program-reads .record-is)
 
-library-verdict : (A : Objs) (k c : ℕ) → Reads false (libraryFile c) 0x1000 (libraryImage c) libraryRecord → objectVerdict A k (file false (libraryFile c)) ≡ passed
+library-verdict : (A : Objs) (k c : ℕ) → Reads false (libraryFile c) 0x1000 (libraryImage c) libraryRecord → objectVerdict A k (file false (libraryFile c)) ≡ Passed
 unfolding objectVerdict wordsVerdict entriesVerdict namedWords relrWords relrsFrom relasOf relasFrom
 library-verdict A k c reads = rw (reads .image-is, reads .record-is)
 
-S-entries : orderVerdict S files (2 ∷ 1 ∷ []) ≡ passed
+S-entries : orderVerdict S files (2 ∷ 1 ∷ []) ≡ Passed
 unfolding orderVerdict
 S-entries = rw (library-verdict S 2 97 a-reads, program-verdict S)
 
-T-entries : orderVerdict T longerFiles (2 ∷ 3 ∷ 1 ∷ []) ≡ passed
+T-entries : orderVerdict T longerFiles (2 ∷ 3 ∷ 1 ∷ []) ≡ Passed
 unfolding orderVerdict
 T-entries = rw (library-verdict T 2 97 a-reads, library-verdict T 3 98 b-reads, program-verdict T)
 
 -- ---- lookups
 
-abbrev found : Sym
+abbrev found : Definition
 found = record { index = 1; value = 0x18; size = 8; protected = false; absolute = false }
 
 record Lookups : Type 0 where
-  a-in-S : resolve S 1 (97 ∷ []) ≡ answer 2 found 0x10003018
-  a-in-T : resolve T 1 (97 ∷ []) ≡ answer 2 found 0x10003018
-  b-in-S : resolve S 1 (98 ∷ []) ≡ absent
-  b-in-T : resolve T 1 (98 ∷ []) ≡ answer 3 found 0x10004018
+  a-in-S : resolve S 1 (byName (97 ∷ [])) ≡ answer 2 found 0x10003018
+  a-in-T : resolve T 1 (byName (97 ∷ [])) ≡ answer 2 found 0x10003018
+  b-in-S : resolve S 1 (byName (98 ∷ [])) ≡ absent
+  b-in-T : resolve T 1 (byName (98 ∷ [])) ≡ answer 3 found 0x10004018
 
 look : Lookups
 unfolding resolve scan scopeAnswer protectedOf symbols.address wordBytes tab mem byteOf leAt untilZero sameBytes hashBy elfHash gnuHash walk walkFrom
@@ -243,7 +244,7 @@ look = record { a-in-S = refl; a-in-T = refl; b-in-S = refl; b-in-T = refl }
 -- ---- reports
 
 program-words :
-    (A : Objs) (t : Bool) → isAbsent (resolve A 1 (97 ∷ [])) ≡ false → isAbsent (resolve A 1 (98 ∷ [])) ≡ t
+    (A : Objs) (t : Bool) → isAbsent (resolve A 1 (byName (97 ∷ []))) ≡ false → isAbsent (resolve A 1 (byName (98 ∷ []))) ≡ t
     → objectWords A 1 (file false programFile) ≡ 0x50000001 ∷ pick t (0x60000001 ∷ []) []
 unfolding objectWords entryReport undefinedBy wordBytes tab mem byteOf leAt untilZero relasOf relasFrom relaAt rowOf symbolFrom
 program-words A true a b = rw (program-reads .image-is, program-reads .record-is, a, b)
@@ -268,18 +269,18 @@ T-words = rw (library-words T 2 97 a-reads, library-words T 3 98 b-reads, progra
 -- a set whose stages are known
 bind-passed :
     (sheet bytes : List ℕ) (size : ℕ) (os : List Input) (order ws : List ℕ) (A : Objs) → setOf sheet bytes ≡ os
-    → prepareVerdict sheet bytes size 0x10000000 ≡ passed → objectsOf 0x10000000 (filesOf os) ≡ A → setOrder (filesOf os) (namesOf os) ≡ order
-    → orderVerdict A (filesOf os) order ≡ passed → orderWords A (filesOf os) order ≡ ws → leb (length ws) 16 ≡ true
-    → bindOf sheet bytes size 0x10000000 Lenient 16 ≡ outcome Bound (tab size (bound A order)) (ws ++ replicate (16 - length ws) 0)
-unfolding bindOf bindIn relocateVerdict unless outcomeOf
-bind-passed sheet bytes size os order ws A s v o r e w l = rw (v, s, o, r, e, w, l)
+    → PassesLoading setting sheet bytes size → objectsOf setting (filesOf os) ≡ A → setOrder (filesOf os) (namesOf os) ≡ order
+    → orderVerdict A (filesOf os) order ≡ Passed → orderWords A (filesOf os) order ≡ ws → leb (length ws) 16 ≡ true
+    → bindOf setting sheet bytes size Lenient 16 ≡ outcome Bound (tab size (bound A order)) (ws ++ replicate (16 - length ws) 0)
+unfolding bindOf bindSet bindIn relocateVerdict unless outcomeOf
+bind-passed sheet bytes size os order ws A s v o r e w l = rw (v .0, v .1, s, o, r, e, w, l)
 
-S-bound : BoundBy sheet bytes 0x4000 0x10000000 Lenient 16 (tab 0x4000 (bound S (2 ∷ 1 ∷ []))) (0x50000002 ∷ 0x50000001 ∷ 0x60000001 ∷ replicate 13 0)
+S-bound : BoundBy setting sheet bytes 0x4000 Lenient 16 (tab 0x4000 (bound S (2 ∷ 1 ∷ []))) (0x50000002 ∷ 0x50000001 ∷ 0x60000001 ∷ replicate 13 0)
 unfolding filesOf namesOf
 S-bound = bind-passed sheet bytes 0x4000 inputs (2 ∷ 1 ∷ []) _ S set-is S-prepared S-is S-order S-entries S-words refl
 
 T-bound :
-    BoundBy longerSheet longerBytes 0x5000 0x10000000 Lenient 16 (tab 0x5000 (bound T (2 ∷ 3 ∷ 1 ∷ [])))
+    BoundBy setting longerSheet longerBytes 0x5000 Lenient 16 (tab 0x5000 (bound T (2 ∷ 3 ∷ 1 ∷ [])))
     (0x50000002 ∷ 0x50000003 ∷ 0x50000001 ∷ replicate 13 0)
 unfolding filesOf namesOf
 T-bound = bind-passed longerSheet longerBytes 0x5000 longerInputs (2 ∷ 3 ∷ 1 ∷ []) _ T longer-is T-prepared T-is T-order T-entries T-words refl
@@ -287,10 +288,10 @@ T-bound = bind-passed longerSheet longerBytes 0x5000 longerInputs (2 ∷ 3 ∷ 1
 -- ---- asked by the program
 
 query-passed :
-    (sheet bytes : List ℕ) (size : ℕ) (os : List Input) (A : Objs) (name : List ℕ) (x : symbols.Answer) → setOf sheet bytes ≡ os
-    → prepareVerdict sheet bytes size 0x10000000 ≡ passed → objectsOf 0x10000000 (filesOf os) ≡ A → 1 < length os → resolve A 1 name ≡ x
-    → queryOf sheet bytes size 0x10000000 1 name ≡ replied (replyOf x) (tab size (placed A))
-query-passed sheet bytes size os A name x s v o l e = asked sheet bytes size 0x10000000 1 name v (rw s l) ∙ rw (s, o, e)
+    (sheet bytes : List ℕ) (size : ℕ) (os : List Input) (A : Objs) (name : List ℕ) (x : symbols.Resolved) → setOf sheet bytes ≡ os
+    → PassesLoading setting sheet bytes size → objectsOf setting (filesOf os) ≡ A → 1 < length os → resolve A 1 (byName name) ≡ x
+    → queryOf setting sheet bytes size 1 name ≡ replied (replyOf x) (tab size (placed A))
+query-passed sheet bytes size os A name x s v o l e = asked setting sheet bytes size 1 name v (rw s l) ∙ rw (s, o, e)
 
 -- ---- the program's words
 
@@ -312,11 +313,11 @@ excepted : (i : ℕ) → In 0x2008 8 i → Excepted S i
 excepted i w =
     named (
       1,
-      objects.symbol 0x1008 8 (98 ∷ []) (λ a. a),
+      objects.symbol 0x1008 8 (byName (98 ∷ [])) (λ a. a),
       omega arith,
       omega arith,
       List·Memᴰ·tail (List·Memᴰ·head refl),
-      (subst (λ (x : symbols.Answer). HostOrNowhere x) (sym (look .b-in-S)) nowhere, omega arith),
+      (subst (λ (x : symbols.Resolved). HostOrNowhere x) (sym (look .b-in-S)) nowhere, omega arith),
     )
 
 -- the library has no entries
@@ -326,7 +327,7 @@ only (suc zero) l h e m = absurd (omega arith)
 only (suc (suc zero)) l h e m = absurd (List·Memᴰ·not-nil m)
 only (suc (suc (suc k))) l h e m = absurd (omega arith)
 
-objects-are : setObjects 0x10000000 sheet bytes ≡ S
+objects-are : setObjects setting sheet bytes ≡ S
 unfolding filesOf
 objects-are = rw set-is S-is
 
@@ -355,6 +356,6 @@ pair-of-sheets =
       b-word-longer = word-of 0x5000 (bound T (2 ∷ 3 ∷ 1 ∷ [])) 0x2008 (omega arith) ∙ program-has .b-in-T;
       b-excepted = λ i w. subst (λ (A : Objs). Excepted A i) (sym objects-are) (excepted i w);
       kept =
-          longer-set 0x10000000 Lenient sheet bytes 0x4000 16 _ _ S-bound (subst OnlyProgramCopies (sym objects-are) only) 0x30000140 0x40000001
+          longer-set setting Lenient sheet bytes 0x4000 16 _ _ S-bound (subst OnlyProgramCopies (sym objects-are) only) 0x30000140 0x40000001
           (libraryFile 98 ++ (109 ∷ [])) 0x5000 16 _ _ T-bound;
     }

@@ -9,15 +9,18 @@ use lib.Dec.{eqb}
 use lib.ListN.{length, getD}
 use Rattle.model.specs.Order.{has}
 use Rattle.model.proofs.OrderLaws.{nothing-else}
-use Rattle.sheet.specs.Sheet.{Input, sheetOk, setOf, arenaOk, twinOf}
+use Rattle.sheet.specs.Sheet.{Input, sheetOk, setOf, arenaOk, duplicateOf}
 use Rattle.sheet.proofs.SheetLonger.{sheet-shape}
+use Rattle.binder.specs.Setting.{Setting}
 use Rattle.binder.specs.Instance.{File}
-use Rattle.binder.specs.Verdict.{passed, noFile, loadVerdict}
+use Rattle.binder.specs.Verdict.{noFile, loadVerdict}
+use Rattle.binder.specs.declared.Verdict.the-variants.{Passed}
 use Rattle.binder.specs.Steps.Prepared.{loadFrom}
 use Rattle.binder.specs.SetOrder.{neededObjects, setOrder}
 use Rattle.binder.specs.Bind.{filesOf, namesOf, objectsOf, unless, prepareVerdict}
+use Rattle.demands.specs.LongerSet.{PassesLoading}
 use Rattle.binder.proofs.LoadsSame.{loads-same}
-use Rattle.binder.proofs.OutcomeLaws.{first-passed, unless-passed}
+use Rattle.binder.proofs.OutcomeLaws.{first-passed, unless-passed, sheetVerdict}
 use Rattle.binder.proofs.OrderIs.{names-length}
 
 module _ (sheet bytes : List ℕ) where
@@ -26,15 +29,20 @@ module _ (sheet bytes : List ℕ) where
 
   pub record Loads (size : ℕ) : Type 0 where
     pub sheet-ok : sheetOk sheet (length bytes) ≡ true
-    pub loads : loadFrom size 0 0 (filesOf os) ≡ passed
+    pub loads : loadFrom size 0 0 (filesOf os) ≡ Passed
 
-  pub prepared : (size address : ℕ) → prepareVerdict sheet bytes size address ≡ passed → Loads size
+  pub prepared : (setting : Setting) (size : ℕ) → PassesLoading setting sheet bytes size → Loads size
   unfolding prepareVerdict
-  prepared size address v =
+  prepared setting size v =
+      let b = first-passed (unless (arenaOk size (setting .address)) 2 0) _ (v .1) in
+      let c = first-passed (unless (eqb (duplicateOf os) 0) 3 (duplicateOf os)) (loadVerdict (objectsOf setting (filesOf os)) size 0 (filesOf os)) (b .1) in
+      record { sheet-ok = v .0; loads = sym (loads-same setting size (filesOf os)) ∙ c .1 }
+
+  -- of the one verdict
+  pub sheet-prepared : (setting : Setting) (size : ℕ) → sheetVerdict setting sheet bytes size ≡ Passed → PassesLoading setting sheet bytes size
+  sheet-prepared setting size v =
       let a = first-passed (unless (sheetOk sheet (length bytes)) 1 0) _ v in
-      let b = first-passed (unless (arenaOk size address) 2 0) _ (a .1) in
-      let c = first-passed (unless (eqb (twinOf os) 0) 3 (twinOf os)) (loadVerdict (objectsOf address (filesOf os)) size 0 (filesOf os)) (b .1) in
-      record { sheet-ok = unless-passed (sheetOk sheet (length bytes)) 1 0 (a .0); loads = sym (loads-same address size (filesOf os)) ∙ c .1 }
+      (unless-passed (sheetOk sheet (length bytes)) 1 0 (a .0), a .1)
 
   -- its libraries have a name each, and are at most 62
   pub record Counts : Type 0 where

@@ -13,7 +13,7 @@ use Rattle.words.specs.Choice as choice
 use Rattle.model.specs.Order.{has}
 use Rattle.model.specs.Objects.{Objs, obj}
 use Rattle.model.specs.Scope.{resolveCopy}
-use Rattle.model.specs.Symbols.{Answer, absent, answer}
+use Rattle.model.specs.Symbols.{Resolved, absent, answer}
 use Rattle.model.proofs.OrderLaws.{decide, clash, has-head, has-cons}
 use Rattle.object.specs.Refusal.{require, after}
 use Rattle.object.specs.Header.{headerRefusal}
@@ -33,29 +33,12 @@ use Rattle.object.specs.declared.program_header.Dynamic.the-variants.{Missing, 
 use Rattle.object.specs.declared.symbol.Symbol.{Symbol}
 use Rattle.object.specs.declared.relocate.Rela.{Rela}
 use Rattle.object.specs.RelocationTypes.{Row, noSearch, inScope, ignored, passedOver, turnedAway, copies, writes, rowOf}
-use Rattle.object.specs.declared.entry_symbol.CheckedSymbol.the-variants.{Refused, Checked}
-use Rattle.sheet.specs.Sheet.{Input, noInput, named, twinFrom, twinOf}
-use Rattle.binder.specs.Instance.{File, fileImage, fileRecord, namedWords, relasOf}
-use Rattle.binder.specs.Verdict.{
-  Verdict,
-  passed,
-  refused,
-  first,
-  verdict,
-  noFile,
-  loadVerdict,
-  writtenRefusal,
-  wordRefusal,
-  copyOk,
-  copyRefusal,
-  symbolThen,
-  refusalBy,
-  entryRefusal,
-  wordsVerdict,
-  entriesVerdict,
-  objectVerdict,
-  orderVerdict,
-}
+use Rattle.object.specs.declared.entry_symbol.CheckedSymbol as checked
+use Rattle.sheet.specs.Sheet.{Input, noInput, named, duplicateFrom, duplicateOf}
+use Rattle.binder.specs.Instance.{File, fileImage, fileRecord, namedWords, relasOf, wantedBy}
+use Rattle.binder.specs.Verdict.{first, verdict, noFile, loadVerdict, writtenRefusal, wordRefusal, copyOk, copyRefusal, symbolThen, refusalBy, entryRefusal, wordsVerdict, entriesVerdict, objectVerdict, orderVerdict}
+use Rattle.binder.specs.declared.Verdict.{Verdict}
+use Rattle.binder.specs.declared.Verdict.the-variants.{Passed, Refused}
 use Rattle.binder.specs.Report.{hasUndefined, firstUndefined}
 use Rattle.binder.specs.Bind.{unless}
 
@@ -84,13 +67,7 @@ header-range : (file : List ℕ) → Range 4 12 (headerRefusal file)
 unfolding headerRefusal
 header-range file =
     required-range 4 12 _ 4 _ (omega arith) (omega arith)
-    (required-range 4 12 _ 4 _ (omega arith) (omega arith)
-    (required-range 4 12 _ 4 _ (omega arith) (omega arith)
-    (required-range 4 12 _ 5 _ (omega arith) (omega arith)
-    (required-range 4 12 _ 5 _ (omega arith) (omega arith)
-    (required-range 4 12 _ 5 _ (omega arith) (omega arith)
-    (required-range 4 12 _ 5 _ (omega arith) (omega arith)
-    (required-range 4 12 _ 6 _ (omega arith) (omega arith) (last-range 4 12 _ 6 (omega arith) (omega arith)))))))))
+    (required-range 4 12 _ 5 _ (omega arith) (omega arith) (last-range 4 12 _ 6 (omega arith) (omega arith)))
 
 -- 7 and 8
 file-range : (host : Bool) (file : List ℕ) → Range 4 12 (fileRefusal host file)
@@ -135,7 +112,7 @@ word-range r (place p) = written-range r p 8
 word-range r nowhere = λ z. omega arith
 
 -- 17 and 18
-copy-range : (S : Objs) (k : ℕ) (r : Record) (p size : ℕ) (a : Answer) → Range 14 18 (copyRefusal S k r p size a)
+copy-range : (S : Objs) (k : ℕ) (r : Record) (p size : ℕ) (a : Resolved) → Range 14 18 (copyRefusal S k r p size a)
 unfolding copyRefusal
 copy-range S k r p size absent = λ z. absurd (omega arith)
 copy-range S k r p size (answer d s a) = go (eqb (min size (s .size)) 0)
@@ -157,7 +134,7 @@ unfolding checkedSymbol
 symbol-range image r i rest h =
     go (indexOk (r .known) i) (symbolOk (isTableOf r) image (r .symbols) (r .strings) i)
   where
-    go : (s t : Bool) → Range 14 18 (symbolThen (pick s (pick t (Checked (symbolAt image (r .symbols) i)) (Refused 15)) (Refused 14)) rest)
+    go : (s t : Bool) → Range 14 18 (symbolThen (pick s (pick t (checked.the-variants.Checked (symbolAt image (r .symbols) i)) (checked.the-variants.Refused 15)) (checked.the-variants.Refused 14)) rest)
     go true true = h (symbolAt image (r .symbols) i)
     go true false = λ z. omega arith
     go false t = λ z. omega arith
@@ -171,24 +148,24 @@ entry-range S k image r e (writes noSearch f) = written-range r (e .place) (f .w
 entry-range S k image r e (writes inScope f) =
     symbol-range image r (e .symbol) (λ y. writtenRefusal r (e .place) (f .width)) (λ y. written-range r (e .place) (f .width))
 entry-range S k image r e copies =
-    symbol-range image r (e .symbol) (λ y. copyRefusal S k r (e .place) (y .size) (resolveCopy S (nameOf image r y)))
-    (λ y. copy-range S k r (e .place) (y .size) (resolveCopy S (nameOf image r y)))
+    symbol-range image r (e .symbol) (λ y. copyRefusal S k r (e .place) (y .size) (resolveCopy S (wantedBy image r (e .symbol))))
+    (λ y. copy-range S k r (e .place) (y .size) (resolveCopy S (wantedBy image r (e .symbol))))
 
 -- ---- verdicts: what holds of the number and the object, where there is a refusal
 
 abbrev pub Meets : (ℕ → ℕ → Type 0) → Verdict → Type 0
-Meets P passed = Unit {0}
-Meets P (refused n k) = P n k
+Meets P Passed = Unit {0}
+Meets P (Refused n k) = P n k
 
 module _ (P : ℕ → ℕ → Type 0) where
   pub first-meets : (v w : Verdict) → Meets P v → Meets P w → Meets P (first v w)
-  first-meets passed w a b = b
-  first-meets (refused n k) w a b = a
+  first-meets Passed w a b = b
+  first-meets (Refused n k) w a b = a
 
   -- the second is looked at where the first passed
-  pub first-then : (v w : Verdict) → Meets P v → (v ≡ passed → Meets P w) → Meets P (first v w)
-  first-then passed w a b = b refl
-  first-then (refused n k) w a b = a
+  pub first-then : (v w : Verdict) → Meets P v → (v ≡ Passed → Meets P w) → Meets P (first v w)
+  first-then Passed w a b = b refl
+  first-then (Refused n k) w a b = a
 
   pub unless-meets : (t : Bool) (n k : ℕ) → (t ≡ false → P n k) → Meets P (unless t n k)
   unfolding unless
@@ -200,7 +177,7 @@ module _ (P : ℕ → ℕ → Type 0) where
   unfolding verdict
   verdict-meets low high n k r h = go (eqb n 0) refl
     where
-      go : (t : Bool) → eqb n 0 ≡ t → Meets P (pick t passed (refused n k))
+      go : (t : Bool) → eqb n 0 ≡ t → Meets P (pick t Passed (Refused n k))
       go true e = tt
       go false e =
           let ne = eqb-false n 0 e in
@@ -273,15 +250,15 @@ no-earlier n [] = refl
 no-earlier n (h ∷ []) = refl
 no-earlier n (h ∷ (p ∷ ls)) = refl
 
-twin-from :
-    (os : List Input) (n k : ℕ) → 2 ≤ k → twinFrom os n k ≢ 0 → (3 ≤ twinFrom os n k) × (twinFrom os n k < k + n)
-unfolding twinFrom
-twin-from os zero k l ne = absurd (ne refl)
-twin-from os (suc n) k l ne =
+duplicate-from :
+    (os : List Input) (n k : ℕ) → 2 ≤ k → duplicateFrom os n k ≢ 0 → (3 ≤ duplicateFrom os n k) × (duplicateFrom os n k < k + n)
+unfolding duplicateFrom
+duplicate-from os zero k l ne = absurd (ne refl)
+duplicate-from os (suc n) k l ne =
     ⊎-elim
     (λ (t : named (getD os k noInput .name) (drop 2 (take k os)) ≡ true). rw t (later t, omega arith))
     (λ (t : named (getD os k noInput .name) (drop 2 (take k os)) ≡ false).
-    let r = twin-from os n (k + 1) (omega arith) (rw t at ne) in
+    let r = duplicate-from os n (k + 1) (omega arith) (rw t at ne) in
     rw t (r .0, omega arith))
     (decide (named (getD os k noInput .name) (drop 2 (take k os))))
   where
@@ -292,7 +269,7 @@ twin-from os (suc n) k l ne =
         go true e = absurd (clash (rw (eqb-true k 2 e) at t) (no-earlier (getD os 2 noInput .name) os))
         go false e = let ne = eqb-false k 2 e in omega arith
 
-pub twin-later : (os : List Input) → twinOf os ≢ 0 → (3 ≤ twinOf os) × (twinOf os < length os)
-twin-later os ne =
-    let r = twin-from os (length (drop 2 os)) 2 (omega arith) ne in
+pub duplicate-later : (os : List Input) → duplicateOf os ≢ 0 → (3 ≤ duplicateOf os) × (duplicateOf os < length os)
+duplicate-later os ne =
+    let r = duplicate-from os (length (drop 2 os)) 2 (omega arith) ne in
     (r .0, omega (arith, length-drop 2 os))

@@ -1,5 +1,5 @@
 -- Demand 1's statements on refusals hold. Assumes nothing.
-use mathlib.Core.Path.{_≡_, refl, ap, _∙_}
+use mathlib.Core.Path.{_≡_, refl, sym, ap, _∙_}
 use mathlib.Core.Bool.{true, false, true≢false}
 use mathlib.Core.Logic.{_⊎_, inl, inr, _≢_}
 use mathlib.Core.List.{List, _++_}
@@ -13,17 +13,20 @@ use Rattle.model.specs.Order.{has}
 use Rattle.model.specs.Objects.{Objs}
 use Rattle.model.specs.Scope.{resolve}
 use Rattle.model.specs.Symbols as symbols
-use Rattle.model.specs.Symbols.{absent, answer}
+use Rattle.model.specs.Symbols.{byName, absent, answer}
 use Rattle.model.proofs.OrderLaws.{clash}
-use Rattle.sheet.specs.Sheet.{Input, sheetOk, setOf, arenaOk, twinOf}
+use Rattle.sheet.specs.Sheet.{Input, sheetOk, setOf, arenaOk, duplicateOf}
 use Rattle.binder.specs.declared.Policy.{Policy}
 use Rattle.binder.specs.declared.Policy.the-variants.{Strict, Lenient}
 use Rattle.binder.specs.declared.Answer as answers
 use Rattle.binder.specs.declared.Answer.{Answer}
 use Rattle.binder.specs.declared.Reply as replies
 use Rattle.binder.specs.declared.Reply.{Reply}
+use Rattle.binder.specs.Setting.{Setting}
 use Rattle.binder.specs.Instance.{File}
-use Rattle.binder.specs.Verdict.{Verdict, passed, refused, first, orderVerdict}
+use Rattle.binder.specs.Verdict.{first, orderVerdict}
+use Rattle.binder.specs.declared.Verdict.{Verdict}
+use Rattle.binder.specs.declared.Verdict.the-variants.{Passed, Refused}
 use Rattle.binder.specs.Report.{orderWords, firstUndefined}
 use Rattle.binder.specs.Bind.{
   filesOf,
@@ -35,16 +38,14 @@ use Rattle.binder.specs.Bind.{
   outcome,
   outcomeOf,
   bindIn,
-  bindOf,
   replied,
   replyOf,
   repliedOf,
-  queryOf,
 }
-use Rattle.binder.proofs.OutcomeLaws.{first-passed, unless-passed, objectsIn, orderIn}
+use Rattle.binder.proofs.OutcomeLaws.{first-passed, unless-passed, objectsIn, orderIn, sheetVerdict, bind-one, query-one}
 use Rattle.binder.proofs.PrepareLaws.{files-length}
 use Rattle.demands.specs.Refusals.{withoutObject, ObjectOf, BindNumber, BindRefusals, QueryNumber, QueryRefusals, Answered, Lengths}
-use Rattle.demands.proofs.PassedSet.{prepared, counts, order-objects}
+use Rattle.demands.proofs.PassedSet.{sheet-prepared, counts, order-objects}
 use Rattle.demands.proofs.RefusalNumbers.{
   Meets,
   first-meets,
@@ -53,7 +54,7 @@ use Rattle.demands.proofs.RefusalNumbers.{
   load-meets,
   order-meets,
   first-undefined,
-  twin-later,
+  duplicate-later,
 }
 
 -- ---- a refusal's number and its object
@@ -86,30 +87,30 @@ of-object count n k a b c d small later entry =
       entry = λ l h. omega (arith, entry l h);
     }
 
-module _ (sheet bytes : List ℕ) (size address : ℕ) where
+module _ (setting : Setting) (sheet bytes : List ℕ) (size : ℕ) where
   abbrev os : List Input
   os = setOf sheet bytes
 
   -- 1 to 12
   prepare-right :
-      (N : ℕ → Type 0) → ((n : ℕ) → 1 ≤ n → n ≤ 12 → N n) → Meets (Right N (length os)) (prepareVerdict sheet bytes size address)
+      (N : ℕ → Type 0) → ((n : ℕ) → 1 ≤ n → n ≤ 12 → N n) → Meets (Right N (length os)) (sheetVerdict setting sheet bytes size)
   unfolding prepareVerdict
   prepare-right N ok =
       first-meets (Right N (length os)) (unless (sheetOk sheet (length bytes)) 1 0) _
       (unless-meets (Right N (length os)) (sheetOk sheet (length bytes)) 1 0
       (λ _. (ok 1 (omega arith) (omega arith), without (length os) 1 refl (λ e. omega arith) (λ l h. omega arith))))
-      (first-meets (Right N (length os)) (unless (arenaOk size address) 2 0) _
-      (unless-meets (Right N (length os)) (arenaOk size address) 2 0
+      (first-meets (Right N (length os)) (unless (arenaOk size (setting .address)) 2 0) _
+      (unless-meets (Right N (length os)) (arenaOk size (setting .address)) 2 0
       (λ _. (ok 2 (omega arith) (omega arith), without (length os) 2 refl (λ e. omega arith) (λ l h. omega arith))))
-      (first-meets (Right N (length os)) (unless (eqb (twinOf os) 0) 3 (twinOf os)) _
-      (unless-meets (Right N (length os)) (eqb (twinOf os) 0) 3 (twinOf os)
+      (first-meets (Right N (length os)) (unless (eqb (duplicateOf os) 0) 3 (duplicateOf os)) _
+      (unless-meets (Right N (length os)) (eqb (duplicateOf os) 0) 3 (duplicateOf os)
       (λ e.
-      let t = twin-later os (eqb-false (twinOf os) 0 e) in (
+      let t = duplicate-later os (eqb-false (duplicateOf os) 0 e) in (
         ok 3 (omega arith) (omega arith),
-        of-object (length os) 3 (twinOf os) (λ e. omega arith) (λ e. omega arith) (λ e. omega arith) (λ e. omega arith) (t .1) (λ _. t .0)
+        of-object (length os) 3 (duplicateOf os) (λ e. omega arith) (λ e. omega arith) (λ e. omega arith) (λ e. omega arith) (t .1) (λ _. t .0)
             (λ l h. absurd (omega arith)),
       )))
-      (load-meets (Right N (length os)) (objectsIn address os) size 0 (filesOf os)
+      (load-meets (Right N (length os)) (objectsIn setting os) size 0 (filesOf os)
       (λ n j l h b. (
         ok n (omega arith) (omega arith),
         of-object (length os) n j (λ e. omega arith) (λ e. omega arith) (λ e. omega arith) (λ e. omega arith)
@@ -119,25 +120,25 @@ module _ (sheet bytes : List ℕ) (size address : ℕ) where
   -- 14 to 20
   relocate-right :
       (N : ℕ → Type 0) → ((n : ℕ) → 14 ≤ n → n ≤ 20 → N n) → sheetOk sheet (length bytes) ≡ true → (policy : Policy) (words : ℕ)
-      → Meets (Right N (length os)) (relocateVerdict (objectsIn address os) (filesOf os) (orderIn os) policy words)
+      → Meets (Right N (length os)) (relocateVerdict (objectsIn setting os) (filesOf os) (orderIn os) policy words)
   unfolding relocateVerdict
   relocate-right N ok good policy words =
-      first-meets (Right N (length os)) (orderVerdict (objectsIn address os) (filesOf os) (orderIn os)) _
-      (order-meets (Right N (length os)) (objectsIn address os) (filesOf os) (orderIn os)
+      first-meets (Right N (length os)) (orderVerdict (objectsIn setting os) (filesOf os) (orderIn os)) _
+      (order-meets (Right N (length os)) (objectsIn setting os) (filesOf os) (orderIn os)
       (λ n k l h m.
       let b : (1 ≤ k) × (k < length (namesOf os) + 2) = order-objects (filesOf os) (namesOf os) k m in
       (ok n (omega arith) (omega arith), entry-of n k l (omega arith) (b .0) (b .1))))
       (first-meets (Right N (length os)) (unless (allows policy u) 19 u) _
       (unless-meets (Right N (length os)) (allows policy u) 19 u
       (λ e.
-      let m = first-undefined (objectsIn address os) (filesOf os) (orderIn os) (undefined policy e) in
+      let m = first-undefined (objectsIn setting os) (filesOf os) (orderIn os) (undefined policy e) in
       let b : (1 ≤ u) × (u < length (namesOf os) + 2) = order-objects (filesOf os) (namesOf os) u m in
       (ok 19 (omega arith) (omega arith), entry-of 19 u (omega arith) (omega arith) (b .0) (b .1))))
-      (unless-meets (Right N (length os)) (leb (length (orderWords (objectsIn address os) (filesOf os) (orderIn os))) words) 20 0
+      (unless-meets (Right N (length os)) (leb (length (orderWords (objectsIn setting os) (filesOf os) (orderIn os))) words) 20 0
       (λ _. (ok 20 (omega arith) (omega arith), without (length os) 20 refl (λ e. omega arith) (λ l h. omega arith)))))
     where
       u : ℕ
-      u = firstUndefined (objectsIn address os) (filesOf os) (orderIn os)
+      u = firstUndefined (objectsIn setting os) (filesOf os) (orderIn os)
 
       entry-of : (n k : ℕ) → 14 ≤ n → n ≤ 19 → 1 ≤ k → k < length (namesOf os) + 2 → ObjectOf (length os) n k
       entry-of n k l h pos small =
@@ -151,18 +152,18 @@ module _ (sheet bytes : List ℕ) (size address : ℕ) where
   bind-right :
       (policy : Policy) (words : ℕ)
       → Meets (Right BindNumber (length os))
-      (first (prepareVerdict sheet bytes size address) (relocateVerdict (objectsIn address os) (filesOf os) (orderIn os) policy words))
+      (first (sheetVerdict setting sheet bytes size) (relocateVerdict (objectsIn setting os) (filesOf os) (orderIn os) policy words))
   bind-right policy words =
-      first-then (Right BindNumber (length os)) (prepareVerdict sheet bytes size address) _
+      first-then (Right BindNumber (length os)) (sheetVerdict setting sheet bytes size) _
       (prepare-right BindNumber (λ n l h. omega arith))
-      (λ v. relocate-right BindNumber (λ n l h. omega arith) (prepared sheet bytes size address v .sheet-ok) policy words)
+      (λ v. relocate-right BindNumber (λ n l h. omega arith) (sheet-prepared sheet bytes setting size v .0) policy words)
 
   query-right :
       (requester : ℕ)
       → Meets (Right QueryNumber (length os))
-      (first (prepareVerdict sheet bytes size address) (unless (ltb requester (length os)) 13 0))
+      (first (sheetVerdict setting sheet bytes size) (unless (ltb requester (length os)) 13 0))
   query-right requester =
-      first-then (Right QueryNumber (length os)) (prepareVerdict sheet bytes size address) _
+      first-then (Right QueryNumber (length os)) (sheetVerdict setting sheet bytes size) _
       (prepare-right QueryNumber (λ n l h. omega arith))
       (λ v. unless-meets (Right QueryNumber (length os)) (ltb requester (length os)) 13 0
       (λ _. (omega arith, without (length os) 13 refl (λ e. omega arith) (λ l h. omega arith))))
@@ -174,17 +175,17 @@ refused-outcome :
     → outcomeOf size words v a r ≡ outcome (answers.the-variants.Refused n k) arena report
     → P n k × (arena ≡ replicate size 0) × (report ≡ replicate words 0)
 unfolding outcomeOf
-refused-outcome P size words passed a r n k arena report m e = let z : _≡_ {A = ℕ} 0 1 = cc in absurd (omega arith)
-refused-outcome P size words (refused i j) a r n k arena report m e =
+refused-outcome P size words Passed a r n k arena report m e = let z : _≡_ {A = ℕ} 0 1 = cc in absurd (omega arith)
+refused-outcome P size words (Refused i j) a r n k arena report m e =
     let number : i ≡ n = cc in
     let object : j ≡ k = cc in
     (rw (number, object) at m, cc, cc)
 
 pub bind-refusals : BindRefusals
-unfolding bindOf bindIn
-bind-refusals sheet bytes size address policy words n k arena report e =
+unfolding bindIn
+bind-refusals setting sheet bytes size policy words n k arena report e =
     let o = refused-outcome (Right BindNumber (length (setOf sheet bytes))) size words _ _ _ n k arena report
-    (bind-right sheet bytes size address policy words) e in
+    (bind-right setting sheet bytes size policy words) (sym (bind-one setting sheet bytes size policy words) ∙ e) in
     record { number = o .0 .0; object = o .0 .1; arena-zeros = o .1; report-zeros = o .2 }
 
 refused-reply :
@@ -193,23 +194,23 @@ refused-reply :
     → repliedOf size v r l ≡ replied (replies.the-variants.Refused n k) arena
     → P n k × (arena ≡ replicate size 0)
 unfolding repliedOf
-refused-reply P size passed r l n k arena m ne e = absurd (ne n k cc)
-refused-reply P size (refused i j) r l n k arena m ne e =
+refused-reply P size Passed r l n k arena m ne e = absurd (ne n k cc)
+refused-reply P size (Refused i j) r l n k arena m ne e =
     let number : i ≡ n = cc in
     let object : j ≡ k = cc in
     (rw (number, object) at m, cc)
 
 -- a lookup is no refusal
-no-refusal : (x : symbols.Answer) (n k : ℕ) → replyOf x ≢ replies.the-variants.Refused n k
+no-refusal : (x : symbols.Resolved) (n k : ℕ) → replyOf x ≢ replies.the-variants.Refused n k
 no-refusal absent n k e = let z : _≡_ {A = ℕ} 0 1 = cc in absurd (omega arith)
 no-refusal (answer j s a) n k e = let z : _≡_ {A = ℕ} 0 1 = cc in absurd (omega arith)
 
 pub query-refusals : QueryRefusals
-unfolding queryOf
-query-refusals sheet bytes size address requester name n k arena e =
+query-refusals setting sheet bytes size requester name n k arena e =
     let o = refused-reply (Right QueryNumber (length (setOf sheet bytes))) size _ _ _ n k arena
-    (query-right sheet bytes size address requester)
-    (no-refusal (resolve (objectsIn address (setOf sheet bytes)) requester name)) e in
+    (query-right setting sheet bytes size requester)
+    (no-refusal (resolve (objectsIn setting (setOf sheet bytes)) requester (byName name)))
+    (sym (query-one setting sheet bytes size requester name) ∙ e) in
     record { number = o .0 .0; object = o .0 .1; arena-zeros = o .1 }
 
 -- ---- every call
@@ -219,23 +220,23 @@ bind-answered :
     → ((arena report : List ℕ) × (outcomeOf size words v a r ≡ outcome answers.the-variants.Bound arena report))
     ⊎ ((n k : ℕ) × (outcomeOf size words v a r ≡ outcome (answers.the-variants.Refused n k) (replicate size 0) (replicate words 0)))
 unfolding outcomeOf
-bind-answered size words passed a r = inl (a, r ++ replicate (words - length r) 0, refl)
-bind-answered size words (refused n k) a r = inr (n, k, refl)
+bind-answered size words Passed a r = inl (a, r ++ replicate (words - length r) 0, refl)
+bind-answered size words (Refused n k) a r = inr (n, k, refl)
 
 query-answered :
     (size : ℕ) (v : Verdict) (x : Reply) (l : List ℕ)
     → ((arena : List ℕ) × (repliedOf size v x l ≡ replied x arena))
     ⊎ ((n k : ℕ) × (repliedOf size v x l ≡ replied (replies.the-variants.Refused n k) (replicate size 0)))
 unfolding repliedOf
-query-answered size passed x l = inl (l, refl)
-query-answered size (refused n k) x l = inr (n, k, refl)
+query-answered size Passed x l = inl (l, refl)
+query-answered size (Refused n k) x l = inr (n, k, refl)
 
 pub answered : Answered
-unfolding bindOf bindIn queryOf
+unfolding bindIn
 answered =
     record {
-      bind = λ sheet bytes size address policy words. bind-answered size words _ _ _;
-      query = λ sheet bytes size address requester name. query-answered size _ _ _;
+      bind = λ setting sheet bytes size policy words. rw (bind-one setting sheet bytes size policy words) (bind-answered size words _ _ _);
+      query = λ setting sheet bytes size requester name. rw (query-one setting sheet bytes size requester name) (query-answered size _ _ _);
     }
 
 -- ---- lengths
@@ -244,15 +245,15 @@ words-fit : (words : ℕ) (ws : List ℕ) → length ws ≤ words → length (ws
 words-fit words ws l = simp (length-append, length-replicate) (omega arith)
 
 bind-lengths :
-    (size words : ℕ) (v : Verdict) (a r : List ℕ) (x : Answer) (arena report : List ℕ) → length a ≡ size → (v ≡ passed → length r ≤ words)
+    (size words : ℕ) (v : Verdict) (a r : List ℕ) (x : Answer) (arena report : List ℕ) → length a ≡ size → (v ≡ Passed → length r ≤ words)
     → outcomeOf size words v a r ≡ outcome x arena report
     → (length arena ≡ size) × (length report ≡ words)
 unfolding outcomeOf
-bind-lengths size words passed a r x arena report la lr e =
+bind-lengths size words Passed a r x arena report la lr e =
     let arena-is : arena ≡ a = cc in
     let report-is : report ≡ r ++ replicate (words - length r) 0 = cc in
     (ap length arena-is ∙ la, ap length report-is ∙ words-fit words r (lr refl))
-bind-lengths size words (refused n k) a r x arena report la lr e =
+bind-lengths size words (Refused n k) a r x arena report la lr e =
     let arena-is : arena ≡ replicate size 0 = cc in
     let report-is : report ≡ replicate words 0 = cc in
     (ap length arena-is ∙ length-replicate size 0, ap length report-is ∙ length-replicate words 0)
@@ -261,13 +262,13 @@ query-length :
     (size : ℕ) (v : Verdict) (x : Reply) (l : List ℕ) (r : Reply) (arena : List ℕ) → length l ≡ size → repliedOf size v x l ≡ replied r arena
     → length arena ≡ size
 unfolding repliedOf
-query-length size passed x l r arena n e = let is : arena ≡ l = cc in ap length is ∙ n
-query-length size (refused i j) x l r arena n e = let is : arena ≡ replicate size 0 = cc in ap length is ∙ length-replicate size 0
+query-length size Passed x l r arena n e = let is : arena ≡ l = cc in ap length is ∙ n
+query-length size (Refused i j) x l r arena n e = let is : arena ≡ replicate size 0 = cc in ap length is ∙ length-replicate size 0
 
 -- 20 was passed
 room :
     (S : Objs) (files : List File) (order : List ℕ) (policy : Policy) (words : ℕ) (v : Verdict)
-    → first v (relocateVerdict S files order policy words) ≡ passed → length (orderWords S files order) ≤ words
+    → first v (relocateVerdict S files order policy words) ≡ Passed → length (orderWords S files order) ≤ words
 unfolding relocateVerdict
 room S files order policy words v e =
     let a = first-passed v _ e in
@@ -276,12 +277,13 @@ room S files order policy words v e =
     leb-true _ _ (unless-passed (leb (length (orderWords S files order)) words) 20 0 (c .1))
 
 pub lengths : Lengths
-unfolding bindOf bindIn queryOf
+unfolding bindIn
 lengths =
     record {
-      bind = λ sheet bytes size address policy words x arena report e.
+      bind = λ setting sheet bytes size policy words x arena report e.
           bind-lengths size words _ _ _ x arena report (length-tab size _)
-          (room (objectsIn address (setOf sheet bytes)) (filesOf (setOf sheet bytes)) (orderIn (setOf sheet bytes)) policy words
-          (prepareVerdict sheet bytes size address)) e;
-      query = λ sheet bytes size address requester name r arena e. query-length size _ _ _ r arena (length-tab size _) e;
+          (room (objectsIn setting (setOf sheet bytes)) (filesOf (setOf sheet bytes)) (orderIn (setOf sheet bytes)) policy words
+          (sheetVerdict setting sheet bytes size)) (sym (bind-one setting sheet bytes size policy words) ∙ e);
+      query = λ setting sheet bytes size requester name r arena e.
+          query-length size _ _ _ r arena (length-tab size _) (sym (query-one setting sheet bytes size requester name) ∙ e);
     }

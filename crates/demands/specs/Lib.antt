@@ -4,3 +4,5 @@ pub mod OrderReport
 pub mod Cases
 pub mod Refusals
 pub mod PairOfSheets
+pub mod ObjectRuns
+pub mod WalksEnd

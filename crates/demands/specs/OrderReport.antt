@@ -10,6 +10,7 @@ use Rattle.words.specs.Choice.{pick}
 use Rattle.model.specs.Order.{has, Before, Reach, OnceEach}
 use Rattle.binder.specs.declared.Policy.{Policy}
 use Rattle.sheet.specs.Sheet.{Input, setOf}
+use Rattle.binder.specs.Setting.{Setting}
 use Rattle.binder.specs.Verdict.{noFile}
 use Rattle.binder.specs.SetOrder.{neededObjects, setOrder}
 use Rattle.binder.specs.Bind.{filesOf, namesOf}
@@ -39,6 +40,6 @@ pub record OrderReported (os : List Input) (report : List ℕ) : Type 0 where
 -- of every set that is bound
 abbrev pub OrderReport : Type 0
 OrderReport =
-    (sheet bytes : List ℕ) (size address : ℕ) (policy : Policy) (words : ℕ) (arena report : List ℕ)
-    → BoundBy sheet bytes size address policy words arena report
+    (setting : Setting) (sheet bytes : List ℕ) (size : ℕ) (policy : Policy) (words : ℕ) (arena report : List ℕ)
+    → BoundBy setting sheet bytes size policy words arena report
     → OrderReported (setOf sheet bytes) report

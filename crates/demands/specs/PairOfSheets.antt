@@ -11,6 +11,7 @@ use Rattle.model.specs.Longer.{OnlyProgramCopies, Excepted, Kept}
 use Rattle.binder.specs.declared.Policy.the-variants.{Lenient}
 use Rattle.binder.specs.declared.Reply.{Reply}
 use Rattle.binder.specs.declared.Reply.the-variants.{Found, Absent}
+use Rattle.binder.specs.Setting.{Setting, settingAt}
 use Rattle.binder.specs.Bind.{queryOf, replied}
 use Rattle.demands.specs.LongerSet.{setObjects, BoundBy}
 
@@ -80,7 +81,11 @@ libraryFile c =
     -- at 0x128: one bucket, a chain of 2; the bucket has symbol 1
     ∷ pair 1 2 ∷ pair 1 0 ∷ 0 ∷ [])))))
 
--- ---- the sets, at 0x10000000
+-- ---- the sets
+
+-- where the arenas are
+abbrev pub setting : Setting
+setting = settingAt 0x10000000
 
 -- S: host, program, and a library with the name "l" that defines a
 abbrev pub sheet : List ℕ
@@ -98,18 +103,18 @@ longerBytes = bytes ++ (libraryFile 98 ++ (109 ∷ []))
 
 -- the reply to a query by the program, whatever it leaves
 abbrev pub Replies : List ℕ → List ℕ → ℕ → ℕ → Reply → Type 0
-Replies s bs size c r = (arena : List ℕ) × (queryOf s bs size 0x10000000 1 (c ∷ []) ≡ replied r arena)
+Replies s bs size c r = (arena : List ℕ) × (queryOf setting s bs size 1 (c ∷ []) ≡ replied r arena)
 
 pub record PairOfSheets : Type 0 where
   -- both are bound, S in 0x4000 bytes and T in 0x5000; S has no COPY entry
   pub arena : List ℕ
   pub arena′ : List ℕ
   -- the order is 2, 1; entry 1 of the program is undefined
-  pub bound : BoundBy sheet bytes 0x4000 0x10000000 Lenient 16 arena (0x50000002 ∷ 0x50000001 ∷ 0x60000001 ∷ replicate 13 0)
+  pub bound : BoundBy setting sheet bytes 0x4000 Lenient 16 arena (0x50000002 ∷ 0x50000001 ∷ 0x60000001 ∷ replicate 13 0)
   -- the order is 2, 3, 1; nothing is undefined
   pub longer-bound :
-      BoundBy longerSheet longerBytes 0x5000 0x10000000 Lenient 16 arena′ (0x50000002 ∷ 0x50000003 ∷ 0x50000001 ∷ replicate 13 0)
-  pub only : OnlyProgramCopies (setObjects 0x10000000 sheet bytes)
+      BoundBy setting longerSheet longerBytes 0x5000 Lenient 16 arena′ (0x50000002 ∷ 0x50000003 ∷ 0x50000001 ∷ replicate 13 0)
+  pub only : OnlyProgramCopies (setObjects setting sheet bytes)
   -- a keeps its answer, from library 2; b, which S has nowhere, is library 3's in T
   pub a-asked : Replies sheet bytes 0x4000 97 (Found 2 1 0x10003018)
   pub a-asked-longer : Replies longerSheet longerBytes 0x5000 97 (Found 2 1 0x10003018)
@@ -120,7 +125,7 @@ pub record PairOfSheets : Type 0 where
   pub a-word-longer : leAt 8 (mem arena′) 0x2000 ≡ 0x10003018
   pub b-word : leAt 8 (mem arena) 0x2008 ≡ 0
   pub b-word-longer : leAt 8 (mem arena′) 0x2008 ≡ 0x10004018
-  pub b-excepted : (i : ℕ) → In 0x2008 8 i → Excepted (setObjects 0x10000000 sheet bytes) i
+  pub b-excepted : (i : ℕ) → In 0x2008 8 i → Excepted (setObjects setting sheet bytes) i
   -- what `LongerSet` says of the pair
   pub kept :
-      Kept (setObjects 0x10000000 sheet bytes) (setObjects 0x10000000 longerSheet longerBytes) (mem arena) (mem arena′)
+      Kept (setObjects setting sheet bytes) (setObjects setting longerSheet longerBytes) (mem arena) (mem arena′)

@@ -8,6 +8,7 @@ use mathlib.Core.Logic.{_⊎_, _≢_}
 use mathlib.Core.Path.{_≡_}
 use Prim.Native.Nat.{ℕ, _≤_, _<_}
 use lib.ListN.{length, getD, take, replicate}
+use Rattle.model.specs.Symbols.{byName}
 use Rattle.model.specs.Order.{has}
 use Rattle.model.specs.Scope.{resolve}
 use Rattle.sheet.specs.Sheet.{Input, noInput, setOf}
@@ -16,6 +17,7 @@ use Rattle.binder.specs.declared.Answer as answers
 use Rattle.binder.specs.declared.Answer.{Answer}
 use Rattle.binder.specs.declared.Reply as replies
 use Rattle.binder.specs.declared.Reply.{Reply}
+use Rattle.binder.specs.Setting.{Setting}
 use Rattle.binder.specs.Bind.{bindOf, outcome, queryOf, replied, replyOf}
 use Rattle.demands.specs.LongerSet.{BoundBy, setObjects}
 
@@ -48,8 +50,8 @@ pub record BindRefused (sheet bytes : List ℕ) (size words n k : ℕ) (arena re
 
 abbrev pub BindRefusals : Type 0
 BindRefusals =
-    (sheet bytes : List ℕ) (size address : ℕ) (policy : Policy) (words n k : ℕ) (arena report : List ℕ)
-    → bindOf sheet bytes size address policy words ≡ outcome (answers.the-variants.Refused n k) arena report
+    (setting : Setting) (sheet bytes : List ℕ) (size : ℕ) (policy : Policy) (words n k : ℕ) (arena report : List ℕ)
+    → bindOf setting sheet bytes size policy words ≡ outcome (answers.the-variants.Refused n k) arena report
     → BindRefused sheet bytes size words n k arena report
 
 -- a query "meets only refusals 1 to 13"
@@ -64,8 +66,8 @@ pub record QueryRefused (sheet bytes : List ℕ) (size n k : ℕ) (arena : List 
 
 abbrev pub QueryRefusals : Type 0
 QueryRefusals =
-    (sheet bytes : List ℕ) (size address requester : ℕ) (name : List ℕ) (n k : ℕ) (arena : List ℕ)
-    → queryOf sheet bytes size address requester name ≡ replied (replies.the-variants.Refused n k) arena
+    (setting : Setting) (sheet bytes : List ℕ) (size requester : ℕ) (name : List ℕ) (n k : ℕ) (arena : List ℕ)
+    → queryOf setting sheet bytes size requester name ≡ replied (replies.the-variants.Refused n k) arena
     → QueryRefused sheet bytes size n k arena
 
 -- ---- every call
@@ -73,17 +75,17 @@ QueryRefusals =
 -- "is a bound arena with its report, or one numbered refusal with an object number"; of a query, a reply that is a lookup's, or a refusal
 pub record Answered : Type 0 where
   pub bind :
-      (sheet bytes : List ℕ) (size address : ℕ) (policy : Policy) (words : ℕ)
-      → ((arena report : List ℕ) × BoundBy sheet bytes size address policy words arena report)
+      (setting : Setting) (sheet bytes : List ℕ) (size : ℕ) (policy : Policy) (words : ℕ)
+      → ((arena report : List ℕ) × BoundBy setting sheet bytes size policy words arena report)
       ⊎ ((n k : ℕ)
-      × (bindOf sheet bytes size address policy words
+      × (bindOf setting sheet bytes size policy words
       ≡ outcome (answers.the-variants.Refused n k) (replicate size 0) (replicate words 0)))
   pub query :
-      (sheet bytes : List ℕ) (size address requester : ℕ) (name : List ℕ)
+      (setting : Setting) (sheet bytes : List ℕ) (size requester : ℕ) (name : List ℕ)
       → ((arena : List ℕ)
-      × (queryOf sheet bytes size address requester name
-      ≡ replied (replyOf (resolve (setObjects address sheet bytes) requester name)) arena))
-      ⊎ ((n k : ℕ) × (queryOf sheet bytes size address requester name ≡ replied (replies.the-variants.Refused n k) (replicate size 0)))
+      × (queryOf setting sheet bytes size requester name
+      ≡ replied (replyOf (resolve (setObjects setting sheet bytes) requester (byName name))) arena))
+      ⊎ ((n k : ℕ) × (queryOf setting sheet bytes size requester name ≡ replied (replies.the-variants.Refused n k) (replicate size 0)))
 
 -- ---- the host's part of the arena
 
@@ -98,12 +100,12 @@ HostIn os arena = take (length (hostOf os)) arena ≡ hostOf os
 -- "never written": not by binding, and not by a query
 pub record HostKept : Type 0 where
   pub bound :
-      (sheet bytes : List ℕ) (size address : ℕ) (policy : Policy) (words : ℕ) (arena report : List ℕ)
-      → BoundBy sheet bytes size address policy words arena report
+      (setting : Setting) (sheet bytes : List ℕ) (size : ℕ) (policy : Policy) (words : ℕ) (arena report : List ℕ)
+      → BoundBy setting sheet bytes size policy words arena report
       → HostIn (setOf sheet bytes) arena
   pub asked :
-      (sheet bytes : List ℕ) (size address requester : ℕ) (name : List ℕ) (r : Reply) (arena : List ℕ)
-      → queryOf sheet bytes size address requester name ≡ replied r arena
+      (setting : Setting) (sheet bytes : List ℕ) (size requester : ℕ) (name : List ℕ) (r : Reply) (arena : List ℕ)
+      → queryOf setting sheet bytes size requester name ≡ replied r arena
       → ((n k : ℕ) → r ≢ replies.the-variants.Refused n k)
       → HostIn (setOf sheet bytes) arena
 
@@ -112,10 +114,10 @@ pub record HostKept : Type 0 where
 -- whatever the answer, the arena has as many bytes, and the report as many words, as were handed in
 pub record Lengths : Type 0 where
   pub bind :
-      (sheet bytes : List ℕ) (size address : ℕ) (policy : Policy) (words : ℕ) (a : Answer) (arena report : List ℕ)
-      → bindOf sheet bytes size address policy words ≡ outcome a arena report
+      (setting : Setting) (sheet bytes : List ℕ) (size : ℕ) (policy : Policy) (words : ℕ) (a : Answer) (arena report : List ℕ)
+      → bindOf setting sheet bytes size policy words ≡ outcome a arena report
       → (length arena ≡ size) × (length report ≡ words)
   pub query :
-      (sheet bytes : List ℕ) (size address requester : ℕ) (name : List ℕ) (r : Reply) (arena : List ℕ)
-      → queryOf sheet bytes size address requester name ≡ replied r arena
+      (setting : Setting) (sheet bytes : List ℕ) (size requester : ℕ) (name : List ℕ) (r : Reply) (arena : List ℕ)
+      → queryOf setting sheet bytes size requester name ≡ replied r arena
       → length arena ≡ size

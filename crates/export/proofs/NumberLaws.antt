@@ -1,5 +1,5 @@
 -- No refusal of `bind` or `query` has the number 0. Assumes nothing.
-use mathlib.Core.Path.{_≡_, refl, sym}
+use mathlib.Core.Path.{_≡_, refl, sym, _∙_}
 use mathlib.Core.Bool.{Bool, true, false}
 use mathlib.Core.List.{List, [], _∷_}
 use Prim.Native.Nat.{ℕ, _+_, _-_, _<_}
@@ -15,30 +15,33 @@ use Rattle.object.specs.Entries.{Word}
 use Rattle.object.specs.Record.{Record}
 use Rattle.object.specs.Loaded.{objectRefusal}
 use Rattle.object.specs.declared.relocate.Rela.{Rela}
-use Rattle.sheet.specs.Sheet.{sheetOk, arenaOk, setOf, twinOf}
+use Rattle.sheet.specs.Sheet.{sheetOk, arenaOk, setOf, duplicateOf}
 use Rattle.binder.specs.declared.Policy.{Policy}
 use Rattle.binder.specs.declared.Answer as answers
 use Rattle.binder.specs.declared.Reply as replies
+use Rattle.binder.specs.Setting.{Setting}
 use Rattle.binder.specs.Instance.{File, fileImage, fileRecord, namedWords, relasOf}
 use Rattle.binder.specs.Verdict as verdicts
-use Rattle.binder.specs.Verdict.{Verdict, passed, refused, first, verdict, noFile, loadVerdict, wordRefusal, wordsVerdict, entryRefusal, entriesVerdict, objectVerdict, orderVerdict}
+use Rattle.binder.specs.Verdict.{first, verdict, noFile, loadVerdict, wordRefusal, wordsVerdict, entryRefusal, entriesVerdict, objectVerdict, orderVerdict}
+use Rattle.binder.specs.declared.Verdict.{Verdict}
+use Rattle.binder.specs.declared.Verdict.the-variants.{Passed, Refused}
 use Rattle.binder.specs.Report.{orderWords, firstUndefined}
 use Rattle.binder.specs.Bind as binding
-use Rattle.binder.specs.Bind.{filesOf, objectsOf, unless, prepareVerdict, allows, relocateVerdict, outcome, outcomeOf, replied, repliedOf, replyOf}
-use Rattle.binder.proofs.OutcomeLaws.{refused-not}
+use Rattle.binder.specs.Bind.{filesOf, objectsOf, unless, allows, relocateVerdict, outcome, outcomeOf, replied, repliedOf, replyOf}
+use Rattle.binder.proofs.OutcomeLaws.{refused-not, sheetVerdict, bind-one, query-one}
 use Rattle.export.specs.Calls.{ZeroTells}
 
 abbrev Numbered : Verdict → Type 0
-Numbered v = (n k : ℕ) → v ≡ refused n k → 0 < n
+Numbered v = (n k : ℕ) → v ≡ Refused n k → 0 < n
 
-passing : Numbered passed
+passing : Numbered Passed
 passing n k e = refused-not n k (sym e)
 
 either-one : (v w : Verdict) → Numbered v → Numbered w → Numbered (first v w)
-either-one passed w p q = q
-either-one (refused n k) w p q = p
+either-one Passed w p q = q
+either-one (Refused n k) w p q = p
 
-picked : (t : Bool) (n k : ℕ) → (t ≡ false → 0 < n) → Numbered (pick t passed (refused n k))
+picked : (t : Bool) (n k : ℕ) → (t ≡ false → 0 < n) → Numbered (pick t Passed (Refused n k))
 picked true n k h m j e = passing m j e
 picked false n k h m j e =
     let same : n ≡ m = cc in
@@ -91,17 +94,17 @@ of-relocate S files order policy words =
     either-one (orderVerdict S files order) (first (unless (allows policy u) 19 u) (unless room 20 0)) (of-order S files order)
     (either-one (unless (allows policy u) 19 u) (unless room 20 0) (of-test (allows policy u) 19 u (omega arith)) (of-test room 20 0 (omega arith)))
 
-of-prepare : (sheet bytes : List ℕ) (size address : ℕ) → Numbered (prepareVerdict sheet bytes size address)
+of-prepare : (setting : Setting) (sheet bytes : List ℕ) (size : ℕ) → Numbered (sheetVerdict setting sheet bytes size)
 unfolding binding.prepareVerdict
-of-prepare sheet bytes size address =
+of-prepare setting sheet bytes size =
     let one = sheetOk sheet (length bytes) in
-    let two = arenaOk size address in
-    let twin = twinOf (setOf sheet bytes) in
+    let two = arenaOk size (setting .address) in
+    let duplicate = duplicateOf (setOf sheet bytes) in
     let files : List File = filesOf (setOf sheet bytes) in
-    let loaded = loadVerdict (objectsOf address files) size 0 files in
-    either-one (unless one 1 0) (first (unless two 2 0) (first (unless (eqb twin 0) 3 twin) loaded)) (of-test one 1 0 (omega arith))
-    (either-one (unless two 2 0) (first (unless (eqb twin 0) 3 twin) loaded) (of-test two 2 0 (omega arith))
-    (either-one (unless (eqb twin 0) 3 twin) loaded (of-test (eqb twin 0) 3 twin (omega arith)) (of-load (objectsOf address files) size 0 files)))
+    let loaded = loadVerdict (objectsOf setting files) size 0 files in
+    either-one (unless one 1 0) (first (unless two 2 0) (first (unless (eqb duplicate 0) 3 duplicate) loaded)) (of-test one 1 0 (omega arith))
+    (either-one (unless two 2 0) (first (unless (eqb duplicate 0) 3 duplicate) loaded) (of-test two 2 0 (omega arith))
+    (either-one (unless (eqb duplicate 0) 3 duplicate) loaded (of-test (eqb duplicate 0) 3 duplicate (omega arith)) (of-load (objectsOf setting files) size 0 files)))
 
 -- ---- the answers
 
@@ -109,28 +112,29 @@ of-outcome :
     (size words : ℕ) (v : Verdict) (a r arena report : List ℕ) (n k : ℕ) → Numbered v
     → outcomeOf size words v a r ≡ outcome (answers.the-variants.Refused n k) arena report → 0 < n
 unfolding binding.outcomeOf
-of-outcome size words passed a r arena report n k h e = let z : _≡_ {A = ℕ} 0 1 = cc in absurd (omega arith)
-of-outcome size words (refused m j) a r arena report n k h e = h n k cc
+of-outcome size words Passed a r arena report n k h e = let z : _≡_ {A = ℕ} 0 1 = cc in absurd (omega arith)
+of-outcome size words (Refused m j) a r arena report n k h e = h n k cc
 
-not-refused : {P : Type 0} (s : symbols.Answer) (a arena : List ℕ) (n k : ℕ) → replied (replyOf s) a ≡ replied (replies.the-variants.Refused n k) arena → P
+not-refused : {P : Type 0} (s : symbols.Resolved) (a arena : List ℕ) (n k : ℕ) → replied (replyOf s) a ≡ replied (replies.the-variants.Refused n k) arena → P
 not-refused symbols.absent a arena n k e = let z : _≡_ {A = ℕ} 0 1 = cc in absurd (omega arith)
 not-refused (symbols.answer d s v) a arena n k e = let z : _≡_ {A = ℕ} 0 1 = cc in absurd (omega arith)
 
 of-replied :
-    (size : ℕ) (v : Verdict) (s : symbols.Answer) (a arena : List ℕ) (n k : ℕ) → Numbered v
+    (size : ℕ) (v : Verdict) (s : symbols.Resolved) (a arena : List ℕ) (n k : ℕ) → Numbered v
     → repliedOf size v (replyOf s) a ≡ replied (replies.the-variants.Refused n k) arena → 0 < n
 unfolding binding.repliedOf
-of-replied size passed s a arena n k h e = not-refused s a arena n k e
-of-replied size (refused m j) s a arena n k h e = h n k cc
+of-replied size Passed s a arena n k h e = not-refused s a arena n k e
+of-replied size (Refused m j) s a arena n k h e = h n k cc
 
 pub zero-tells : ZeroTells
-unfolding binding.bindOf binding.bindIn binding.queryOf
+unfolding binding.bindIn
 zero-tells = (
-  λ sheet bytes size address policy words n k arena report e.
+  λ setting sheet bytes size policy words n k arena report e.
       of-outcome size words _ _ _ arena report n k
-      (either-one (prepareVerdict sheet bytes size address) _ (of-prepare sheet bytes size address) (of-relocate _ _ _ policy words)) e,
-  λ sheet bytes size address requester name n k arena e.
-      of-replied size _ (resolve (objectsOf address (filesOf (setOf sheet bytes))) requester name) _ arena n k
-      (either-one (prepareVerdict sheet bytes size address) (unless (ltb requester (length (setOf sheet bytes))) 13 0) (of-prepare sheet bytes size address)
-      (of-test (ltb requester (length (setOf sheet bytes))) 13 0 (omega arith))) e,
+      (either-one (sheetVerdict setting sheet bytes size) _ (of-prepare setting sheet bytes size) (of-relocate _ _ _ policy words))
+      (sym (bind-one setting sheet bytes size policy words) ∙ e),
+  λ setting sheet bytes size requester name n k arena e.
+      of-replied size _ (resolve (objectsOf setting (filesOf (setOf sheet bytes))) requester (symbols.byName name)) _ arena n k
+      (either-one (sheetVerdict setting sheet bytes size) (unless (ltb requester (length (setOf sheet bytes))) 13 0) (of-prepare setting sheet bytes size)
+      (of-test (ltb requester (length (setOf sheet bytes))) 13 0 (omega arith))) (sym (query-one setting sheet bytes size requester name) ∙ e),
 )

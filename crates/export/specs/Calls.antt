@@ -12,6 +12,7 @@ use Rattle.binder.specs.declared.Answer.{Answer}
 use Rattle.binder.specs.declared.Answer as answers
 use Rattle.binder.specs.declared.Reply.{Reply}
 use Rattle.binder.specs.declared.Reply as replies
+use Rattle.binder.specs.Setting.{Setting}
 use Rattle.binder.specs.Bind.{Outcome, outcome, bindOf, Replied, replied, queryOf}
 
 -- a refusal: its number in the low 32 bits, its object in the high 32
@@ -66,7 +67,7 @@ askedOf size (replied reply arena) = asked (replyNumber reply) arena (fitted siz
 -- no refusal has the number 0, so the number 0 says that the set is bound, or the question answered
 abbrev pub ZeroTells : Type 0
 ZeroTells =
-    ((sheet bytes : List ℕ) (size address : ℕ) (policy : Policy) (words number object : ℕ) (arena report : List ℕ)
-    → bindOf sheet bytes size address policy words ≡ outcome (answers.the-variants.Refused number object) arena report → 0 < number)
-    × ((sheet bytes : List ℕ) (size address requester : ℕ) (name : List ℕ) (number object : ℕ) (arena : List ℕ)
-    → queryOf sheet bytes size address requester name ≡ replied (replies.the-variants.Refused number object) arena → 0 < number)
+    ((setting : Setting) (sheet bytes : List ℕ) (size : ℕ) (policy : Policy) (words number object : ℕ) (arena report : List ℕ)
+    → bindOf setting sheet bytes size policy words ≡ outcome (answers.the-variants.Refused number object) arena report → 0 < number)
+    × ((setting : Setting) (sheet bytes : List ℕ) (size requester : ℕ) (name : List ℕ) (number object : ℕ) (arena : List ℕ)
+    → queryOf setting sheet bytes size requester name ≡ replied (replies.the-variants.Refused number object) arena → 0 < number)

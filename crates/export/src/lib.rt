@@ -3,6 +3,7 @@ ghost use mathlib.Core.Path.{_≡_};
 ghost use mathlib.Core.List.{[], _∷_};
 ghost use lib.ListN.{length};
 ghost use Rattle.words.specs.Memory.{mem};
+ghost use Rattle.binder.specs.Setting.{settingAt};
 ghost use Rattle.binder.specs.Bind.{bindOf, queryOf};
 ghost use Rattle.export.specs.Calls.{packed, policyOf, answerNumber, replyNumber, replyWords, fitted, called, calledOf, asked, askedOf};
 use binder::Answer;
@@ -98,7 +99,7 @@ pub extern "C" fn lugwormpin_bind(
     strict: u32,
     report: &mut [u32],
 ) -> u64
-    ensures { λ r. ⌜ called r (now (arena .exit)) (now (report .exit)) ≡ calledOf (bindOf (now (sheet .entry)) (now (bytes .entry)) (length (now (arena .entry))) address (policyOf strict) (length (now (report .entry)))) ⌝ }
+    ensures { λ r. ⌜ called r (now (arena .exit)) (now (report .exit)) ≡ calledOf (bindOf (settingAt address) (now (sheet .entry)) (now (bytes .entry)) (length (now (arena .entry))) (policyOf strict) (length (now (report .entry)))) ⌝ }
 {
     let policy = policy_of(strict);
     let a = binder::bind::bind(sheet, bytes, arena, address, policy, report);
@@ -116,7 +117,7 @@ pub extern "C" fn lugwormpin_query(
     name: &[u8],
     answer: &mut [u64],
 ) -> u64
-    ensures { λ r. ⌜ asked r (now (arena .exit)) (now (answer .exit)) ≡ askedOf (length (now (answer .entry))) (queryOf (now (sheet .entry)) (now (bytes .entry)) (length (now (arena .entry))) address requester (now (name .entry))) ⌝ }
+    ensures { λ r. ⌜ asked r (now (arena .exit)) (now (answer .exit)) ≡ askedOf (length (now (answer .entry))) (queryOf (settingAt address) (now (sheet .entry)) (now (bytes .entry)) (length (now (arena .entry))) requester (now (name .entry))) ⌝ }
 {
     let reply = binder::query::query(sheet, bytes, arena, address, requester, name);
     store_reply(answer, reply)

@@ -6,7 +6,7 @@ use Prim.Native.Nat.{ℕ, _+_, _≤_}
 use native.Mathlib.Omega.{arith}
 use Rattle.words.specs.Memory.{Mem, In}
 use Rattle.words.specs.Words.{leAt}
-use Rattle.model.specs.Symbols.{Name}
+use Rattle.model.specs.Symbols.{Wanted}
 use Rattle.model.specs.Objects.{Entry, fixed, symbol, pass, Obj, Objs, obj, InSpan}
 use Rattle.model.specs.Scope.{resolve}
 use Rattle.model.specs.Relocation.{addWord, addWords, effect, effects}
@@ -52,16 +52,16 @@ module _ (E D : ℕ → Type 0) (A B : Objs) (k : ℕ) (same : obj B k ≡ obj A
   step-pass m m′ old i d = old i d
 
   pub step-symbol :
-      (p w : ℕ) (name : Name) (f : ℕ → ℕ) → resolve B k name ≡ resolve A k name → Step E D A B k (symbol p w name f)
+      (p w : ℕ) (wanted : Wanted) (f : ℕ → ℕ) → resolve B k wanted ≡ resolve A k wanted → Step E D A B k (symbol p w wanted f)
   unfolding effect
-  step-symbol p w name f e m m′ old i d =
+  step-symbol p w wanted f e m m′ old i d =
       rw (same, e) (write-both m m′ ((obj A k) .offset + p) w _ _ i (λ u. inr refl) (old i d))
 
   pub step-excepted :
-      (p w : ℕ) (name : Name) (f : ℕ → ℕ) → ((i : ℕ) → In ((obj A k) .offset + p) w i → E i)
-      → Step E D A B k (symbol p w name f)
+      (p w : ℕ) (wanted : Wanted) (f : ℕ → ℕ) → ((i : ℕ) → In ((obj A k) .offset + p) w i → E i)
+      → Step E D A B k (symbol p w wanted f)
   unfolding effect
-  step-excepted p w name f h m m′ old i d =
+  step-excepted p w wanted f h m m′ old i d =
       rw same (write-both m m′ ((obj A k) .offset + p) w _ _ i (λ u. inl (h i u)) (old i d))
 
 pub effects-agree :

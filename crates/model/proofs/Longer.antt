@@ -6,7 +6,7 @@ use Prim.Native.Nat.{ℕ, _+_, _-_, _≤_, _<_, min}
 use native.Mathlib.Omega.{arith}
 use native.Mathlib.Decide.{decLt}
 use Rattle.words.specs.Memory.{Mem, In, write}
-use Rattle.model.specs.Symbols.{Name, Answer, absent, answer}
+use Rattle.model.specs.Symbols.{Wanted, Resolved, absent, answer}
 use Rattle.model.specs.Objects.{Entry, fixed, symbol, copy, pass, Obj, Objs, all, count, obj, InSpan}
 use Rattle.model.specs.Scope.{resolve, resolveCopy}
 use Rattle.model.specs.Relocation.{addWords, copied, effect, relocate, run, place, placed, bound}
@@ -55,7 +55,7 @@ InSpans S i = (k : ℕ) × (k < count S) × InSpan (obj S k) i
 
 -- a COPY, whatever its answer, is a write of bytes that the entry names
 copied-is :
-    (S : Objs) (k p size : ℕ) (b : Answer) (m : Mem) → InsideCopy S k p size b
+    (S : Objs) (k p size : ℕ) (b : Resolved) (m : Mem) → InsideCopy S k p size b
     → (n : ℕ) × (f : ℕ → ℕ) × ((i : ℕ) → copied S ((obj S k) .offset + p) size b m i ≡ write m ((obj S k) .offset + p) n f i)
     × ((i : ℕ) → In ((obj S k) .offset + p) n i → In ((obj S k) .offset + p) size i × InSpan (obj S k) i)
 unfolding copied
@@ -76,14 +76,14 @@ module _
         (D : ℕ → Type 0) (k : ℕ) → 1 ≤ k → k < count S → (e : Entry) → List·Memᴰ e ((obj S k) .entries) → NotCopy e
         → Step (Excepted S) D S (longer S x) k e
     step-plain D k l h (fixed p w v) mem n = step-fixed (Excepted S) D S (longer S x) k (obj-longer S x k h) p w v
-    step-plain D k l h (symbol p w name f) mem n =
+    step-plain D k l h (symbol p w wanted f) mem n =
         ⊎-elim
-        (λ outside. step-excepted (Excepted S) D S (longer S x) k (obj-longer S x k h) p w name f
-        (λ i u. named (k, symbol p w name f, l, h, mem, (outside, u))))
-        (λ (answered : ProgramOrLibrary (resolve S k name)). step-symbol (Excepted S) D S (longer S x) k (obj-longer S x k h) p w name f
-        (resolve-kept S x k h name (answered .0) (answered .1) (answered .2) (answered .3) (answered .4) ∙ sym (answered .3)))
-        (bound-where (resolve S k name))
-    step-plain D k l h (copy p name size) mem n = absurd n
+        (λ outside. step-excepted (Excepted S) D S (longer S x) k (obj-longer S x k h) p w wanted f
+        (λ i u. named (k, symbol p w wanted f, l, h, mem, (outside, u))))
+        (λ (answered : ProgramOrLibrary (resolve S k wanted)). step-symbol (Excepted S) D S (longer S x) k (obj-longer S x k h) p w wanted f
+        (resolve-kept S x k h wanted (answered .0) (answered .1) (answered .2) (answered .3) (answered .4) ∙ sym (answered .3)))
+        (bound-where (resolve S k wanted))
+    step-plain D k l h (copy p wanted size) mem n = absurd n
     step-plain D k l h pass mem n = step-pass (Excepted S) D S (longer S x) k (obj-longer S x k h)
 
     -- a copy that the program's entry writes lies in the program's span
@@ -91,12 +91,12 @@ module _
         (e : Entry) (i j : ℕ) → List·Memᴰ e ((S .program) .entries) → Copies S e i j
         → InSpan (S .program) i
     copy-in-program (fixed p w n) i j mem c = absurd c
-    copy-in-program (symbol p w name f) i j mem c = absurd c
-    copy-in-program (copy p name size) i j mem c =
-        go (resolveCopy S name) (sound .entries-in 1 (omega arith) (omega arith) (copy p name size) mem) c
+    copy-in-program (symbol p w wanted f) i j mem c = absurd c
+    copy-in-program (copy p wanted size) i j mem c =
+        go (resolveCopy S wanted) (sound .entries-in 1 (omega arith) (omega arith) (copy p wanted size) mem) c
       where
         go :
-            (b : Answer) → InsideCopy S 1 p size b → CopiesFrom S ((S .program) .offset + p) size b i j
+            (b : Resolved) → InsideCopy S 1 p size b → CopiesFrom S ((S .program) .offset + p) size b i j
             → InSpan (S .program) i
         go absent h c′ = absurd c′
         go (answer d s a) h c′ = let g = h (omega arith) in omega arith
@@ -113,56 +113,56 @@ module _
 
     -- a COPY entry of the program, in both sets
     step-copy :
-        (p : ℕ) (name : Name) (size : ℕ) → List·Memᴰ (copy p name size) ((S .program) .entries)
-        → Step (Excepted S) (InSpans S) S (longer S x) 1 (copy p name size)
+        (p : ℕ) (wanted : Wanted) (size : ℕ) → List·Memᴰ (copy p wanted size) ((S .program) .entries)
+        → Step (Excepted S) (InSpans S) S (longer S x) 1 (copy p wanted size)
     unfolding effect copied
-    step-copy p name size mem m m′ old i w = ⊎-elim outside answered (bound-where (resolveCopy S name))
+    step-copy p wanted size mem m m′ old i w = ⊎-elim outside answered (bound-where (resolveCopy S wanted))
       where
         outside :
-            HostOrNowhere (resolveCopy S name)
-            → Excepted S i ⊎ (effect S 1 (copy p name size) m i ≡ effect (longer S x) 1 (copy p name size) m′ i)
+            HostOrNowhere (resolveCopy S wanted)
+            → Excepted S i ⊎ (effect S 1 (copy p wanted size) m i ≡ effect (longer S x) 1 (copy p wanted size) m′ i)
         outside b =
-            let u = copied-is S 1 p size (resolveCopy S name) m (sound .entries-in 1 (omega arith) (omega arith) (copy p name size) mem) in
+            let u = copied-is S 1 p size (resolveCopy S wanted) m (sound .entries-in 1 (omega arith) (omega arith) (copy p wanted size) mem) in
             let v =
-            copied-is (longer S x) 1 p size (resolveCopy (longer S x) name) m′
-            (soundT .entries-in 1 (omega arith) (omega arith) (copy p name size) mem) in
+            copied-is (longer S x) 1 p size (resolveCopy (longer S x) wanted) m′
+            (soundT .entries-in 1 (omega arith) (omega arith) (copy p wanted size) mem) in
             rw (u .2 i, v .2 i)
             (write-off m m′ ((S .program) .offset + p) (u .0) (u .1) ((S .program) .offset + p) (v .0) (v .1) i
-            (λ z. let g = u .3 i z in named (1, copy p name size, omega arith, omega arith, mem, (b, g .0, g .1)))
-            (λ z. let g = v .3 i z in named (1, copy p name size, omega arith, omega arith, mem, (b, g .0, g .1)))
+            (λ z. let g = u .3 i z in named (1, copy p wanted size, omega arith, omega arith, mem, (b, g .0, g .1)))
+            (λ z. let g = v .3 i z in named (1, copy p wanted size, omega arith, omega arith, mem, (b, g .0, g .1)))
             (old i w))
 
         source :
-            (b : ProgramOrLibrary (resolveCopy S name)) → In ((S .program) .offset + p) (min size ((b .1) .size)) i
+            (b : ProgramOrLibrary (resolveCopy S wanted)) → In ((S .program) .offset + p) (min size ((b .1) .size)) i
             → Excepted S i
             ⊎ (m ((obj S (b .0)) .offset + (b .1) .value + (i - ((S .program) .offset + p)))
             ≡ m′ ((obj S (b .0)) .offset + (b .1) .value + (i - ((S .program) .offset + p))))
         source b u =
-            let in-spans = (rw (b .3) at (sound .entries-in 1 (omega arith) (omega arith) (copy p name size) mem)) (omega arith) in
-            let range = resolveCopy-range S name (b .0) (b .1) (b .2) (b .3) in
+            let in-spans = (rw (b .3) at (sound .entries-in 1 (omega arith) (omega arith) (copy p wanted size) mem)) (omega arith) in
+            let range = resolveCopy-range S wanted (b .0) (b .1) (b .2) (b .3) in
             ⊎-elim
-            (λ E. inl (copy-of _ (copy p name size) mem (rw (b .3) (i - ((S .program) .offset + p), omega arith, omega arith, refl))
+            (λ E. inl (copy-of _ (copy p wanted size) mem (rw (b .3) (i - ((S .program) .offset + p), omega arith, omega arith, refl))
             (outside-program (b .0) (range .0) (range .1) _ (omega arith) E)))
             (λ e. inr e)
             (old ((obj S (b .0)) .offset + (b .1) .value + (i - ((S .program) .offset + p)))
             (b .0, range .0, omega arith))
 
         answered :
-            ProgramOrLibrary (resolveCopy S name)
-            → Excepted S i ⊎ (effect S 1 (copy p name size) m i ≡ effect (longer S x) 1 (copy p name size) m′ i)
+            ProgramOrLibrary (resolveCopy S wanted)
+            → Excepted S i ⊎ (effect S 1 (copy p wanted size) m i ≡ effect (longer S x) 1 (copy p wanted size) m′ i)
         answered b =
             rw (
               b .3,
-              resolveCopy-kept S x name (b .0) (b .1) (b .2) (b .3) (b .4),
-              obj-longer S x (b .0) ((resolveCopy-range S name (b .0) (b .1) (b .2) (b .3)) .0),
+              resolveCopy-kept S x wanted (b .0) (b .1) (b .2) (b .3) (b .4),
+              obj-longer S x (b .0) ((resolveCopy-range S wanted (b .0) (b .1) (b .2) (b .3)) .0),
             )
             (write-both m m′ ((S .program) .offset + p) (min size ((b .1) .size)) _ _ i (λ u. source b u) (old i w))
 
     step-program :
         (e : Entry) → List·Memᴰ e ((S .program) .entries) → Step (Excepted S) (InSpans S) S (longer S x) 1 e
     step-program (fixed p w n) mem = step-plain (InSpans S) 1 (omega arith) (omega arith) (fixed p w n) mem tt
-    step-program (symbol p w name f) mem = step-plain (InSpans S) 1 (omega arith) (omega arith) (symbol p w name f) mem tt
-    step-program (copy p name size) mem = step-copy p name size mem
+    step-program (symbol p w wanted f) mem = step-plain (InSpans S) 1 (omega arith) (omega arith) (symbol p w wanted f) mem tt
+    step-program (copy p wanted size) mem = step-copy p wanted size mem
     step-program pass mem = step-plain (InSpans S) 1 (omega arith) (omega arith) pass mem tt
 
     -- placed bytes of S's objects

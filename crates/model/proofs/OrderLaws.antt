@@ -9,7 +9,7 @@ use lib.Dec.{leb, ltb, eqb}
 use lib.ListN.{length, getD, length-append}
 use borrow.Author.Tests.{eq-eqb, ne-eqb, eqb-true, eqb-false, leb-true, ltb-true, le-leb, lt-ltb, not-true}
 use Rattle.words.specs.Choice.{pick, both, either}
-use Rattle.words.proofs.Choice.{both-true, either-true}
+use Rattle.words.proofs.Choice.{both-true, either-true, either-left, either-right}
 use Rattle.model.specs.Order.{has, listed, fresh, firstFirst, lastFirst, upFrom, visit, orderOf, Distinct, Before, Reach, times, OnceEach}
 use Rattle.model.specs.Order.Distinct.{none, one-more}
 use Rattle.model.specs.Order.Before.{first, later}
@@ -57,13 +57,6 @@ clash p q = true≢false (sym p ∙ q)
 is-false : (b : Bool) → (b ≡ true → ⊥) → b ≡ false
 is-false true h = absurd (h refl)
 is-false false h = refl
-
-pub either-left : (a b : Bool) → a ≡ true → either a b ≡ true
-either-left a b e = rw e
-
-pub either-right : (a b : Bool) → b ≡ true → either a b ≡ true
-either-right true b e = refl
-either-right false b e = e
 
 neither : (a b : Bool) → a ≡ false → b ≡ false → either a b ≡ false
 neither a b e f = rw (e, f)

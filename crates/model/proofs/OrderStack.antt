@@ -8,12 +8,13 @@ use native.Mathlib.Omega.{arith}
 use lib.Dec.{eqb}
 use lib.ListN.{length}
 use Rattle.words.specs.Choice.{pick, both, either}
+use Rattle.words.proofs.Choice.{either-left, either-right}
 use Rattle.model.specs.Order.{has, listed, fresh, firstFirst, lastFirst, upFrom, visit, orderOf}
 use Rattle.model.specs.Order.Distinct.{none}
 use Rattle.model.specs.EventStack.{Event, push, Runs, discoverAll}
 use Rattle.model.specs.EventStack.Event.{discover, emit}
 use Rattle.model.specs.EventStack.Runs.{done, emits, skips, opens}
-use Rattle.model.proofs.OrderLaws.{Way, way-cons, short, decide, clash, either-left, either-right, either-assoc, range-listed, has-head, has-cases, has-snoc, passed, visit-fresh}
+use Rattle.model.proofs.OrderLaws.{Way, way-cons, short, decide, clash, either-assoc, range-listed, has-head, has-cases, has-snoc, passed, visit-fresh}
 
 seen-not-fresh : (l p o : Bool) → either p o ≡ true → both l (both (not p) (not o)) ≡ false
 seen-not-fresh false p o h = refl

@@ -97,8 +97,8 @@ relocate-agree E D A B k same steps m m′ old = rw same (effects-agree E D A B 
 no-copy-step :
     (D : ℕ → Type 0) (S : Objs) (k : ℕ) (e : Entry) → NotCopy e → Step (λ _. ⊥) D S S k e
 no-copy-step D S k (fixed p w v) n = step-fixed (λ _. ⊥) D S S k refl p w v
-no-copy-step D S k (symbol p w name f) n = step-symbol (λ _. ⊥) D S S k refl p w name f refl
-no-copy-step D S k (copy p name size) n = absurd n
+no-copy-step D S k (symbol p w wanted f) n = step-symbol (λ _. ⊥) D S S k refl p w wanted f refl
+no-copy-step D S k (copy p wanted size) n = absurd n
 no-copy-step D S k pass n = step-pass (λ _. ⊥) D S S k refl
 
 -- without COPY, the bytes of the span depend on the bytes of the span alone

@@ -4,41 +4,41 @@
 use mathlib.Core.List.{List, [], _∷_}
 use Prim.Native.Nat.{ℕ, suc}
 use Rattle.words.specs.Choice.{pick}
-use Rattle.model.specs.Symbols.{Name, Found, none, hit, address, Answer, absent, answer}
+use Rattle.model.specs.Symbols.{Wanted, Exported, none, hit, address, Resolved, absent, answer}
 use Rattle.model.specs.Objects.{Obj, Objs, obj}
 
 -- the answer of object `k`
-unfoldable pub scopeAnswer : ℕ → Obj → Found → Answer
+unfoldable pub scopeAnswer : ℕ → Obj → Exported → Resolved
 scopeAnswer k o none = absent
 scopeAnswer k o (hit s) = answer k s (address (o .base) s)
 
 -- the same, but for protected symbols only
-unfoldable pub protectedOf : ℕ → Obj → Found → Answer
+unfoldable pub protectedOf : ℕ → Obj → Exported → Resolved
 protectedOf k o none = absent
 protectedOf k o (hit s) = pick (s .protected) (answer k s (address (o .base) s)) absent
 
 -- the first answer, else the second
-abbrev pub orElse : Answer → Answer → Answer
+abbrev pub orElse : Resolved → Resolved → Resolved
 orElse absent b = b
 orElse (answer k s a) b = answer k s a
 
 -- the first object of a list that has the name; `k` is the number of the list's first object
-unfoldable pub scan : ℕ → List Obj → Name → Answer
-scan k [] name = absent
-scan k (o ∷ os) name = orElse (scopeAnswer k o (o .find name)) (scan (suc k) os name)
+unfoldable pub scan : ℕ → List Obj → Wanted → Resolved
+scan k [] wanted = absent
+scan k (o ∷ os) wanted = orElse (scopeAnswer k o (o .find wanted)) (scan (suc k) os wanted)
 
 -- the host's answer
-abbrev pub hostAnswer : Objs → Name → Answer
-hostAnswer S name = scopeAnswer 0 (S .host) ((S .host) .find name)
+abbrev pub hostAnswer : Objs → Wanted → Resolved
+hostAnswer S wanted = scopeAnswer 0 (S .host) ((S .host) .find wanted)
 
 -- a protected definition of the requester `r`
-abbrev pub ownAnswer : Objs → ℕ → Name → Answer
-ownAnswer S r name = protectedOf r (obj S r) ((obj S r) .find name)
+abbrev pub ownAnswer : Objs → ℕ → Wanted → Resolved
+ownAnswer S r wanted = protectedOf r (obj S r) ((obj S r) .find wanted)
 
 -- a protected definition of the requester, else program, libraries in list order, host
-unfoldable pub resolve : Objs → ℕ → Name → Answer
-resolve S r name = orElse (ownAnswer S r name) (orElse (scan 1 (S .program ∷ S .libs) name) (hostAnswer S name))
+unfoldable pub resolve : Objs → ℕ → Wanted → Resolved
+resolve S r wanted = orElse (ownAnswer S r wanted) (orElse (scan 1 (S .program ∷ S .libs) wanted) (hostAnswer S wanted))
 
 -- COPY's: libraries in list order, then host
-unfoldable pub resolveCopy : Objs → Name → Answer
-resolveCopy S name = orElse (scan 2 (S .libs) name) (hostAnswer S name)
+unfoldable pub resolveCopy : Objs → Wanted → Resolved
+resolveCopy S wanted = orElse (scan 2 (S .libs) wanted) (hostAnswer S wanted)

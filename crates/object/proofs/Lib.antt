@@ -17,7 +17,6 @@ pub mod FindLaws
 pub mod WalkLengths
 pub mod WalkLaws
 pub mod CheckLaws
-pub mod WalkEnds
 pub mod MarkLaws
 pub mod CountLaws
 pub mod LookupSame

@@ -8,13 +8,14 @@ use borrow.Author.Tests.{leb-true}
 use lib.Dec.{leb}
 use lib.ListN.{length, take}
 use Rattle.words.specs.Memory.{patch}
-use Rattle.words.proofs.Slices.{take-patch, length-patch}
+use Rattle.words.proofs.Slices.{length-tab, take-patch, length-patch}
 use Rattle.object.specs.ProgramHeader.{dynamicOf}
 use Rattle.object.specs.Steps.LoadTable.{segmentsIn}
 use Rattle.object.specs.Placed.{segmentsOf, objectSpan, objectBytes, objectImage, fileRefusal, placeRefusal, PlacedBy}
-use Rattle.object.specs.Record.{heldBy, noRecord, readRefusal, ReadBy}
+use Rattle.object.specs.Record.{recordIn, recordAt, heldBy, noRecord, readRefusal, ReadBy}
 use Rattle.object.specs.Loaded.{objectRecord, objectRefusal, LoadedBy}
 use Rattle.object.specs.declared.program_header.Dynamic.{Dynamic}
+use Rattle.object.specs.declared.program_header.Dynamic.the-variants.{Missing, At}
 use Rattle.object.specs.declared.object_data.Placed.{Placed}
 use Rattle.object.specs.declared.dynamic_fields.Read.{Read}
 use Rattle.object.proofs.RefusalLaws.{required, after-met, after-none, after-zero}
@@ -35,6 +36,15 @@ module _ (host : Bool) (file : List ℕ) where
       → exit ≡ patch entry 0 (objectSpan host file) (objectBytes host file)
       → take (objectSpan host file) exit ≡ objectImage host file
   image-placed entry exit fits e = rw e (take-patch entry (objectSpan host file) (objectBytes host file) fits)
+
+  -- the record has the file's span
+  pub record-span : objectRecord host file .span ≡ objectSpan host file
+  unfolding objectRecord recordAt recordIn
+  record-span = go (dynamicOf file)
+    where
+      go : (d : Dynamic) → recordAt (objectImage host file) (segmentsOf host file) d .span ≡ objectSpan host file
+      go Missing = length-tab (objectSpan host file) (objectBytes host file)
+      go (At at) = length-tab (objectSpan host file) (objectBytes host file)
 
 -- an object that is loaded was placed
 pub loaded-part :

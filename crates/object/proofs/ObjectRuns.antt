@@ -5,8 +5,7 @@ use mathlib.Core.Bool.{Bool, true, false}
 use mathlib.Core.List.{List, [], _∷_}
 use Prim.Native.Nat.{ℕ, _+_, _-_, _%_, _≤_, _<_, min, max}
 use native.Mathlib.Omega.{arith}
-use borrow.Author.Tests.{lt-ltb, le-ltb}
-use lib.Dec.{eqb, leb, ltb}
+use lib.Dec.{eqb, leb}
 use lib.ListN.{length}
 use Rattle.words.specs.Choice.{pick, every, some}
 use Rattle.words.specs.Memory.{Mem, mem, from, In, write}
@@ -18,13 +17,13 @@ use Rattle.object.specs.Header.{headerRefusal, tableEnd}
 use Rattle.object.specs.ProgramHeader.{loadsOf}
 use Rattle.object.specs.Segments.{holdsHeaders, segmentOk, allApart, segmentsOk, endOf, spanOf, fileBytes, placeSegment, placeSegments, placedOf}
 use Rattle.object.specs.Placed.{objectSpan, objectBytes, fileRefusal}
-use Rattle.object.specs.Runs.{fileFrom, zeros, Run, between, byAddress, fileEnd, segmentRuns, runsFrom, runsOf, saidBy, holders, EachOnce, NoneEmpty, RunsSay}
+use Rattle.object.specs.Runs.{fileFrom, zeros, Run, between, byAddress, fileEnd, segmentRuns, runsFrom, runsOf, saidBy}
 use Rattle.object.specs.declared.program_header.Segment.{Segment}
 use Rattle.object.proofs.Ranges.{split}
 use Rattle.object.proofs.RefusalLaws.{required, after-zero}
 use Rattle.object.proofs.SegmentLaws.{Sound, sound, bytes-from}
 use Rattle.object.proofs.OrderedSegments.{Ascending, ascending, every-ordered, end-ordered, place-out, place-ordered, place-above}
-use Rattle.object.proofs.RunLaws.{Tiled, tiled-between, tiled-sizes, holders-in, holders-out, said-none, said-in, said-out}
+use Rattle.object.proofs.RunLaws.{Tiled, tiled-between, said-none, said-in, said-out}
 
 -- ---- the runs follow one another
 
@@ -243,22 +242,9 @@ unfolding runsOf objectSpan
 tiled-object true file e = tiled-host file
 tiled-object false file e = tiled-file file (passed-seven false file e)
 
-pub each-once : EachOnce
-each-once host file e i =
-    go (split i (objectSpan host file))
-  where
-    go : (i < objectSpan host file) ⊎ (objectSpan host file ≤ i) → holders (runsOf host file) i ≡ pick (ltb i (objectSpan host file)) 1 0
-    go (inl h) =
-        rw (lt-ltb i (objectSpan host file) h)
-        (holders-in 0 (runsOf host file) (objectSpan host file) i (tiled-object host file e) (omega arith) h)
-    go (inr h) =
-        rw (le-ltb i (objectSpan host file) h)
-        (holders-out 0 (runsOf host file) (objectSpan host file) i (tiled-object host file e) (inr h))
-
-pub none-empty : NoneEmpty
-none-empty host file e = tiled-sizes 0 (runsOf host file) (objectSpan host file) (tiled-object host file e)
-
-pub runs-say : RunsSay
+pub runs-say :
+    (host : Bool) (file : List ℕ) → fileRefusal host file ≡ 0 → (i : ℕ) → i < objectSpan host file
+    → saidBy file (runsOf host file) i ≡ objectBytes host file i
 unfolding runsOf objectSpan objectBytes
 runs-say true file e i h = said-in file 0 (length file) (fileFrom 0) [] i (omega arith) h ∙ ap (mem file) (omega arith)
 runs-say false file e i h = said-file file (passed-seven false file e) i

@@ -11,7 +11,7 @@ use borrow.Author.Tests.{eq-eqb, le-leb, lt-ltb, le-ltb, eqb-true, leb-true, ltb
 use lib.Dec.{eqb, leb, ltb}
 use lib.ListN.{length, getD, take, drop, drop-of-length-le}
 use Rattle.words.specs.Choice.{both, either, every, some, below}
-use Rattle.words.proofs.Choice.{both-true, both-false}
+use Rattle.words.proofs.Choice.{both-true, both-false, either-right}
 use Rattle.object.specs.declared.program_header.Segment.{Segment}
 use Rattle.object.specs.TableBytes.{isWritable, holdsRange, isTable, tableBytes, inWritable}
 use Rattle.object.specs.Steps.WritableRange.{WritableRange}
@@ -142,10 +142,6 @@ segment-part s at m p n e l u =
     let a′ : s .vaddr ≤ p = omega arith in
     let b′ : p + n ≤ s .vaddr + s .memsz = omega arith in
     rw (w .0, le-leb _ _ a′, le-leb _ _ b′)
-
-either-right : (a b : Bool) → b ≡ true → either a b ≡ true
-either-right false b e = e
-either-right true b e = refl
 
 -- a part of a range in one writable segment is in one
 pub writable-part : (ss : List Segment) (at m p n : ℕ) → inWritable ss at m ≡ true → at ≤ p → p + n ≤ at + m → inWritable ss p n ≡ true

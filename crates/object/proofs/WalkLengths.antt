@@ -4,6 +4,7 @@ use mathlib.Core.Path.{_≡_, refl, sym, ap, _∙_}
 use mathlib.Core.Bool.{Bool, true, false}
 use mathlib.Core.List.{List, [], _∷_}
 use Prim.Native.Nat.{ℕ, zero, suc, _+_, _≤_, _<_}
+use native.Mathlib.Nat.{not-suc-le-zero}
 use native.Mathlib.Omega.{arith}
 use borrow.Author.Tests.{le-leb, lt-ltb, ltb-true, eqb-true, eqb-false}
 use lib.Dec.{eqb, ltb}
@@ -17,7 +18,21 @@ use Rattle.object.specs.declared.hash_tables.HashTable.the-variants.{Wit
 use Rattle.object.specs.HashTable.{chainAt, isLast, nextSymbol, fuel, walk}
 use Rattle.object.specs.HashCheck.{lengthOk, chainOk, symbolOk, stepOk}
 use Rattle.object.specs.Steps.Marks.{Passes}
-use Rattle.object.proofs.WalkEnds.{walk-ended}
+
+-- a walk that is shorter than its fuel has ended
+pub walk-ended : (m : List ℕ) (t : HashTable) (k n s : ℕ) → length (walk m t n s) < n → walk m t (n + k) s ≡ walk m t n s
+unfolding walk
+walk-ended m t k zero s h = absurd (not-suc-le-zero h)
+walk-ended m t k (suc n) s h =
+    let w = leAt 4 (mem m) (chainAt t s) in
+    let q : suc n + k ≡ suc (n + k) = omega arith in
+    rw q
+    (ap (λ (l : List ℕ). s ∷ l) (go (isLast t w) (walk m t n (nextSymbol t s w)) (walk m t (n + k) (nextSymbol t s w)) h
+    (λ h′. walk-ended m t k n (nextSymbol t s w) h′)))
+  where
+    go : (b : Bool) (l l′ : List ℕ) → suc (length (pick b [] l)) < suc n → (length l < n → l′ ≡ l) → pick b [] l′ ≡ pick b [] l
+    go true l l′ h ih = refl
+    go false l l′ h ih = ih (omega arith)
 
 -- ---- a list whose elements have falling ranks has each of them once
 
@@ -139,4 +154,4 @@ length-fits isT m symbols strings (SysV at b c) s (n, h) =
     le-leb (length (walk m (SysV at b c) (c + 1) s)) c
     (short-below m (SysV at b c) n (c + 1) s c (λ k. h k .0)
     (every-left (λ x. ltb x c) (symbolOk isT m symbols strings) (walk m (SysV at b c) (c + 1) s) (h (c + 1) .1)))
-length-fits isT m symbols strings (Gnu at b first blooms shift) s (n, h) = refl
+length-fits isT m symbols strings (Gnu at b symoffset bloomwords shift) s (n, h) = refl

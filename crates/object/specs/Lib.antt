@@ -11,7 +11,6 @@ pub mod DynamicFields
 pub mod Symbol
 pub mod HashTable
 pub mod HashCheck
-pub mod WalksEnd
 pub mod SymbolCount
 pub mod Record
 pub mod Loaded

@@ -7,63 +7,38 @@
 // (1); each patch is a place (2), a length (1) and bytes. An ask: 1, a length (1) and a name; or 2 to 9 and a number (4). Flag 1: the
 // host; flag 2: the base's asks come first. Bytes of the room that no object is placed on hold the input's first bytes.
 use libc::STDIN_FILENO;
-use libc::STDOUT_FILENO;
 use object::dynamic_fields::ObjectData;
 use object::entry_symbol::CheckedSymbol;
-use object::hash_tables::Answer;
 use object::hash_tables::Definition;
+use object::hash_tables::Exported;
 use object::hash_tables::HashTable;
 use object::hash_tables::SymbolCount;
 use object::relocate::Action;
 use object::relocate::Rela;
 use object::relocate::Relr;
 use object::symbol::Symbol;
+use testing::input::part;
+use testing::input::patches;
+use testing::input::stain;
+use testing::show::field;
+use testing::show::size;
+use testing::show::small;
+use testing::show::truth;
+use testing::show::word;
 
-fn word(text: &[u8]) {
-    io::write_all(STDOUT_FILENO, text);
-}
-
-fn field(v: u64) {
-    word(b" ");
-    io::print_decimal(STDOUT_FILENO, v);
-}
-
-fn size(v: usize) {
-    field(v as u64);
-}
-
-fn small(v: u32) {
-    field(v as u64);
-}
-
-fn truth(b: bool) {
-    if b {
-        word(b" yes");
-        return;
-    }
-    word(b" no");
-}
-
-// The `n` bytes of `s` that stand `k` places after `at`, as far as there are such.
-fn part<'a>(s: &'a [u8], at: usize, k: usize, n: usize) -> &'a [u8] {
-    let from = words::bytes::place(s.len(), at, k);
-    let left = words::bytes::smaller(n, s.len() - from);
-    &s[from..from + left]
-}
-
-fn show_sysv(at: usize, buckets: u32, chains: u32) {
+fn show_sysv(at: usize, buckets: u32, nchain: u32) {
     word(b" sysv");
     size(at);
     small(buckets);
-    small(chains);
+    small(nchain);
 }
 
-fn show_gnu(at: usize, buckets: u32, first: u32, blooms: u32, shift: u32) {
+fn show_gnu(at: usize, buckets: u32, symoffset: u32, bloomwords: u32, shift: u32) {
     word(b" gnu");
     size(at);
     small(buckets);
-    small(first);
-    small(blooms);
+    small(symoffset);
+    small(bloomwords);
     small(shift);
 }
 
@@ -73,15 +48,15 @@ fn show_table(t: HashTable) {
         HashTable::SysV {
             at,
             buckets,
-            chains,
-        } => show_sysv(at, buckets, chains),
+            nchain,
+        } => show_sysv(at, buckets, nchain),
         HashTable::Gnu {
             at,
             buckets,
-            first,
-            blooms,
+            symoffset,
+            bloomwords,
             shift,
-        } => show_gnu(at, buckets, first, blooms, shift),
+        } => show_gnu(at, buckets, symoffset, bloomwords, shift),
     }
 }
 
@@ -120,15 +95,15 @@ fn show_definition(d: Definition) {
     size(d.index);
     field(d.value);
     field(d.size);
-    truth(d.guarded);
+    truth(d.protected);
     truth(d.absolute);
     field(object::hash_tables::address_of(0x1000_0000, d));
 }
 
-fn show_answer(a: Answer) {
+fn show_answer(a: Exported) {
     match a {
-        Answer::Absent => word(b" absent"),
-        Answer::Present(d) => show_definition(d),
+        Exported::Absent => word(b" absent"),
+        Exported::Present(d) => show_definition(d),
     }
 }
 
@@ -281,24 +256,6 @@ fn base_at(input: &[u8], k: u8) -> usize {
     at
 }
 
-// One patch into the file; the answer is where the next one stands.
-fn patch(file: &mut [u8], input: &[u8], at: usize) -> usize {
-    let to = words::bytes::u16_off(input, at, 0) as usize;
-    let n = words::bytes::byte_at(input, at, 2) as usize;
-    words::bytes::copy(file, to, input, words::bytes::place(input.len(), at, 3), n);
-    words::bytes::place(input.len(), at, 3 + n)
-}
-
-fn patches(file: &mut [u8], input: &[u8], start: usize, count: u8) -> usize {
-    let mut at = start;
-    let mut left = count;
-    while 0 < left {
-        at = patch(file, input, at);
-        left -= 1;
-    }
-    at
-}
-
 // The position after a case's asks.
 fn past_asks(input: &[u8], start: usize, count: u8) -> usize {
     let mut at = start;
@@ -362,7 +319,7 @@ fn refused(n: u32) {
 
 // Loads the file into the room, and prints the case's line.
 fn load(room: &mut [u8], file: &[u8], flags: u8, input: &[u8], base: usize, own: usize, count: u8) {
-    words::bytes::copy(room, 0, input, 0, room.len());
+    stain(room, input);
     let r = object::object_data::load(room, file, flags % 2 == 1);
     if r.refusal != 0 {
         refused(r.refusal);
@@ -406,7 +363,13 @@ fn case(arena: &mut [u8], file: &mut [u8], input: &[u8], at: usize) -> usize {
     let n = words::bytes::u32_off(input, at, 6) as usize;
     let start = words::bytes::place(input.len(), at, 12);
     fill(file, input, base);
-    let own = patches(file, input, start, words::bytes::byte_at(input, at, 10));
+    let own = patches(
+        file,
+        input,
+        start,
+        words::bytes::byte_at(input, at, 10) as u16,
+        false,
+    );
     let count = words::bytes::byte_at(input, at, 11);
     load_part(
         arena,

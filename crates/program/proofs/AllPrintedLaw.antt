@@ -16,12 +16,15 @@ use Rattle.sheet.specs.Sheet.{setOf}
 use Rattle.binder.specs.declared.Policy.{Policy}
 use Rattle.binder.specs.declared.Policy.the-variants.{Lenient}
 use Rattle.binder.specs.declared.Answer.the-variants.{Bound, Refused}
-use Rattle.binder.specs.Verdict.{Verdict, passed, refused, first, orderVerdict}
+use Rattle.binder.specs.Setting.{Setting, settingAt}
+use Rattle.binder.specs.Verdict.{first, orderVerdict}
+use Rattle.binder.specs.declared.Verdict.{Verdict}
+use Rattle.binder.specs.declared.Verdict as verdicts
 use Rattle.binder.specs.Report.{orderWords, firstUndefined}
 use Rattle.binder.specs.SetOrder.{setOrder}
 use Rattle.binder.specs.Bind as binding
-use Rattle.binder.specs.Bind.{filesOf, namesOf, objectsOf, unless, prepareVerdict, allows, relocateVerdict, Outcome, outcome, outcomeOf, bindOf}
-use Rattle.binder.proofs.OutcomeLaws.{first-passed, unless-passed}
+use Rattle.binder.specs.Bind.{filesOf, namesOf, objectsOf, unless, allows, relocateVerdict, Outcome, outcome, outcomeOf, bindOf}
+use Rattle.binder.proofs.OutcomeLaws.{first-passed, unless-passed, sheetVerdict, bind-one}
 use Rattle.program.specs.Program.{arenaBytes, arenaAddress, reportWords, countIn, wordIn, startIn, whole, answerTo, programOf, digits, widthFrom, decimalOf, hexLine, hexLines, refusedText, objectText, refusalLine, linesOf, written, print, AllPrinted}
 use Rattle.program.proofs.PrintLaws.{digits-length, width-most, next-place}
 
@@ -31,25 +34,26 @@ abbrev reportIn : Outcome → List ℕ
 reportIn (outcome answer arena report) = report
 
 of-outcome :
-    (size words : ℕ) (v : Verdict) (arena report : List ℕ) → (v ≡ passed → length report ≤ words)
+    (size words : ℕ) (v : Verdict) (arena report : List ℕ) → (v ≡ verdicts.the-variants.Passed → length report ≤ words)
     → length (reportIn (outcomeOf size words v arena report)) ≡ words
 unfolding binding.outcomeOf
-of-outcome size words (refused n k) arena report h = length-replicate words 0
-of-outcome size words passed arena report h =
+of-outcome size words (verdicts.the-variants.Refused n k) arena report h = length-replicate words 0
+of-outcome size words verdicts.the-variants.Passed arena report h =
     omega (arith, h refl, length-append report (replicate (words - length report) 0), length-replicate {A = ℕ} (words - length report) 0)
 
 of-bind :
-    (sheet bytes : List ℕ) (size address : ℕ) (policy : Policy) (words : ℕ) → length (reportIn (bindOf sheet bytes size address policy words)) ≡ words
-unfolding binding.bindOf binding.bindIn binding.relocateVerdict
-of-bind sheet bytes size address policy words =
+    (setting : Setting) (sheet bytes : List ℕ) (size : ℕ) (policy : Policy) (words : ℕ) → length (reportIn (bindOf setting sheet bytes size policy words)) ≡ words
+unfolding binding.bindIn binding.relocateVerdict
+of-bind setting sheet bytes size policy words =
     let files = filesOf (setOf sheet bytes) in
-    let S = objectsOf address files in
+    let S = objectsOf setting files in
     let order = setOrder files (namesOf (setOf sheet bytes)) in
     let room = leb (length (orderWords S files order)) words in
     let last = first (unless (allows policy (firstUndefined S files order)) 19 (firstUndefined S files order)) (unless room 20 0) in
-    of-outcome size words (first (prepareVerdict sheet bytes size address) (relocateVerdict S files order policy words)) _ (orderWords S files order)
+    ap (λ (o : Outcome). length (reportIn o)) (bind-one setting sheet bytes size policy words)
+    ∙ of-outcome size words (first (sheetVerdict setting sheet bytes size) (relocateVerdict S files order policy words)) _ (orderWords S files order)
     (λ e.
-    let p = first-passed (prepareVerdict sheet bytes size address) (relocateVerdict S files order policy words) e in
+    let p = first-passed (sheetVerdict setting sheet bytes size) (relocateVerdict S files order policy words) e in
     let q = first-passed (orderVerdict S files order) last (p .1) in
     let r = first-passed (unless (allows policy (firstUndefined S files order)) 19 (firstUndefined S files order)) (unless room 20 0) (q .1) in
     leb-true (length (orderWords S files order)) words (unless-passed room 20 0 (r .1)))
@@ -62,7 +66,7 @@ of-program : (input : List ℕ) → length (reportIn (programOf input)) ≡ repo
 unfolding programOf answerTo
 of-program input =
     picked (whole input) _ _ reportWords
-    (of-bind (tab (countIn input) (wordIn input)) (drop (startIn input) input) arenaBytes arenaAddress Lenient reportWords) (length-replicate {A = ℕ} reportWords 0)
+    (of-bind (settingAt arenaAddress) (tab (countIn input) (wordIn input)) (drop (startIn input) input) arenaBytes Lenient reportWords) (length-replicate {A = ℕ} reportWords 0)
 
 -- ---- the lines are as long as they may be
 

@@ -7,7 +7,7 @@ use mathlib.Core.Path.{_≡_}
 use mathlib.Core.Bool.{Bool, true, false}
 use mathlib.Core.List.{List, [], _∷_, _++_}
 use lib.Dec.{leb, ltb}
-use lib.ListN.{length, take, drop, replicate}
+use lib.ListN.{length, take, drop}
 use Rattle.words.specs.Choice.{pick, both}
 use Rattle.words.specs.Memory.{mem, tab, patch}
 use Rattle.words.specs.Words.{leAt}
@@ -15,7 +15,8 @@ use Rattle.words.specs.Names.{untilZero}
 use Rattle.binder.specs.declared.Policy.the-variants.{Lenient}
 use Rattle.binder.specs.declared.Answer.{Answer}
 use Rattle.binder.specs.declared.Answer.the-variants.{Bound, Refused}
-use Rattle.binder.specs.Bind.{Outcome, outcome, bindOf}
+use Rattle.binder.specs.Setting.{settingAt}
+use Rattle.binder.specs.Bind.{Outcome, outcome, refusedBind, bindOf}
 
 -- ---- the numbers
 
@@ -51,8 +52,8 @@ whole input = both (leb (startIn input) (length input)) (leb (length input) inpu
 -- what is answered, in an arena of `size` bytes and a report of `words` words; a refusal leaves zeros
 unfoldable pub answerTo : List ℕ → ℕ → ℕ → Outcome
 answerTo input size words =
-    pick (whole input) (bindOf (tab (countIn input) (wordIn input)) (drop (startIn input) input) size arenaAddress Lenient words)
-    (outcome (Refused 1 0) (replicate size 0) (replicate words 0))
+    pick (whole input) (bindOf (settingAt arenaAddress) (tab (countIn input) (wordIn input)) (drop (startIn input) input) size Lenient words)
+    (refusedBind size words 1 0)
 
 unfoldable pub programOf : List ℕ → Outcome
 programOf input = answerTo input arenaBytes reportWords

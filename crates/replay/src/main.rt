@@ -11,29 +11,14 @@ use binder::Answer;
 use binder::Policy;
 use binder::Reply;
 use libc::STDIN_FILENO;
-use libc::STDOUT_FILENO;
-
-fn word(text: &[u8]) {
-    io::write_all(STDOUT_FILENO, text);
-}
-
-fn field(v: u64) {
-    word(b" ");
-    io::print_decimal(STDOUT_FILENO, v);
-}
-
-fn size(v: usize) {
-    field(v as u64);
-}
-
-fn small(v: u32) {
-    field(v as u64);
-}
-
-fn hex(w: u32) {
-    word(b" ");
-    io::print_hex(STDOUT_FILENO, w as u64, 8);
-}
+use testing::input::part;
+use testing::input::patches;
+use testing::input::stain;
+use testing::show::field;
+use testing::show::hex;
+use testing::show::size;
+use testing::show::small;
+use testing::show::word;
 
 fn show_refusal(number: u32, object: u32) {
     word(b"refused");
@@ -88,24 +73,11 @@ fn show_arena(arena: &[u8]) {
     word(b"\n");
 }
 
-// The `n` bytes of `s` that stand `k` places after `at`, as far as there are such.
-fn part<'a>(s: &'a [u8], at: usize, k: usize, n: usize) -> &'a [u8] {
-    let from = words::bytes::place(s.len(), at, k);
-    let left = words::bytes::smaller(n, s.len() - from);
-    &s[from..from + left]
-}
-
 fn policy_of(b: u8) -> Policy {
     if b == 0 {
         return Policy::Strict;
     }
     Policy::Lenient
-}
-
-// Other bytes than zeros, so that what a call leaves shows.
-fn stain(arena: &mut [u8], input: &[u8]) {
-    let n = arena.len();
-    words::bytes::copy(arena, 0, input, 0, n);
 }
 
 fn show_bound(a: Answer, report: &[u32], arena: &[u8]) {
@@ -261,30 +233,18 @@ fn play_part(arena: &mut [u8], set: &[u8], input: &[u8], at: usize, start: usize
     play_sheet(&mut arena[from..], set, input, at, start)
 }
 
-// One patch into the set; the answer is where the next one stands.
-fn patch(set: &mut [u8], input: &[u8], at: usize) -> usize {
-    let to = words::bytes::u16_off(input, at, 0) as usize;
-    let n = words::bytes::u16_off(input, at, 2) as usize;
-    words::bytes::copy(set, to, input, words::bytes::place(input.len(), at, 4), n);
-    words::bytes::place(input.len(), at, 4 + n)
-}
-
-fn patches(set: &mut [u8], input: &[u8], start: usize, count: u16) -> usize {
-    let mut at = start;
-    let mut left = count;
-    while 0 < left {
-        at = patch(set, input, at);
-        left -= 1;
-    }
-    at
-}
-
 // Makes the set at `at`; the answer is where its queries stand.
 fn fill(set: &mut [u8], input: &[u8], at: usize) -> usize {
     let n = set.len();
     words::bytes::zero(set, 0, n);
     let first = words::bytes::place(input.len(), at, 22);
-    patches(set, input, first, words::bytes::u16_off(input, at, 19))
+    patches(
+        set,
+        input,
+        first,
+        words::bytes::u16_off(input, at, 19),
+        true,
+    )
 }
 
 // The set at `at`; the answer is where the next one stands.

@@ -16,3 +16,12 @@ both-false false t e = refl
 pub either-true : (s t : Bool) → either s t ≡ true → (s ≡ true) ⊎ (t ≡ true)
 either-true true t e = inl refl
 either-true false t e = inr e
+
+pub either-left : (s t : Bool) → s ≡ true → either s t ≡ true
+either-left true t e = refl
+either-left false true e = refl
+either-left false false e = e
+
+pub either-right : (s t : Bool) → t ≡ true → either s t ≡ true
+either-right true t e = refl
+either-right false t e = e

@@ -2,16 +2,27 @@
 use mathlib.Core.Path.{_≡_, refl, sym, ap, _∙_, fun-ext}
 use mathlib.Core.Logic.{_⊎_, inl, inr, ⊎-elim}
 use mathlib.Core.Bool.{Bool, true, false}
-use mathlib.Core.List.{List, [], _∷_, _++_, append-nil}
+use mathlib.Core.List.{List, [], _∷_, _++_, map, append-nil}
 use Prim.Native.Nat.{ℕ, zero, suc, _+_, _-_, _≤_, _<_, min}
 use native.Mathlib.Omega.{arith}
 use native.Mathlib.Decide.{decLt, ℕ-discrete}
 use native.Mathlib.Numerals.{add-one}
 use borrow.Rule.Slice.PartMut.{putMid, post-is}
-use lib.ListN.{length, getD, set, take, drop, length-set, length-take, length-drop, length-append, replicate, List·getD-append, List·getD-eq-default}
+use lib.ListN.{length, getD, set, take, drop, length-set, length-take, length-drop, length-append, length-map, replicate, List·getD-append, List·getD-eq-default}
 use lib.Seq.{getD-set-same, getD-set-other, getD-take, getD-drop, getD-append-add, length-take-le, take-all, drop-length, ext-getD, set-out}
 use Rattle.words.specs.Memory.{Mem, mem, tab, from, In, write, patch}
 use Rattle.words.proofs.Memory.{Out, in-or-out, write-in, write-out, write-none, write-cong, write-join, write-from}
+
+-- ---- lists
+
+-- the length of an array whose elements are structs
+pub length-mapped : (X Y : Type 0) (f : X → Y) (l : List X) (n : ℕ) → length (map f l) ≡ n → length l ≡ n
+length-mapped X Y f l n e = sym (length-map l f) ∙ e
+
+pub take-zeros : (n m : ℕ) → n ≤ m → take {A = ℕ} n (replicate m 0) ≡ replicate n 0
+take-zeros zero m h = refl
+take-zeros (suc n) zero h = absurd (omega arith)
+take-zeros (suc n) (suc m) h = ap (λ (l : List ℕ). 0 ∷ l) (take-zeros n m (omega arith))
 
 -- ---- the memory of a slice
 

@@ -2,7 +2,7 @@
 // written there is dropped, so no function asks anything of its caller, but for those whose names end in `_in`: they are for loops whose
 // places are known to be in the slice.
 ghost use mathlib.Core.Path.{_≡_};
-ghost use Prim.Native.Nat.{_+_, _-_, _*_, _≤_, min};
+ghost use Prim.Native.Nat.{_+_, _-_, _*_, _≤_, min, max};
 ghost use lib.ListN.{length, replicate, set};
 ghost use Rattle.words.specs.Memory.{mem, from, patch};
 ghost use Rattle.words.specs.Words.{leAt, byteOf, sum64};
@@ -250,6 +250,16 @@ pub fn smaller(a: usize, b: usize) -> usize
     ensures { λ r. ⌜ r ≡ min a b ⌝ }
 {
     if b < a {
+        return b;
+    }
+    a
+}
+
+// The larger of the two.
+pub fn larger(a: usize, b: usize) -> usize
+    ensures { λ r. ⌜ r ≡ max a b ⌝ }
+{
+    if a < b {
         return b;
     }
     a

@@ -3,7 +3,7 @@
 -- proofs/RelocatedIs joins the two. Assumes nothing.
 use mathlib.Core.Logic.{_⊎_}
 use mathlib.Core.Bool.{Bool, true, false, not}
-use mathlib.Core.List.{List, [], _∷_}
+use mathlib.Core.List.{List, [], _∷_, _++_}
 use Prim.Native.Nat.{ℕ, zero, suc, _+_, _-_, _*_, _/_, _%_, _^_, _≤_, min}
 use lib.Dec.{eqb, leb, ltb}
 use lib.ListN.{length, getD, set, take, drop}
@@ -26,11 +26,11 @@ use Rattle.object.specs.declared.relocate.Relr.the-variants.{Address, Bitmap}
 use Rattle.object.specs.declared.entry_symbol.CheckedSymbol.{CheckedSymbol}
 use Rattle.object.specs.declared.entry_symbol.CheckedSymbol.the-variants.{Refused, Checked}
 use Rattle.sheet.specs.Sheet.{Input, noInput}
-use Rattle.scope.specs.Steps.Seats.{seatAt}
-use Rattle.scope.specs.Steps.ScopeCode.{resolveSeats, resolveCopySeats}
-use Rattle.scope.specs.declared.seats.Seat.{Seat}
-use Rattle.scope.specs.declared.scope.Scoped.{Scoped}
-use Rattle.scope.specs.declared.scope.Scoped.the-variants.{Absent, Found}
+use Rattle.scope.specs.Steps.Links.{linkAt, addressIn}
+use Rattle.scope.specs.Steps.ScopeCode.{resolveLinks, resolveCopyLinks}
+use Rattle.scope.specs.declared.links.Link.{Link}
+use Rattle.scope.specs.declared.scope.Resolved.{Resolved}
+use Rattle.scope.specs.declared.scope.Resolved.the-variants.{Absent, Found}
 use Rattle.binder.specs.declared.report.Progress.{Progress}
 use Rattle.binder.specs.declared.turn.Turn.{Turn}
 use Rattle.binder.specs.declared.relr.Moved.{Moved}
@@ -92,6 +92,13 @@ unlessRefused next (left p a r) = pick (eqb (p .refusal) 0) (next (left p a r)) 
 abbrev pub imageIn : List ℕ → Turn → List ℕ
 imageIn a t = take (t .span) (drop (t .offset) a)
 
+-- the part that is lent to write in, from the object's offset to the arena's end; and the arena in which it became `x`
+abbrev pub partOf : Turn → List ℕ → List ℕ
+partOf t a = drop (t .offset) a
+
+unfoldable pub withPart : Turn → List ℕ → List ℕ → List ℕ
+withPart t a x = take (t .offset) a ++ x
+
 -- ---- the report
 
 -- a word of 32 bits
@@ -145,7 +152,7 @@ markUndefined k (noted p report) = noted (undefinedIn k p) report
 unfoldable pub unresolvedOf : Symbol → ℕ → ℕ → Progress → List ℕ → Noted
 unresolvedOf y k i p report = pick (eqb (bindingOf y) 2) (noted p report) (markUndefined k (noteOf (reportSum 6 i) p report))
 
--- ---- RELR
+-- ---- RELR, in the object's part of the arena
 
 -- a location that is no place of any object: before any address
 abbrev pub far : ℕ
@@ -155,44 +162,51 @@ far = 2 ^ 62
 abbrev pub cutTo32 : ℕ → ℕ
 cutTo32 n = min n (2 ^ 32 - 1)
 
--- the refusal, 0 for none, and the arena; the same with the location after an entry
+-- the refusal, 0 for none, and the part, or the arena; the same with the location after an entry
 pub data Summed : Type 0 where
-  summed : (refusal : ℕ) (arena : List ℕ) → Summed
+  summed : (refusal : ℕ) (bytes : List ℕ) → Summed
 
 pub data Shifted : Type 0 where
-  shifted : (m : Moved) (arena : List ℕ) → Shifted
+  shifted : (m : Moved) (part : List ℕ) → Shifted
 
 -- the word at `p` gains the base
-unfoldable pub wordAdded : Turn → ℕ → List ℕ → List ℕ
-wordAdded t p a = patch a (t .offset + p) 8 (byteOf (sum64 (leAt 8 (mem a) (t .offset + p)) (t .base)))
+unfoldable pub wordAdded : ℕ → ℕ → List ℕ → List ℕ
+wordAdded base p x = patch x p 8 (byteOf (sum64 (leAt 8 (mem x) p) base))
 
-module _ (t : Turn) (segments : List Segment) where
+module _ (base : ℕ) (segments : List Segment) where
   -- the words of the `n` lowest bits, the first of which is at `p`
   unfoldable pub addBits : ℕ → ℕ → ℕ → List ℕ → Summed
-  addBits zero p bits a = summed 0 a
-  addBits (suc n) p bits a =
+  addBits zero p bits x = summed 0 x
+  addBits (suc n) p bits x =
       pick (eqb (bits % 2) 1)
-      (pick (inWritable segments p 8) (addBits n (p + 8) (bits / 2) (wordAdded t p a)) (summed 17 a))
-      (addBits n (p + 8) (bits / 2) a)
+      (pick (inWritable segments p 8) (addBits n (p + 8) (bits / 2) (wordAdded base p x)) (summed 17 x))
+      (addBits n (p + 8) (bits / 2) x)
 
   abbrev pub bitsAdded : ℕ → Summed → Shifted
-  bitsAdded location (summed z a) = shifted (record { refusal = z; location = min (location + 504) far }) a
+  bitsAdded location (summed z x) = shifted (record { refusal = z; location = min (location + 504) far }) x
 
   -- an entry
   unfoldable pub addRelr : ℕ → Relr → List ℕ → Shifted
-  addRelr location (Address p) a =
-      pick (inWritable segments p 8) (shifted (record { refusal = 0; location = min (p + 8) far }) (wordAdded t p a))
-      (shifted (record { refusal = 17; location = location }) a)
-  addRelr location (Bitmap bits) a = bitsAdded location (addBits 63 location bits a)
+  addRelr location (Address p) x =
+      pick (inWritable segments p 8) (shifted (record { refusal = 0; location = min (p + 8) far }) (wordAdded base p x))
+      (shifted (record { refusal = 17; location = location }) x)
+  addRelr location (Bitmap bits) x = bitsAdded location (addBits 63 location bits x)
 
 abbrev pub thenRelr : (ℕ → List ℕ → Summed) → Shifted → Summed
-thenRelr next (shifted m a) = pick (eqb (m .refusal) 0) (next (m .location) a) (summed (m .refusal) a)
+thenRelr next (shifted m x) = pick (eqb (m .refusal) 0) (next (m .location) x) (summed (m .refusal) x)
 
 -- `n` entries from entry `i` on
 unfoldable pub addRelrs : Turn → Record → ℕ → ℕ → ℕ → List ℕ → Summed
-addRelrs t r zero i location a = summed 0 a
-addRelrs t r (suc n) i location a =
-    thenRelr (addRelrs t r n (i + 1)) (addRelr t (r .segments) location (relrOf (relrAt (imageIn a t) (r .relr) i)) a)
+addRelrs t r zero i location x = summed 0 x
+addRelrs t r (suc n) i location x =
+    thenRelr (addRelrs t r n (i + 1)) (addRelr (t .base) (r .segments) location (relrOf (relrAt (take (t .span) x) (r .relr) i)) x)
+
+-- all of them, in the arena
+abbrev pub summedIn : Turn → List ℕ → Summed → Summed
+summedIn t a (summed z x) = summed z (withPart t a x)
+
+unfoldable pub runRelrs : Turn → Record → List ℕ → Summed
+runRelrs t r a = summedIn t a (addRelrs t r (cutTo32 (r .relrs)) 0 far (partOf t a))
 
 -- ---- RELA and PLT
 
@@ -216,15 +230,15 @@ abbrev pub keepsWeak : ℕ → Symbol → Noted → Noted
 keepsWeak last y (noted p report) = noted (pick (eqb (bindingOf y) 2) (keeps last 0 p) p) report
 
 -- a write with a search: by the address that was found, which is kept, or by 0, and a report word
-unfoldable pub writeFound : Turn → Rela → Calculation → ℕ → Symbol → Scoped → Progress → List ℕ → List ℕ → Left
+unfoldable pub writeFound : Turn → Rela → Calculation → ℕ → Symbol → Resolved → Progress → List ℕ → List ℕ → Left
 writeFound t e f i y Absent p a report =
     withArena (patch a (t .offset + e .place) (f .width) (writtenBytes t e f 0)) (keepsWeak (e .symbol + 1) y (unresolvedOf y (t .number) i p report))
 writeFound t e f i y (Found k d x) p a report =
     left (keeps (e .symbol + 1) x p) (patch a (t .offset + e .place) (f .width) (writtenBytes t e f x)) report
 
--- the `n` bytes of the definition `d`, in the object at the seat `s`, may be copied to the place `to` of the object whose turn it is: the
+-- the `n` bytes of the definition `d`, in the object at the link `s`, may be copied to the place `to` of the object whose turn it is: the
 -- tests of refusal 18, and both ranges end inside an arena of `size` bytes
-unfoldable pub copyFits : ℕ → Turn → ℕ → Seat → Definition → ℕ → Bool
+unfoldable pub copyFits : ℕ → Turn → ℕ → Link → Definition → ℕ → Bool
 copyFits size t to s d n =
     both (not (d .absolute))
     (both (leb (d .value + n) (s .span))
@@ -236,28 +250,28 @@ copyFits size t to s d n =
 abbrev pub CopyApart : ℕ → ℕ → ℕ → ℕ → Type 0
 CopyApart size to start n = (to + n ≤ size) × (start + n ≤ size) × ((to + n ≤ start) ⊎ (start + n ≤ to))
 
--- 5: `n` bytes of the definition `d`, in the object at the seat `s`
-unfoldable pub copyBytes : Turn → List Segment → ℕ → Seat → Definition → ℕ → Progress → List ℕ → Wrote
+-- 5: `n` bytes of the definition `d`, in the object at the link `s`
+unfoldable pub copyBytes : Turn → List Segment → ℕ → Link → Definition → ℕ → Progress → List ℕ → Wrote
 copyBytes t segments to s d n p a =
     pick (eqb n 0) (wrote p a)
     (pick (inWritable segments to n)
     (pick (copyFits (length a) t to s d n) (wrote p (patch a (t .offset + to) n (from (s .offset + d .value) (mem a)))) (wrote (refusedBy t 18 p) a))
     (wrote (refusedBy t 17 p) a))
 
-unfoldable pub copyOf : List ℕ → Turn → List Segment → Rela → ℕ → Symbol → Scoped → Progress → List ℕ → List ℕ → Left
+unfoldable pub copyOf : List ℕ → Turn → List Segment → Rela → ℕ → Symbol → Resolved → Progress → List ℕ → List ℕ → Left
 copyOf table t segments e i y Absent p a report = withArena a (unresolvedOf y (t .number) i p report)
 copyOf table t segments e i y (Found k d x) p a report =
-    withReport report (copyBytes t segments (e .place) (seatAt table k) d (min (y .size) (d .size)) p a)
+    withReport report (copyBytes t segments (e .place) (linkAt table k) d (min (y .size) (d .size)) p a)
 
 -- ---- an object's turn
 
-abbrev pub turnOf : ℕ → List ℕ → ℕ → Turn
-turnOf address table k =
+abbrev pub turnOf : List ℕ → ℕ → Turn
+turnOf table k =
     record {
       number = k;
-      offset = seatAt table k .offset;
-      span = seatAt table k .span;
-      base = sum64 address (seatAt table k .offset);
+      offset = linkAt table k .offset;
+      span = linkAt table k .span;
+      base = sum64 (addressIn table) (linkAt table k .offset);
     }
 
 -- the record is read again, at the object's turn; what was loaded is not refused then
@@ -267,13 +281,13 @@ againRefusal image file = pick (leb (length (loadsOf file)) 16) (readRefusal fal
 abbrev pub againRecord : List ℕ → List ℕ → Record
 againRecord image file = recordAt image (loadsOf file) (dynamicOf file)
 
-module _ (address : ℕ) (table : List ℕ) (count : ℕ) where
+module _ (table : List ℕ) where
   -- the search for a symbol's name, and COPY's
-  abbrev pub soughtFor : Turn → List ℕ → List ℕ → Scoped
-  soughtFor t a name = resolveSeats address a table count (t .number) name (gnuHash name) (elfHash name)
+  abbrev pub soughtFor : Turn → List ℕ → List ℕ → Resolved
+  soughtFor t a name = resolveLinks a table (t .number) name (gnuHash name) (elfHash name)
 
-  abbrev pub soughtForCopy : List ℕ → List ℕ → Scoped
-  soughtForCopy a name = resolveCopySeats address a table count name (gnuHash name) (elfHash name)
+  abbrev pub soughtForCopy : List ℕ → List ℕ → Resolved
+  soughtForCopy a name = resolveCopyLinks a table name (gnuHash name) (elfHash name)
 
   -- the kept answer, where it is the symbol's, or a search
   unfoldable pub answeredOf : Turn → Record → Rela → Calculation → ℕ → Symbol → Progress → List ℕ → List ℕ → Left
@@ -320,16 +334,16 @@ module _ (address : ℕ) (table : List ℕ) (count : ℕ) where
   -- the report word of the object, RELR, RELA, PLT; no answer is kept before, since a symbol's index is the object's own
   unfoldable pub runObject : Turn → Record → Progress → List ℕ → List ℕ → Left
   runObject t r p a report =
-      thenTables t r (addRelrs t r (cutTo32 (r .relrs)) 0 far a) (noteOf (reportSum 5 (t .number)) (keeps 0 0 p) report)
+      thenTables t r (runRelrs t r a) (noteOf (reportSum 5 (t .number)) (keeps 0 0 p) report)
 
   -- ---- the objects
 
   -- object `k`, of that file
   unfoldable pub runAt : ℕ → List ℕ → Progress → List ℕ → List ℕ → Left
   runAt k file p a report =
-      pick (eqb (againRefusal (imageIn a (turnOf address table k)) file) 0)
-      (runObject (turnOf address table k) (againRecord (imageIn a (turnOf address table k)) file) p a report)
-      (left (refusedBy (turnOf address table k) (againRefusal (imageIn a (turnOf address table k)) file) p) a report)
+      pick (eqb (againRefusal (imageIn a (turnOf table k)) file) 0)
+      (runObject (turnOf table k) (againRecord (imageIn a (turnOf table k)) file) p a report)
+      (left (refusedBy (turnOf table k) (againRefusal (imageIn a (turnOf table k)) file) p) a report)
 
   -- the objects of an order, of the set `os`
   unfoldable pub runOrder : List Input → List ℕ → Left → Left

@@ -2,20 +2,21 @@
 -- bitmap, where all places lie in one writable segment. Nothing that is stated of `bind` and `query` rests on it. Assumes nothing.
 use mathlib.Core.List.{List}
 use mathlib.Core.Path.{_≡_}
-use Prim.Native.Nat.{ℕ, _+_, _-_, _*_, _≤_, _<_}
+use Prim.Native.Nat.{ℕ, zero, suc, _+_, _-_, _*_, _≤_, _<_}
 use lib.ListN.{length}
 use Rattle.object.specs.TableBytes.{Agree}
 use Rattle.object.specs.Steps.WritableRange.{WritableRange}
 use Rattle.object.specs.Steps.FineRange.{FineOf}
 use Rattle.object.specs.Record.{Record, isTableOf}
 use Rattle.object.specs.declared.program_header.Segment.{Segment}
-use Rattle.words.specs.Memory.{mem}
-use Rattle.words.specs.Words.{leAt}
+use Rattle.words.specs.Memory.{mem, patch}
+use Rattle.words.specs.Words.{leAt, byteOf, sum64}
+use Rattle.object.specs.Entries.{relaAt}
 use Rattle.object.specs.RelocationTypes.{rowOf}
 use Rattle.object.specs.Steps.Actions.{rowBy}
-use Rattle.object.specs.declared.relocate.Action.the-variants.{Symbolic}
-use Rattle.scope.specs.declared.scope.Scoped.{Scoped}
-use Rattle.scope.specs.declared.scope.Scoped.the-variants.{Absent, Found}
+use Rattle.object.specs.declared.relocate.Action.the-variants.{Relative, Symbolic}
+use Rattle.scope.specs.declared.scope.Resolved.{Resolved}
+use Rattle.scope.specs.declared.scope.Resolved.the-variants.{Absent, Found}
 use Rattle.binder.specs.declared.report.Progress.{Progress}
 use Rattle.binder.specs.declared.turn.Turn.{Turn}
 use Rattle.binder.specs.declared.relocate.Symbols.{Symbols}
@@ -38,14 +39,27 @@ pub record InReach (len : ℕ) (t : Turn) (at n high : ℕ) : Type 0 where
   pub word : 8 ≤ high
   pub inside : high ≤ t .span
 
+-- entry `i` of the table at `at` of the part `x` is Relative, its place is in low .. high, and its word was written: `y` is left
+pub record RelativeWritten (base at low high i : ℕ) (x y : List ℕ) : Type 0 where
+  pub acts : rowOf (relaAt x at i .rtype) ≡ rowBy Relative
+  pub above : low ≤ relaAt x at i .place
+  pub below : relaAt x at i .place + 8 ≤ high
+  pub written : y ≡ patch x (relaAt x at i .place) 8 (byteOf (sum64 base (relaAt x at i .addend)))
+
+-- the same of `m` entries from `i` on, one after another
+unfoldable pub RelativesWritten : ℕ → ℕ → ℕ → ℕ → ℕ → ℕ → List ℕ → List ℕ → Type 0
+RelativesWritten base at low high i zero x y = y ≡ x
+RelativesWritten base at low high i (suc m) x y =
+    (z : List ℕ) × RelativesWritten base at low high i m x z × RelativeWritten base at low high (i + m) z y
+
 -- of the table of `n` entries at `at`, what is left from entry `i` on over the arena `a` is what is left from entry `j` on over `b`, for an
 -- object in which low .. high is writable, and where no refusal was met
 abbrev pub EntriesPassed : Turn → ℕ → ℕ → ℕ → ℕ → ℕ → List ℕ → ℕ → List ℕ → Type 0
 EntriesPassed t at n low high i a j b =
-    (address : ℕ) (table : List ℕ) (count : ℕ) (r : Record) (first : ℕ) (p : Progress) (report : List ℕ)
+    (table : List ℕ) (r : Record) (first : ℕ) (p : Progress) (report : List ℕ)
     → WritableRange (r .segments) low high
     → (0 < high → p .refusal ≡ 0)
-    → (runTable address table count t r at first (n - j) j (left p b report) ≡ runTable address table count t r at first (n - i) i (left p a report))
+    → (runTable table t r at first (n - j) j (left p b report) ≡ runTable table t r at first (n - i) i (left p a report))
     × TablesKept t r a b
 
 -- the object's symbols
@@ -70,22 +84,22 @@ EntryRead a t y k low high Other = Unit {0}
 EntryRead a t y k low high (Here place index name) = EntryHere a t y k low high place index name
 
 -- what a search found
-abbrev pub addressIn : Scoped → Address
-addressIn Absent = Nowhere
-addressIn (Found k d x) = At x
+abbrev pub addressFound : Resolved → Address
+addressFound Absent = Nowhere
+addressFound (Found k d x) = At x
 
 -- as EntriesPassed, with the answers that are kept: `s` before, `s′` after
-abbrev pub SymbolsPassed : ℕ → List ℕ → ℕ → Turn → Symbols → ℕ → ℕ → ℕ → ℕ → Run → List ℕ → Run → List ℕ → Type 0
-SymbolsPassed address table count t y at n low high s a s′ b =
+abbrev pub SymbolsPassed : List ℕ → Turn → Symbols → ℕ → ℕ → ℕ → ℕ → Run → List ℕ → Run → List ℕ → Type 0
+SymbolsPassed table t y at n low high s a s′ b =
     (r : Record) (first : ℕ) (p : Progress) (report : List ℕ)
     → WritableRange (r .segments) low high
     → SymbolsOf t r y a
     → (0 < high → p .refusal ≡ 0)
-    → (runTable address table count t r at first (n - s′ .next) (s′ .next) (left (keeps (s′ .last) (s′ .address) p) b report)
-    ≡ runTable address table count t r at first (n - s .next) (s .next) (left (keeps (s .last) (s .address) p) a report))
+    → (runTable table t r at first (n - s′ .next) (s′ .next) (left (keeps (s′ .last) (s′ .address) p) b report)
+    ≡ runTable table t r at first (n - s .next) (s .next) (left (keeps (s .last) (s .address) p) a report))
     × TablesKept t r a b
 
--- the words of a bitmap are added: `a` becomes `b`, where the 63 words from `location` on are writable
-abbrev pub BitsPassed : Turn → ℕ → ℕ → List ℕ → List ℕ → Type 0
-BitsPassed t location bits a b =
-    (segments : List Segment) → WritableRange segments location (location + 504) → summed 0 b ≡ addBits t segments 63 location bits a
+-- the words of a bitmap are added: the part `x` becomes `y`, where the 63 words from `location` on are writable
+abbrev pub BitsPassed : ℕ → ℕ → ℕ → List ℕ → List ℕ → Type 0
+BitsPassed base location bits x y =
+    (segments : List Segment) → WritableRange segments location (location + 504) → summed 0 y ≡ addBits base segments 63 location bits x

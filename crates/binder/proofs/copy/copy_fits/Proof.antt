@@ -6,7 +6,7 @@ use lib.Dec.{leb}
 use native.Mathlib.Omega.{arith}
 use borrow.Author.Tests.{leb-true, leb-false, le-leb, lt-leb, not-true, not-false}
 use Rattle.object.specs.declared.hash_tables.Definition.{Definition}
-use Rattle.scope.specs.declared.seats.Seat.{Seat}
+use Rattle.scope.specs.declared.links.Link.{Link}
 use Rattle.binder.specs.declared.turn.Turn.{Turn}
 use Rattle.binder.specs.Steps.Relocating.{copyFits}
 use borrow.Author.Needs.{needs}
@@ -31,7 +31,7 @@ sums-fit : (x y n size : ℕ) → x + y + n ≤ size → size < 2 ^ 64 → x + y
 sums-fit x y n size h k = omega arith
 
 -- the tests, in order
-module _ (size : ℕ) (t : Turn) (to : ℕ) (s : Seat) (d : Definition) (n : ℕ) where
+module _ (size : ℕ) (t : Turn) (to : ℕ) (s : Link) (d : Definition) (n : ℕ) where
   not-placed : d .absolute ≡ true → false ≡ copyFits size t to s d n
   unfolding copyFits
   not-placed a = rw a refl
@@ -72,24 +72,15 @@ returns : tie.Need-returns
 returns c =
     not-placed (c .before .args .size) (c .before .args .t) (c .before .args .to) (c .before .args .s) (c .before .args .d) (c .before .args .n) (c .if1 .taken)
 
-ends-inside-requires : tie.Need-ends-inside-requires
-ends-inside-requires c κs = search needs
-
 returns-2 : tie.Need-returns-2
 returns-2 c =
     let a = c .before .before .before .args in
     past-span (a .size) (a .t) (a .to) (a .s) (a .d) (a .n) (c .before .before .if1 .left) (omega (arith, not-told (0 + a .d .value + a .n) (a .s .span) (c .before .ends-inside .ensures) (c .if2 .taken)))
 
-ends-inside-requires-2 : tie.Need-ends-inside-requires-2
-ends-inside-requires-2 c κs = search needs
-
 returns-3 : tie.Need-returns-3
 returns-3 c =
     let a = c .before .before .before .before .before .args in
     to-past-end (a .size) (a .t) (a .to) (a .s) (a .d) (a .n) (c .before .before .before .before .if1 .left) (omega (arith, told (0 + a .d .value + a .n) (a .s .span) (c .before .before .before .ends-inside .ensures) (c .before .before .if2 .left))) (not-told (a .t .offset + a .to + a .n) (a .size) (c .before .ends-inside2 .ensures) (c .if3 .taken))
-
-ends-inside-requires-3 : tie.Need-ends-inside-requires-3
-ends-inside-requires-3 c κs = search needs
 
 returns-4 : tie.Need-returns-4
 returns-4 c =
@@ -146,11 +137,11 @@ copy-fits-spec =
     tie.close
     (tie.spec
     returns
-    ends-inside-requires
+    (λ c κs. search needs)
     returns-2
-    ends-inside-requires-2
+    (λ c κs. search needs)
     returns-3
-    ends-inside-requires-3
+    (λ c κs. search needs)
     returns-4
     add-if5
     add-if5-2

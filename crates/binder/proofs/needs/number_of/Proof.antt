@@ -3,6 +3,7 @@ use Prim.Native.Nat.{_-_, _≤_}
 use mathlib.Core.Bool.{true, false}
 use mathlib.Core.Path.{_≡_, refl, sym, ap, _∙_}
 use native.Mathlib.Omega.{arith}
+use Rattle.words.proofs.Slices.{length-mapped}
 use Rattle.binder.proofs.LoopLaws.{counts-down}
 use borrow.Author.Needs.{needs}
 use lib.ListN.{length}
@@ -10,7 +11,6 @@ use denote.Ref.{now}
 use Rattle.words.specs.Names.{sameBytes}
 use Rattle.sheet.specs.Steps.Parts.{inputsIn}
 use Rattle.sheet.specs.declared.sheet.Parts.{Parts}
-use Rattle.sheet.proofs.PartLaws.{length-mapped}
 use Rattle.binder.proofs.NeedsLaws.{numberFrom, number-next, number-none, number-cut}
 use Rattle.binder.proofs.needs.number_of.Statement.{statement}
 use Rattle.binder.proofs.needs.number_of.Tie as tie

@@ -4,7 +4,8 @@ use native.Mathlib.Omega.{arith}
 use borrow.Author.Tests.{not-true, not-false}
 use denote.Ref.{now}
 use Rattle.sheet.specs.Steps.Parts.{inputsIn}
-use Rattle.binder.proofs.PrepareLaws.{prepare-one, prepare-two, prepare-three, prepare-loads}
+use Rattle.binder.proofs.PrepareLaws.{prepare-two, prepare-three, prepare-loads}
+use Rattle.binder.specs.Setting.{settingAt}
 use borrow.Author.Needs.{needs}
 use Rattle.binder.proofs.prepare.prepare.Statement.{statement}
 use Rattle.binder.proofs.prepare.prepare.Tie as tie
@@ -12,37 +13,32 @@ use Rattle.binder.proofs.prepare.prepare.Tie as tie
 returns : tie.Need-returns
 returns c =
     let a = c .before .before .before .before .before .args in
-    prepare-one (inputsIn (now (a .bytes)) (a .parts)) (a .address) (now (a .arena)) (omega (arith, c .before .before .before .before .before .pre .1, c .if1 .taken)) _ _
+    prepare-two (settingAt (a .address)) (inputsIn (now (a .bytes)) (a .parts)) (now (a .arena)) (sym (c .before .arena-ok .ensures) ∙ not-true _ (c .if1 .taken)) _ _
 
 returns-2 : tie.Need-returns-2
 returns-2 c =
     let a = c .before .before .before .before .before .before .before .args in
-    prepare-two (inputsIn (now (a .bytes)) (a .parts)) (a .address) (now (a .arena)) (omega (arith, c .before .before .before .before .before .before .before .pre .1, c .before .before .if1 .left))
-    (sym (c .before .arena-ok .ensures) ∙ not-true _ (c .if2 .taken)) _ _
+    prepare-three (settingAt (a .address)) (inputsIn (now (a .bytes)) (a .parts)) (now (a .arena))
+    (sym (c .before .before .before .arena-ok .ensures) ∙ not-false _ (c .before .before .if1 .left)) (c .before .duplicate .result) (c .before .duplicate .ensures .0) (c .if2 .taken) _ _
 
 returns-3 : tie.Need-returns-3
 returns-3 c =
-    let a = c .before .before .before .before .before .before .before .before .before .args in
-    prepare-three (inputsIn (now (a .bytes)) (a .parts)) (a .address) (now (a .arena)) (omega (arith, c .before .before .before .before .before .before .before .before .before .pre .1, c .before .before .before .before .if1 .left))
-    (sym (c .before .before .before .arena-ok .ensures) ∙ not-false _ (c .before .before .if2 .left)) (c .before .twin .result) (c .before .twin .ensures .0) (c .if3 .taken) _ _
-
-returns-4 : tie.Need-returns-4
-returns-4 c =
-    let a = c .before .before .before .before .before .before .before .before .before .before .before .before .before .before .before .before .args in
-    prepare-loads (inputsIn (now (a .bytes)) (a .parts)) (a .address) (now (a .arena)) (omega (arith, c .before .before .before .before .before .before .before .before .before .before .before .before .before .before .before .before .pre .1, c .before .before .before .before .before .before .before .before .before .before .before .if1 .left))
-    (sym (c .before .before .before .before .before .before .before .before .before .before .arena-ok .ensures) ∙ not-false _ (c .before .before .before .before .before .before .before .before .before .if2 .left)) (sym (c .before .before .before .before .before .before .before .before .twin .ensures .0) ∙ c .before .before .before .before .before .before .before .if3 .left) _ _ _ (c .before .before .before .before .load-all .ensures)
+    let a = c .before .before .before .before .before .before .before .before .before .before .before .before .before .before .before .before .before .before .args in
+    prepare-loads (settingAt (a .address)) (inputsIn (now (a .bytes)) (a .parts)) (now (a .arena))
+    (sym (c .before .before .before .before .before .before .before .before .before .before .before .before .before .before .arena-ok .ensures) ∙ not-false _ (c .before .before .before .before .before .before .before .before .before .before .before .before .before .if1 .left)) (sym (c .before .before .before .before .before .before .before .before .before .before .before .before .duplicate .ensures .0) ∙ c .before .before .before .before .before .before .before .before .before .before .before .if2 .left) _ _ _ _ (c .before .before .before .before .before .before .before .before .load-all .ensures) (omega (arith, c .before .before .before .before .before .before .before .before .before .before .before .before .before .before .before .before .before .before .pre .0, c .before .before .before .before .before .before .before .before .before .before .before .before .before .before .before .before .before .before .pre .1))
+    (c .before .before .put-set .ensures .0 .0 ∙ sym (c .before .before .before .before .before .before .before .before .before .before .before .before .before .before .before .before .before .before .pre .1)) (c .before .before .put-set .ensures .0 .1) (c .before .before .put-set .ensures .1 .0) (λ before. c .before .before .put-set .ensures .1 .1 (λ k l. before k (omega (arith, c .before .before .before .before .before .before .before .before .before .before .before .before .before .before .before .before .before .before .pre .1))))
 
 pub prepare-spec : {M : Type 1} → statement M
 prepare-spec =
     tie.close
     (tie.spec
+    (λ c κs. search needs)
     returns
     (λ c κs. search needs)
+    (λ c. search needs)
     returns-2
-    (λ c κs. search needs)
+    (λ c κs. (c .before .before .before .before .before .before .before .before .before .pre .0, c .before .before .before .before .before .before .before .before .before .pre .1, omega (arith, c .before .before .before .before .before .before .before .before .before .pre .2)))
+    (λ c κs. (omega (arith, c .before .before .before .before .before .load-all .kept .1 .1 .1 .0, c .before .before .before .before .before .before .before .before .before .before .before .before .before .before .before .pre .2), c .before .before .before .before .before .before .before .before .before .before .before .before .before .before .before .pre .0))
     (λ c. search needs)
-    returns-3
-    (λ c κs. search needs)
-    (λ c. search needs)
-    (λ c. search needs)
-    returns-4)
+    (λ c. c .before .before .put-set .kept .0 ∙ c .before .before .before .before .before .before .before .before .load-all .kept .1 .1 .1 .0)
+    returns-3)

@@ -8,37 +8,38 @@ use Rattle.binder.proofs.relocate.run_action.Tie as tie
 returns : tie.Need-returns
 unfolding runAction
 returns c =
-    rw (c .enum-told .given .1)
+    rw (← c .before .before .action-of .ensures, c .enum-told .given .1)
 
 returns-2 : tie.Need-returns-2
 unfolding runAction
 returns-2 c =
-    rw (c .before .before .before .before .before .enum-told2 .given .1, ← c .before .before .before .wrapping-add-u32 .ensures) (ap (withArena _) (c .before .before .note .ensures))
+    rw (← c .before .before .before .before .before .before .before .action-of .ensures, c .before .before .before .before .before .enum-told2 .given .1, ← c .before .before .before .wrapping-add-u32 .ensures) (ap (withArena _) (c .before .before .note .ensures))
 
 returns-3 : tie.Need-returns-3
 unfolding runAction
 returns-3 c =
-    rw (c .before .enum-told3 .given .1, c .refused .ensures)
+    rw (← c .before .before .before .action-of .ensures, c .before .enum-told3 .given .1, c .refused .ensures)
 
 returns-4 : tie.Need-returns-4
 unfolding runAction
 returns-4 c =
-    rw (c .before .before .before .before .before .enum-told4 .given .1, ← c .before .before .before .bounds-of .ensures .segments) (ap (withReport _) (c .before .before .relative .ensures))
+    rw (← c .before .before .before .before .before .before .before .action-of .ensures, c .before .before .before .before .before .enum-told4 .given .1, ← c .before .before .before .bounds-of .ensures .segments) (ap (withReport _) (c .before .before .relative .ensures))
 
 returns-5 : tie.Need-returns-5
 unfolding runAction
 returns-5 c =
-    rw (c .before .before .before .before .before .before .before .enum-told5 .given .1) (c .before .before .before .before .symbolic .ensures)
+    rw (← c .before .before .before .before .before .before .before .before .before .action-of .ensures, c .before .before .before .before .before .before .before .enum-told5 .given .1) (c .before .before .before .before .symbolic .ensures)
 
 returns-6 : tie.Need-returns-6
 unfolding runAction
 returns-6 c =
-    rw (c .before .before .before .before .before .before .before .enum-told6 .given .1) (c .before .before .before .before .copying .ensures)
+    rw (← c .before .before .before .before .before .before .before .before .before .action-of .ensures, c .before .before .before .before .before .before .before .enum-told6 .given .1) (c .before .before .before .before .copying .ensures)
 
 pub run-action-spec : {M : Type 1} → statement M
 run-action-spec =
     tie.close
     (tie.spec
+    (λ c κs. search needs)
     (λ c. search needs)
     (λ c. search needs)
     (λ c κs. search needs)

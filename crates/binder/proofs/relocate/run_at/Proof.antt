@@ -12,7 +12,7 @@ returns c =
     let a = c .before .before .before .before .before .before .before .before .before .args in
     let l = c .before .before .before .read-loads in
     rw (c .refused .ensures)
-    (turn-stops (a .address) (now (a .table)) (a .count) (a .k) (now (a .file)) (a .p) (now (a .arena)) (now (a .report)) (c .before .before .before .before .turn-of .ensures)
+    (turn-stops (now (a .table)) (a .k) (now (a .file)) (a .p) (now (a .arena)) (now (a .report)) (c .before .before .before .before .turn-of .ensures)
     (again-many _ (now (a .file)) (l .result) (l .ensures) (c .before .if1 .taken)) (λ e. omega arith))
 
 returns-2 : tie.Need-returns-2
@@ -22,7 +22,7 @@ returns-2 c =
     let d = c .before .before .before .before .before .before .dynamic-at in
     let read = rw (c .before .before .before .before .image-of .ensures) at (c .before .before .before .read-object .ensures) in
     rw (c .refused2 .ensures)
-    (turn-stops (a .address) (now (a .table)) (a .count) (a .k) (now (a .file)) (a .p) (now (a .arena)) (now (a .report)) (c .before .before .before .before .before .before .before .before .before .before .turn-of .ensures)
+    (turn-stops (now (a .table)) (a .k) (now (a .file)) (a .p) (now (a .arena)) (now (a .report)) (c .before .before .before .before .before .before .before .before .before .before .turn-of .ensures)
     (again-refusal _ (now (a .file)) (l .result) (l .ensures) (c .before .before .before .before .before .before .before .if1 .left) (d .result) (d .ensures) (c .before .before .before .read-object .result) read) (c .before .if2 .taken))
 
 returns-3 : tie.Need-returns-3
@@ -31,7 +31,7 @@ returns-3 c =
     let l = c .before .before .before .before .before .before .before .before .before .before .before .before .before .before .before .before .read-loads in
     let d = c .before .before .before .before .before .before .before .before .before .before .before .before .before .dynamic-at in
     let read = rw (c .before .before .before .before .before .before .before .before .before .before .before .image-of .ensures) at (c .before .before .before .before .before .before .before .before .before .before .read-object .ensures) in
-    turn-goes (a .address) (now (a .table)) (a .count) (a .k) (now (a .file)) (a .p) (now (a .arena)) (now (a .report)) (c .before .before .before .before .before .before .before .before .before .before .before .before .before .before .before .before .before .turn-of .ensures)
+    turn-goes (now (a .table)) (a .k) (now (a .file)) (a .p) (now (a .arena)) (now (a .report)) (c .before .before .before .before .before .before .before .before .before .before .before .before .before .before .before .before .before .turn-of .ensures)
     (again-refusal _ (now (a .file)) (l .result) (l .ensures) (c .before .before .before .before .before .before .before .before .before .before .before .before .before .before .if1 .left) (d .result) (d .ensures) (c .before .before .before .before .before .before .before .before .before .before .read-object .result) read ∙ c .before .before .before .before .before .before .before .before .if2 .left)
     (again-record _ (now (a .file)) (l .result) (l .ensures) (c .before .before .before .before .before .before .before .before .before .before .before .before .before .before .if1 .left) (d .result) (d .ensures) (c .before .before .before .before .before .before .before .before .before .before .read-object .result) read (c .before .before .before .before .before .before .before .before .if2 .left))
     (c .before .before .before .before .run-object .ensures)

@@ -10,12 +10,12 @@ use Rattle.binder.proofs.relocate.run_object.Tie as tie
 returns : tie.Need-returns
 returns c =
     let a = c .before .before .before .before .before .before .before .before .before .before .before .before .before .before .before .args in
-    relr-stops (a .address) (now (a .table)) (a .count) (a .t) (heldBy (a .o)) (a .p) (now (a .arena)) (now (a .report)) (c .before .before .before .before .before .before .before .before .before .before .before .keep .ensures) (c .before .before .before .before .before .before .before .before .before .wrapping-add-u32 .ensures) (c .before .before .before .before .before .before .before .before .note .ensures) (c .before .before .before .before .add-relrs .ensures) (c .before .if1 .taken) (c .refused .ensures)
+    relr-stops (now (a .table)) (a .t) (heldBy (a .o)) (a .p) (now (a .arena)) (now (a .report)) (c .before .before .before .before .before .before .before .before .before .before .before .keep .ensures) (c .before .before .before .before .before .before .before .before .before .wrapping-add-u32 .ensures) (c .before .before .before .before .before .before .before .before .note .ensures) (c .before .before .before .before .run-relrs .ensures) (c .before .if1 .taken) (c .refused .ensures)
 
 returns-2 : tie.Need-returns-2
 returns-2 c =
     let a = c .before .before .before .before .before .before .before .before .before .before .before .before .before .before .before .before .before .before .before .before .before .args in
-    relr-goes (a .address) (now (a .table)) (a .count) (a .t) (heldBy (a .o)) (a .p) (now (a .arena)) (now (a .report)) (c .before .before .before .before .before .before .before .before .before .before .before .before .before .before .before .before .before .keep .ensures) (c .before .before .before .before .before .before .before .before .before .before .before .before .before .before .before .wrapping-add-u32 .ensures) (c .before .before .before .before .before .before .before .before .before .before .before .before .before .before .note .ensures) (c .before .before .before .before .before .before .before .before .before .before .add-relrs .ensures) (c .before .before .before .before .before .before .before .if1 .left) (c .before .before .before .before .run-tables .ensures)
+    relr-goes (now (a .table)) (a .t) (heldBy (a .o)) (a .p) (now (a .arena)) (now (a .report)) (c .before .before .before .before .before .before .before .before .before .before .before .before .before .before .before .before .before .keep .ensures) (c .before .before .before .before .before .before .before .before .before .before .before .before .before .before .before .wrapping-add-u32 .ensures) (c .before .before .before .before .before .before .before .before .before .before .before .before .before .before .note .ensures) (c .before .before .before .before .before .before .before .before .before .before .run-relrs .ensures) (c .before .before .before .before .before .before .before .if1 .left) (c .before .before .before .before .run-tables .ensures)
 
 pub run-object-spec : {M : Type 1} → statement M
 run-object-spec =
@@ -26,10 +26,10 @@ run-object-spec =
     (λ c κs. search needs)
     (λ c κs. search needs)
     (λ c κs. search needs)
-    (λ c. c .before .before .before .before .add-relrs .kept .0)
+    (λ c. c .before .before .before .before .run-relrs .kept .0)
     (λ c. c .before .before .before .before .before .before .before .before .note .kept .0)
     returns
     (λ c κs. search needs)
-    (λ c. c .before .before .before .before .run-tables .kept .0 ∙ c .before .before .before .before .before .before .before .before .before .before .add-relrs .kept .0)
+    (λ c. c .before .before .before .before .run-tables .kept .0 ∙ c .before .before .before .before .before .before .before .before .before .before .run-relrs .kept .0)
     (λ c. c .before .before .before .before .run-tables .kept .1 .0 ∙ c .before .before .before .before .before .before .before .before .before .before .before .before .before .before .note .kept .0)
     returns-2)

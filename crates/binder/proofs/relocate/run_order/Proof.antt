@@ -13,11 +13,11 @@ use Rattle.binder.proofs.relocate.run_order.Statement.{statement}
 use Rattle.binder.proofs.relocate.run_order.Tie as tie
 
 abbrev Inv-loop : tie.InvT-loop
-Inv-loop bytes parts arena₀ report₀ table address count list n p₀ i₀ arena report p i =
-    (length arena ≡ length arena₀) × (length report ≡ length report₀) × (n ≤ length list) × (objectsLeft address table count (inputsIn bytes parts) list n i (left p arena report) ≡ runOrder address table count (inputsIn bytes parts) (take n list) (left started arena₀ report₀))
+Inv-loop bytes parts arena₀ report₀ table list n p₀ i₀ arena report p i =
+    (length arena ≡ length arena₀) × (length report ≡ length report₀) × (n ≤ length list) × (objectsLeft table (inputsIn bytes parts) list n i (left p arena report) ≡ runOrder table (inputsIn bytes parts) (take n list) (left started arena₀ report₀))
 
 abbrev μ-loop : tie.MeasureT-loop
-μ-loop bytes parts arena₀ report₀ table address count list n p₀ i₀ arena report p i =
+μ-loop bytes parts arena₀ report₀ table list n p₀ i₀ arena report p i =
     n - i
 
 loop-holds : tie.Need-loop-holds Inv-loop μ-loop
@@ -29,7 +29,7 @@ returns : tie.Need-returns Inv-loop μ-loop
 returns c =
     let a = c .before .before .before .before .before .before .before .before .before .before .before .before .before .before .before .before .before .args in
     let l = c .before .before .before .before .before .before .before .before .before .before .before .loop in
-    object-stops (a .address) (now (a .table)) (a .parts .count) (inputsIn (now (a .bytes)) (a .parts)) (a .order .list) (a .order .count) (l .i) (l .p) (l .arena) (l .report) {b = c .before .before .before .before .before .before .run-at .last .0} {noted = c .before .before .before .before .before .before .run-at .last .1 .0}
+    object-stops (now (a .table)) (inputsIn (now (a .bytes)) (a .parts)) (a .order .list) (a .order .count) (l .i) (l .p) (l .arena) (l .report) {b = c .before .before .before .before .before .before .run-at .last .0} {noted = c .before .before .before .before .before .before .run-at .last .1 .0}
     (l .inv .2) (c .before .before .before .before .before .before .before .before .before .before .loop-test .taken) refl (c .before .before .before .before .before .before .before .before .before .file-of .ensures) (c .before .before .before .before .before .before .run-at .ensures) (l .inv .3) (c .if1 .taken)
 
 loop-again : tie.Need-loop-again Inv-loop μ-loop
@@ -39,14 +39,14 @@ loop-again c =
       omega (arith, c .before .before .before .before .before .before .run-at .kept .0, l .inv .0),
       omega (arith, c .before .before .before .before .before .before .run-at .kept .1 .0, l .inv .1),
       l .inv .2,
-      object-goes (a .address) (now (a .table)) (a .parts .count) (inputsIn (now (a .bytes)) (a .parts)) (a .order .list) (a .order .count) (l .i) (l .p) (l .arena) (l .report) {b = c .before .before .before .before .before .before .run-at .last .0} {noted = c .before .before .before .before .before .before .run-at .last .1 .0}
+      object-goes (now (a .table)) (inputsIn (now (a .bytes)) (a .parts)) (a .order .list) (a .order .count) (l .i) (l .p) (l .arena) (l .report) {b = c .before .before .before .before .before .before .run-at .last .0} {noted = c .before .before .before .before .before .before .run-at .last .1 .0}
           (l .inv .2) (c .before .before .before .before .before .before .before .before .before .before .loop-test .taken) refl (c .before .before .before .before .before .before .before .before .before .file-of .ensures) (c .before .before .before .before .before .before .run-at .ensures) (l .inv .3) (c .if1 .left),
     )
 
 returns-2 : tie.Need-returns-2 Inv-loop μ-loop
 returns-2 c =
     let a = c .before .before .before .before .before .before .before .args in
-    objects-end (a .address) (now (a .table)) (a .parts .count) (inputsIn (now (a .bytes)) (a .parts)) (a .order .list) (a .order .count) (c .before .loop .i) (c .loop-test .left) (c .before .loop .inv .3)
+    objects-end (now (a .table)) (inputsIn (now (a .bytes)) (a .parts)) (a .order .list) (a .order .count) (c .before .loop .i) (c .loop-test .left) (c .before .loop .inv .3)
 
 pub run-order-spec : {M : Type 1} → statement M
 run-order-spec =

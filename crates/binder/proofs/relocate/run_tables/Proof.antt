@@ -10,12 +10,12 @@ use Rattle.binder.proofs.relocate.run_tables.Tie as tie
 returns : tie.Need-returns
 returns c =
     let a = c .before .before .before .before .before .before .before .before .before .before .before .before .before .args in
-    tables-stop (a .address) (now (a .table)) (a .count) (a .t) (heldBy (a .o)) (a .p) (now (a .arena)) (now (a .report)) (c .before .before .before .before .before .before .before .before .before .cut-to-32 .ensures) (c .before .before .before .before .before .before .run-table .ensures) (c .if1 .taken)
+    tables-stop (now (a .table)) (a .t) (heldBy (a .o)) (a .p) (now (a .arena)) (now (a .report)) (c .before .before .before .before .before .before .before .before .before .cut-to-32 .ensures) (c .before .before .before .before .before .before .run-table .ensures) (c .if1 .taken)
 
 returns-2 : tie.Need-returns-2
 returns-2 c =
     let a = c .before .before .before .before .before .before .before .before .before .before .before .before .before .before .before .before .before .before .before .before .before .args in
-    tables-go (a .address) (now (a .table)) (a .count) (a .t) (heldBy (a .o)) (a .p) (now (a .arena)) (now (a .report)) (c .before .before .before .before .before .before .before .before .before .before .before .before .before .before .before .before .before .cut-to-32 .ensures) (c .before .before .before .before .before .before .before .before .before .before .before .before .before .before .run-table .ensures) (c .before .before .before .before .before .before .before .before .if1 .left) (c .before .before .before .before .before .before .before .cut-to-322 .ensures) (c .before .before .before .before .run-table2 .ensures)
+    tables-go (now (a .table)) (a .t) (heldBy (a .o)) (a .p) (now (a .arena)) (now (a .report)) (c .before .before .before .before .before .before .before .before .before .before .before .before .before .before .before .before .before .cut-to-32 .ensures) (c .before .before .before .before .before .before .before .before .before .before .before .before .before .before .run-table .ensures) (c .before .before .before .before .before .before .before .before .if1 .left) (c .before .before .before .before .before .before .before .cut-to-322 .ensures) (c .before .before .before .before .run-table2 .ensures)
 
 pub run-tables-spec : {M : Type 1} → statement M
 run-tables-spec =

@@ -22,12 +22,12 @@ use Rattle.binder.proofs.relocate.symbols_in.Reads as symbols-in-reads
 use Rattle.words.proofs.bytes.store_in.Reads as store-in-reads
 
 abbrev Inv-loop : tie.InvT-loop
-Inv-loop arena₀ table count address t y at n low high p₀ k₀ arena p k =
-    (length arena ≡ length arena₀) × (p₀ .next ≤ p .next) × (p .next ≤ n) × (k ≡ t .offset + at + 24 * p .next) × InReach (length arena₀) t at n high
-    × (y .symbols + 24 * y .fits ≤ t .span) × SymbolsPassed address table count t y at n low high p₀ arena₀ p arena
+Inv-loop arena₀ table t y at n w p₀ k₀ arena p k =
+    (length arena ≡ length arena₀) × (p₀ .next ≤ p .next) × (p .next ≤ n) × (k ≡ t .offset + at + 24 * p .next) × InReach (length arena₀) t at n (w .high)
+    × (y .symbols + 24 * y .fits ≤ t .span) × SymbolsPassed table t y at n (w .low) (w .high) p₀ arena₀ p arena
 
 abbrev μ-loop : tie.MeasureT-loop
-μ-loop arena₀ table count address t y at n low high p₀ k₀ arena p k =
+μ-loop arena₀ table t y at n w p₀ k₀ arena p k =
     n - p .next
 
 -- the entry was read
@@ -36,21 +36,15 @@ here-in :
     → let a = c .before .before .before .before .before .before .before .before .before .before .before .before .before .before .before .before .args in
     let l = c .before .before .before .before .before .before .before .loop in
     let e = c .before .e .given in
-    EntryHere (l .arena) (a .t) (a .y) (l .k) (a .low) (a .high) (e .0 .0) (e .0 .1 .0) (e .0 .1 .1 .0)
+    EntryHere (l .arena) (a .t) (a .y) (l .k) (a .w .low) (a .w .high) (e .0 .0) (e .0 .1 .0) (e .0 .1 .1 .0)
 here-in c =
     let a = c .before .before .before .before .before .before .before .before .before .before .before .before .before .before .before .before .args in
     let l = c .before .before .before .before .before .before .before .loop in
-    subst (EntryRead (l .arena) (a .t) (a .y) (l .k) (a .low) (a .high)) (c .before .e .given .1) (c .before .before .before .symbol-entry .ensures)
-
-in-reach-requires : tie.Need-in-reach-requires Inv-loop μ-loop
-in-reach-requires c κs = search needs
+    subst (EntryRead (l .arena) (a .t) (a .y) (l .k) (a .w .low) (a .w .high)) (c .before .e .given .1) (c .before .before .before .symbol-entry .ensures)
 
 returns : tie.Need-returns Inv-loop μ-loop
 returns c =
     (omega arith, c .before .before .before .before .pre .0, λ r _ _ _ _ _ _. (refl, kept-none _ r _))
-
-symbols-in-requires : tie.Need-symbols-in-requires Inv-loop μ-loop
-symbols-in-requires c κs = search needs
 
 returns-2 : tie.Need-returns-2 Inv-loop μ-loop
 returns-2 c =
@@ -59,9 +53,6 @@ returns-2 c =
 add-k : tie.Need-add-k Inv-loop μ-loop
 add-k c =
     let g = c .before .before .before .before .in-reach .ensures (not-false _ (c .before .before .before .if1 .left)) in search (needs, g .span, g .entries)
-
-cast-k : tie.Need-cast-k Inv-loop μ-loop
-cast-k c = search needs
 
 mul-k : tie.Need-mul-k Inv-loop μ-loop
 mul-k c =
@@ -79,12 +70,6 @@ symbol-entry-requires : tie.Need-symbol-entry-requires Inv-loop μ-loop
 symbol-entry-requires c κs =
     let l = c .before .before .before .loop in let g = l .inv .4 in (omega (arith, l .inv .0, l .inv .3, g .entries, g .span, c .before .if3 .taken), omega (arith, l .inv .0, l .inv .5, g .span), g .word)
 
-enum-known-e : tie.Need-enum-known-e Inv-loop μ-loop
-enum-known-e c = search needs
-
-enum-told : tie.Need-enum-told Inv-loop μ-loop
-enum-told c = search needs
-
 same-length : tie.Need-same-length Inv-loop μ-loop
 same-length c =
     c .before .before .before .before .before .before .loop .inv .0
@@ -93,21 +78,9 @@ returns-3 : tie.Need-returns-3 Inv-loop μ-loop
 returns-3 c =
     (c .before .before .before .before .before .before .loop .inv .1, c .before .before .before .before .before .before .loop .inv .2, c .before .before .before .before .before .before .loop .inv .6)
 
-cast-number : tie.Need-cast-number Inv-loop μ-loop
-cast-number c = search needs
-
-add-number : tie.Need-add-number Inv-loop μ-loop
-add-number c = search needs
-
 address-of-requires : tie.Need-address-of-requires Inv-loop μ-loop
 address-of-requires c κs =
     c .before .before .before .before .before .before .before .before .before .before .before .before .before .before .before .before .before .pre .1
-
-enum-known-a : tie.Need-enum-known-a Inv-loop μ-loop
-enum-known-a c = search needs
-
-enum-told-2 : tie.Need-enum-told-2 Inv-loop μ-loop
-enum-told-2 c = search needs
 
 same-length-2 : tie.Need-same-length-2 Inv-loop μ-loop
 same-length-2 c =
@@ -125,8 +98,8 @@ store-in-requires : tie.Need-store-in-requires Inv-loop μ-loop
 store-in-requires c κs =
     let l = c .before .before .before .before .before .before .before .before .before .before .before .before .before .before .loop in let g = l .inv .4 in let h = here-in (c .before .before .before .before .before .before .before) in search (needs, g .span, g .inside, h .below, l .inv .0, c .before .before .before .before .before .before .before .before .before .before .before .before .before .before .before .before .before .before .before .before .before .before .before .good .0)
 
-add-t36 : tie.Need-add-t36 Inv-loop μ-loop
-add-t36 c =
+add-t33 : tie.Need-add-t33 Inv-loop μ-loop
+add-t33 c =
     search (needs, c .before .before .before .before .before .before .before .before .before .before .before .before .before .before .before .before .if3 .taken, c .before .before .before .before .before .before .before .before .before .before .before .before .before .before .before .before .before .before .before .before .before .before .before .before .before .before .before .fits .n)
 
 add-k-3 : tie.Need-add-k-3 Inv-loop μ-loop
@@ -150,7 +123,7 @@ loop-again c =
       omega (arith, l .inv .3),
       g,
       l .inv .5,
-      symbolic-turn (a .address) (now (a .table)) (a .count) (a .t) (a .y) (a .at) (a .n) (a .low) (a .high) (l .p) (l .arena) {found = c .before .before .before .before .before .before .before .a .given .0 .0} {b = s .last .0} (c .before .before .before .before .before .before .before .before .before .before .before .before .before .before .before .before .if3 .taken) (g .entries) (l .inv .5) (l .inv .3)
+      symbolic-turn (now (a .table)) (a .t) (a .y) (a .at) (a .n) (a .w .low) (a .w .high) (l .p) (l .arena) {found = c .before .before .before .before .before .before .before .a .given .0 .0} {b = s .last .0} (c .before .before .before .before .before .before .before .before .before .before .before .before .before .before .before .before .if3 .taken) (g .entries) (l .inv .5) (l .inv .3)
           h refl
           (sym (c .before .before .before .before .before .before .before .a .given .1) ∙ c .before .before .before .before .before .before .before .before .before .address-of .ensures) (s .ensures) (a .s) (now (a .arena)) (l .inv .6),
     )
@@ -169,30 +142,30 @@ symbolics-spec =
     (tie.spec
     Inv-loop
     μ-loop
-    in-reach-requires
+    (λ c κs. search needs)
     returns
-    symbols-in-requires
+    (λ c κs. search needs)
     returns-2
     add-k
-    cast-k
+    (λ c. search needs)
     mul-k
     add-k-2
     loop-holds
     symbol-entry-requires
-    enum-known-e
-    enum-told
+    (λ c. search needs)
+    (λ c. search needs)
     same-length
     returns-3
-    cast-number
-    add-number
+    (λ c. search needs)
+    (λ c. search needs)
     address-of-requires
-    enum-known-a
-    enum-told-2
+    (λ c. search needs)
+    (λ c. search needs)
     same-length-2
     returns-4
     add-store-in
     store-in-requires
-    add-t36
+    add-t33
     add-k-3
     loop-less
     loop-again

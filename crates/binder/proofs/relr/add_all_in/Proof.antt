@@ -13,12 +13,12 @@ use Rattle.binder.proofs.relr.add_all_in.Statement.{statement}
 use Rattle.binder.proofs.relr.add_all_in.Tie as tie
 
 abbrev Inv-loop : tie.InvT-loop
-Inv-loop arena₀ t location p₀ n₀ arena p n =
-    (length arena ≡ length arena₀) × (n ≤ 63) × (p + 8 * n ≡ location + 504) × (t .offset + location + 504 ≤ length arena₀)
-    × ((ss : List Segment) → WritableRange ss location (location + 504) → addBits t ss n p (2 ^ n - 1) arena ≡ addBits t ss 63 location (2 ^ 63 - 1) arena₀)
+Inv-loop part₀ base location p₀ n₀ part p n =
+    (length part ≡ length part₀) × (n ≤ 63) × (p + 8 * n ≡ location + 504) × (location + 504 ≤ length part₀)
+    × ((ss : List Segment) → WritableRange ss location (location + 504) → addBits base ss n p (2 ^ n - 1) part ≡ addBits base ss 63 location (2 ^ 63 - 1) part₀)
 
 abbrev μ-loop : tie.MeasureT-loop
-μ-loop arena₀ t location p₀ n₀ arena p n =
+μ-loop part₀ base location p₀ n₀ part p n =
     n
 
 loop-again : tie.Need-loop-again Inv-loop μ-loop
@@ -30,8 +30,8 @@ loop-again c =
       omega arith,
       l .inv .3,
       λ ss wr.
-          ap (addBits (c .before .before .before .before .before .before .before .args .t) ss (l .n - 1) (l .p + 8) (2 ^ (l .n - 1) - 1)) (s .ensures)
-          ∙ (sym (bit-of-all (c .before .before .before .before .before .before .before .args .t) ss (l .n) (l .p) (l .arena) (omega arith) (wr (l .p) 8 (omega arith) (omega arith) (omega arith)))
+          ap (addBits (c .before .before .before .before .before .before .before .args .base) ss (l .n - 1) (l .p + 8) (2 ^ (l .n - 1) - 1)) (s .ensures)
+          ∙ (sym (bit-of-all (c .before .before .before .before .before .before .before .args .base) ss (l .n) (l .p) (l .part) (omega arith) (wr (l .p) 8 (omega arith) (omega arith) (omega arith)))
           ∙ l .inv .4 ss wr),
     )
 
@@ -48,4 +48,4 @@ add-all-in-spec =
     (λ c. search needs)
     loop-again
     (λ c. c .before .loop .inv .0)
-    (λ c. λ ss wr. sym (none (c .before .before .before .args .t) ss (c .before .loop .n) (c .before .loop .p) (2 ^ (c .before .loop .n) - 1) (c .before .loop .arena) (omega arith)) ∙ c .before .loop .inv .4 ss wr))
+    (λ c. λ ss wr. sym (none (c .before .before .before .args .base) ss (c .before .loop .n) (c .before .loop .p) (2 ^ (c .before .loop .n) - 1) (c .before .loop .part) (omega arith)) ∙ c .before .loop .inv .4 ss wr))

@@ -10,7 +10,6 @@ use mathlib.Core.List.{List}
 use borrow.Author.Tests.{eq-eqb, ne-eqb, not-true, not-false}
 use Rattle.object.specs.TableBytes.{inWritable}
 use Rattle.object.specs.declared.program_header.Segment.{Segment}
-use Rattle.binder.specs.declared.turn.Turn.{Turn}
 use Rattle.binder.specs.Steps.Relocating.{summed, far, wordAdded, addBits}
 use Rattle.binder.proofs.BitLaws.{bit-0, bit-1, refused, none}
 use Rattle.binder.proofs.relr.add_bits.Statement.{statement}
@@ -21,18 +20,15 @@ use Rattle.binder.proofs.relr.add_word.Reads as add-word-reads
 use Rattle.object.proofs.table_bytes.in_writable.Reads as in-writable-reads
 
 abbrev Inv-loop : tie.InvT-loop
-Inv-loop arena₀ t b location bits p₀ left₀ n₀ arena p left n =
-    (length arena ≡ length arena₀) × (n ≤ 63) × (p + 8 * n ≤ far + 504)
-    × (addBits t (take (b .count) (b .segments)) n p left arena ≡ addBits t (take (b .count) (b .segments)) 63 location bits arena₀)
+Inv-loop part₀ base b location bits p₀ left₀ n₀ part p left n =
+    (length part ≡ length part₀) × (n ≤ 63) × (p + 8 * n ≤ far + 504)
+    × (addBits base (take (b .count) (b .segments)) n p left part ≡ addBits base (take (b .count) (b .segments)) 63 location bits part₀)
 
 abbrev μ-loop : tie.MeasureT-loop
-μ-loop arena₀ t b location bits p₀ left₀ n₀ arena p left n = n
+μ-loop part₀ base b location bits p₀ left₀ n₀ part p left n = n
 
 loop-holds : tie.Need-loop-holds Inv-loop μ-loop
 loop-holds c = (refl, omega arith, omega arith, refl)
-
-in-writable-requires : tie.Need-in-writable-requires Inv-loop μ-loop
-in-writable-requires c κs = search needs
 
 same-length : tie.Need-same-length Inv-loop μ-loop
 same-length c = c .before .before .before .before .loop .inv .0
@@ -41,20 +37,8 @@ returns : tie.Need-returns Inv-loop μ-loop
 returns c =
     let a = c .before .before .before .before .before .before .args in
     let l = c .before .before .before .before .loop in
-    sym (refused (a .t) (take (a .b .count) (a .b .segments)) (l .n) (l .p) (l .left) (l .arena) (omega arith) (c .before .before .if1 .taken) (sym (c .before .in-writable .ensures) ∙ not-true _ (c .if2 .taken)))
+    sym (refused (a .base) (take (a .b .count) (a .b .segments)) (l .n) (l .p) (l .left) (l .part) (omega arith) (c .before .before .if1 .taken) (sym (c .before .in-writable .ensures) ∙ not-true _ (c .if2 .taken)))
     ∙ l .inv .3
-
-add-word-requires : tie.Need-add-word-requires Inv-loop μ-loop
-add-word-requires c κs = search needs
-
-add-p : tie.Need-add-p Inv-loop μ-loop
-add-p c = search needs
-
-sub-n : tie.Need-sub-n Inv-loop μ-loop
-sub-n c = search needs
-
-loop-less : tie.Need-loop-less Inv-loop μ-loop
-loop-less c = search needs
 
 loop-again : tie.Need-loop-again Inv-loop μ-loop
 loop-again c =
@@ -66,16 +50,16 @@ loop-again c =
       ap length (w .7) ∙ (w .4 .kept .0 ∙ l .inv .0),
       omega arith,
       omega arith,
-      ap (addBits (a .t) ss (l .n - 1) (l .p + 8) (l .left / 2)) (w .7 ∙ w .4 .ensures)
-          ∙ (sym (bit-1 (a .t) ss (l .n) (l .p) (l .left) (l .arena) (omega arith) (w .0 .taken) (sym (w .1 .ensures) ∙ not-false _ (w .2 .left)))
+      ap (addBits (a .base) ss (l .n - 1) (l .p + 8) (l .left / 2)) (w .7 ∙ w .4 .ensures)
+          ∙ (sym (bit-1 (a .base) ss (l .n) (l .p) (l .left) (l .part) (omega arith) (w .0 .taken) (sym (w .1 .ensures) ∙ not-false _ (w .2 .left)))
           ∙ l .inv .3),
     ))
     (λ w. (
       ap length (w .1) ∙ l .inv .0,
       omega arith,
       omega arith,
-      ap (addBits (a .t) ss (l .n - 1) (l .p + 8) (l .left / 2)) (w .1)
-          ∙ (sym (bit-0 (a .t) ss (l .n) (l .p) (l .left) (l .arena) (omega arith) (w .0 .left)) ∙ l .inv .3),
+      ap (addBits (a .base) ss (l .n - 1) (l .p + 8) (l .left / 2)) (w .1)
+          ∙ (sym (bit-0 (a .base) ss (l .n) (l .p) (l .left) (l .part) (omega arith) (w .0 .left)) ∙ l .inv .3),
     ))
     (c .if1 .came)
 
@@ -86,7 +70,7 @@ returns-2 : tie.Need-returns-2 Inv-loop μ-loop
 returns-2 c =
     let a = c .before .before .before .args in
     let l = c .before .loop in
-    sym (none (a .t) (take (a .b .count) (a .b .segments)) (l .n) (l .p) (l .left) (l .arena) (omega arith)) ∙ l .inv .3
+    sym (none (a .base) (take (a .b .count) (a .b .segments)) (l .n) (l .p) (l .left) (l .part) (omega arith)) ∙ l .inv .3
 
 pub add-bits-spec : {M : Type 1} → statement M
 add-bits-spec =
@@ -95,13 +79,13 @@ add-bits-spec =
     Inv-loop
     μ-loop
     loop-holds
-    in-writable-requires
+    (λ c κs. search needs)
     same-length
     returns
-    add-word-requires
-    add-p
-    sub-n
-    loop-less
+    (λ c κs. search needs)
+    (λ c. search needs)
+    (λ c. search needs)
+    (λ c. search needs)
     loop-again
     same-length-2
     returns-2)

@@ -14,12 +14,12 @@ use Rattle.binder.proofs.relr.add_bits_in.Statement.{statement}
 use Rattle.binder.proofs.relr.add_bits_in.Tie as tie
 
 abbrev Inv-loop : tie.InvT-loop
-Inv-loop arena₀ t location bits p₀ left₀ n₀ arena p left n =
-    (length arena ≡ length arena₀) × (n ≤ 63) × (p + 8 * n ≡ location + 504) × (t .offset + location + 504 ≤ length arena₀)
-    × ((ss : List Segment) → WritableRange ss location (location + 504) → addBits t ss n p left arena ≡ addBits t ss 63 location bits arena₀)
+Inv-loop part₀ base location bits p₀ left₀ n₀ part p left n =
+    (length part ≡ length part₀) × (n ≤ 63) × (p + 8 * n ≡ location + 504) × (location + 504 ≤ length part₀)
+    × ((ss : List Segment) → WritableRange ss location (location + 504) → addBits base ss n p left part ≡ addBits base ss 63 location bits part₀)
 
 abbrev μ-loop : tie.MeasureT-loop
-μ-loop arena₀ t location bits p₀ left₀ n₀ arena p left n =
+μ-loop part₀ base location bits p₀ left₀ n₀ part p left n =
     n
 
 loop-again : tie.Need-loop-again Inv-loop μ-loop
@@ -33,8 +33,8 @@ loop-again c =
       omega arith,
       l .inv .3,
       λ ss wr.
-          ap (addBits (a .t) ss (l .n - 1) (l .p + 8) (l .left / 2)) (w .5 ∙ w .2 .ensures)
-          ∙ (sym (bit-1 (a .t) ss (l .n) (l .p) (l .left) (l .arena) (omega arith) (w .0 .taken) (wr (l .p) 8 (omega arith) (omega arith) (omega arith)))
+          ap (addBits (a .base) ss (l .n - 1) (l .p + 8) (l .left / 2)) (w .5 ∙ w .2 .ensures)
+          ∙ (sym (bit-1 (a .base) ss (l .n) (l .p) (l .left) (l .part) (omega arith) (w .0 .taken) (wr (l .p) 8 (omega arith) (omega arith) (omega arith)))
           ∙ l .inv .4 ss wr),
     ))
     (λ w. (
@@ -43,8 +43,8 @@ loop-again c =
       omega arith,
       l .inv .3,
       λ ss wr.
-          ap (addBits (a .t) ss (l .n - 1) (l .p + 8) (l .left / 2)) (w .1)
-          ∙ (sym (bit-0 (a .t) ss (l .n) (l .p) (l .left) (l .arena) (omega arith) (w .0 .left)) ∙ l .inv .4 ss wr),
+          ap (addBits (a .base) ss (l .n - 1) (l .p + 8) (l .left / 2)) (w .1)
+          ∙ (sym (bit-0 (a .base) ss (l .n) (l .p) (l .left) (l .part) (omega arith) (w .0 .left)) ∙ l .inv .4 ss wr),
     ))
     (c .if1 .came)
 
@@ -52,7 +52,7 @@ returns : tie.Need-returns Inv-loop μ-loop
 returns c =
     let a = c .before .before .before .args in
     let l = c .before .loop in
-    λ ss wr. sym (none (a .t) ss (l .n) (l .p) (l .left) (l .arena) (omega arith)) ∙ l .inv .4 ss wr
+    λ ss wr. sym (none (a .base) ss (l .n) (l .p) (l .left) (l .part) (omega arith)) ∙ l .inv .4 ss wr
 
 pub add-bits-in-spec : {M : Type 1} → statement M
 add-bits-in-spec =

@@ -10,7 +10,6 @@ use Rattle.object.specs.TableBytes.{inWritable}
 use Rattle.object.specs.declared.program_header.Segment.{Segment}
 use Rattle.object.specs.declared.relocate.Relr.{Relr}
 use Rattle.object.specs.declared.relocate.Relr.the-variants.{Address, Bitmap}
-use Rattle.binder.specs.declared.turn.Turn.{Turn}
 use Rattle.binder.specs.Steps.Relocating.{far, summed, shifted, wordAdded, addBits, addRelr}
 use borrow.Author.Needs.{needs}
 use Rattle.binder.proofs.relr.add_relr.Statement.{statement}
@@ -22,52 +21,31 @@ use Rattle.binder.proofs.relr.add_word.Reads as add-word-reads
 use Rattle.object.proofs.table_bytes.in_writable.Reads as in-writable-reads
 use Rattle.words.proofs.bytes.place.Reads as place-reads
 
-module _ (t : Turn) (ss : List Segment) (location : ℕ) (e : Relr) where
+module _ (base : ℕ) (ss : List Segment) (location : ℕ) (e : Relr) where
   address-refused :
       (p : ℕ) (a : List ℕ) → e ≡ Address p → inWritable ss p 8 ≡ false
-      → shifted (record { refusal = 17; location = location }) a ≡ addRelr t ss location e a
+      → shifted (record { refusal = 17; location = location }) a ≡ addRelr base ss location e a
   unfolding addRelr
   address-refused p a is w = rw (is, w) refl
 
   address-added :
-      (p : ℕ) (a : List ℕ) {q : ℕ} {a′ : List ℕ} → e ≡ Address p → inWritable ss p 8 ≡ true → q ≡ min (p + 8) far → a′ ≡ wordAdded t p a
-      → shifted (record { refusal = 0; location = q }) a′ ≡ addRelr t ss location e a
+      (p : ℕ) (a : List ℕ) {q : ℕ} {a′ : List ℕ} → e ≡ Address p → inWritable ss p 8 ≡ true → q ≡ min (p + 8) far → a′ ≡ wordAdded base p a
+      → shifted (record { refusal = 0; location = q }) a′ ≡ addRelr base ss location e a
   unfolding addRelr
   address-added p a is w l g = rw (is, w, l, g) refl
 
   bitmap-added :
       (bits : ℕ) (a : List ℕ) {z q : ℕ} {a′ : List ℕ} → e ≡ Bitmap bits → q ≡ min (location + 504) far
-      → summed z a′ ≡ addBits t ss 63 location bits a
-      → shifted (record { refusal = z; location = q }) a′ ≡ addRelr t ss location e a
+      → summed z a′ ≡ addBits base ss 63 location bits a
+      → shifted (record { refusal = z; location = q }) a′ ≡ addRelr base ss location e a
   unfolding addRelr
   bitmap-added bits a is l g = rw (is, l, ← g) refl
-
-enum-known-e : tie.Need-enum-known-e
-enum-known-e c = search needs
-
-in-writable-requires : tie.Need-in-writable-requires
-in-writable-requires c κs = search needs
 
 returns : tie.Need-returns
 returns c =
     let a = c .before .before .before .before .before .before .args in
-    address-refused (a .t) (take (a .b .count) (a .b .segments)) (a .location) (a .e) (c .before .before .before .e .given .0 .0) (now (a .arena)) (c .before .before .before .e .given .1)
+    address-refused (a .base) (take (a .b .count) (a .b .segments)) (a .location) (a .e) (c .before .before .before .e .given .0 .0) (now (a .part)) (c .before .before .before .e .given .1)
     (sym (c .before .in-writable .ensures) ∙ not-true _ (c .if1 .taken))
-
-add-word-requires : tie.Need-add-word-requires
-add-word-requires c κs = search needs
-
-place-requires : tie.Need-place-requires
-place-requires c κs = search needs
-
-enum-known-e-2 : tie.Need-enum-known-e-2
-enum-known-e-2 c = search needs
-
-add-bitmap-requires : tie.Need-add-bitmap-requires
-add-bitmap-requires c κs = search needs
-
-place-requires-2 : tie.Need-place-requires-2
-place-requires-2 c κs = search needs
 
 same-length : tie.Need-same-length
 same-length c = c .before .before .before .add-word .kept .0
@@ -75,7 +53,7 @@ same-length c = c .before .before .before .add-word .kept .0
 returns-2 : tie.Need-returns-2
 returns-2 c =
     let a = c .before .before .before .before .before .before .before .before .before .before .before .args in
-    address-added (a .t) (take (a .b .count) (a .b .segments)) (a .location) (a .e) (c .before .before .before .before .before .before .before .before .e .given .0 .0) (now (a .arena)) (c .before .before .before .before .before .before .before .before .e .given .1)
+    address-added (a .base) (take (a .b .count) (a .b .segments)) (a .location) (a .e) (c .before .before .before .before .before .before .before .before .e .given .0 .0) (now (a .part)) (c .before .before .before .before .before .before .before .before .e .given .1)
     (sym (c .before .before .before .before .before .before .in-writable .ensures) ∙ not-false _ (c .before .before .before .before .before .if1 .left)) (c .place .ensures) (c .before .before .before .add-word .ensures)
 
 same-length-2 : tie.Need-same-length-2
@@ -84,21 +62,21 @@ same-length-2 c = c .before .before .before .add-bitmap .kept .0
 returns-3 : tie.Need-returns-3
 returns-3 c =
     let a = c .before .before .before .before .before .before .before .before .before .args in
-    bitmap-added (a .t) (take (a .b .count) (a .b .segments)) (a .location) (a .e) (c .before .before .before .before .before .before .e2 .given .0 .0) (now (a .arena)) (c .before .before .before .before .before .before .e2 .given .1)
+    bitmap-added (a .base) (take (a .b .count) (a .b .segments)) (a .location) (a .e) (c .before .before .before .before .before .before .e2 .given .0 .0) (now (a .part)) (c .before .before .before .before .before .before .e2 .given .1)
     (c .place2 .ensures) (c .before .before .before .add-bitmap .ensures)
 
 pub add-relr-spec : {M : Type 1} → statement M
 add-relr-spec =
     tie.close
     (tie.spec
-    enum-known-e
-    in-writable-requires
+    (λ c. search needs)
+    (λ c κs. search needs)
     returns
-    add-word-requires
-    place-requires
-    enum-known-e-2
-    add-bitmap-requires
-    place-requires-2
+    (λ c κs. search needs)
+    (λ c κs. search needs)
+    (λ c. search needs)
+    (λ c κs. search needs)
+    (λ c κs. search needs)
     same-length
     returns-2
     same-length-2

@@ -18,7 +18,7 @@ use Rattle.object.specs.declared.relocate.Relr.{Relr}
 use Rattle.object.specs.declared.relocate.Relr.the-variants.{Address, Bitmap}
 use Rattle.object.specs.declared.program_header.Segment.{Segment}
 use Rattle.binder.specs.declared.turn.Turn.{Turn}
-use Rattle.binder.specs.Steps.Relocating.{far, imageIn, Summed, summed, Shifted, shifted, wordAdded, addBits, bitsAdded, addRelr, thenRelr, addRelrs}
+use Rattle.binder.specs.Steps.Relocating.{far, Summed, summed, Shifted, shifted, wordAdded, addBits, bitsAdded, addRelr, thenRelr, addRelrs}
 use Rattle.binder.proofs.relr.add_relrs.Statement.{statement}
 use Rattle.binder.proofs.relr.add_relrs.Tie as tie
 use Rattle.binder.proofs.relr.add_relrs.Reads as reads
@@ -33,25 +33,25 @@ use Rattle.object.proofs.relocate.relr_of.Reads as relr-of-reads
 abbrev locationOf : Shifted → ℕ
 locationOf (shifted m a) = m .location
 
-module _ (t : Turn) (ss : List Segment) (location : ℕ) (near : location ≤ far) where
-  after-bits : (s : Summed) → locationOf (bitsAdded t ss location s) ≤ far
+module _ (base : ℕ) (ss : List Segment) (location : ℕ) (near : location ≤ far) where
+  after-bits : (s : Summed) → locationOf (bitsAdded base ss location s) ≤ far
   after-bits (summed z a) = omega arith
 
-  still-near : (e : Relr) (a : List ℕ) → locationOf (addRelr t ss location e a) ≤ far
+  still-near : (e : Relr) (a : List ℕ) → locationOf (addRelr base ss location e a) ≤ far
   unfolding addRelr
   still-near (Address p) a = go (inWritable ss p 8)
     where
       go :
           (b : Bool)
-          → locationOf (pick b (shifted (record { refusal = 0; location = min (p + 8) far }) (wordAdded t p a)) (shifted (record { refusal = 17; location = location }) a)) ≤ far
+          → locationOf (pick b (shifted (record { refusal = 0; location = min (p + 8) far }) (wordAdded base p a)) (shifted (record { refusal = 17; location = location }) a)) ≤ far
       go true = omega arith
       go false = near
-  still-near (Bitmap bits) a = after-bits (addBits t ss 63 location bits a)
+  still-near (Bitmap bits) a = after-bits (addBits base ss 63 location bits a)
 
 -- one turn
 module _ (t : Turn) (r : Record) (n i location : ℕ) (a : List ℕ) (h : i < n) where
   turn :
-      {ss : List Segment} {w : ℕ} {e : Relr} {s : Shifted} → r .segments ≡ ss → w ≡ relrAt (imageIn a t) (r .relr) i → e ≡ relrOf w → s ≡ addRelr t ss location e a
+      {ss : List Segment} {w : ℕ} {e : Relr} {s : Shifted} → r .segments ≡ ss → w ≡ relrAt (take (t .span) a) (r .relr) i → e ≡ relrOf w → s ≡ addRelr (t .base) ss location e a
       → addRelrs t r (n - i) i location a ≡ thenRelr (addRelrs t r (n - (i + 1)) (i + 1)) s
   unfolding addRelrs
   turn same rd is g =
@@ -64,31 +64,16 @@ none t r zero i location a h = refl
 none t r (suc n) i location a h = absurd (omega arith)
 
 abbrev Inv-loop : tie.InvT-loop
-Inv-loop arena₀ t b table n location₀ i₀ arena location i =
-    (length arena ≡ length arena₀) × (i ≤ n) × (location ≤ far)
+Inv-loop part₀ t b table n location₀ i₀ part location i =
+    (length part ≡ length part₀) × (i ≤ n) × (location ≤ far)
     × ((r : Record) → r .segments ≡ take (b .count) (b .segments) → r .relr ≡ table
-    → addRelrs t r (n - i) i location arena ≡ addRelrs t r n 0 far arena₀)
+    → addRelrs t r (n - i) i location part ≡ addRelrs t r n 0 far part₀)
 
 abbrev μ-loop : tie.MeasureT-loop
-μ-loop arena₀ t b table n location₀ i₀ arena location i = n - i
-
-bounds-of-requires : tie.Need-bounds-of-requires Inv-loop μ-loop
-bounds-of-requires c κs = search needs
-
-cut-to-32-requires : tie.Need-cut-to-32-requires Inv-loop μ-loop
-cut-to-32-requires c κs = search needs
+μ-loop part₀ t b table n location₀ i₀ part location i = n - i
 
 loop-holds : tie.Need-loop-holds Inv-loop μ-loop
 loop-holds c = (refl, omega arith, omega arith, λ r e f. simp unary-clauses refl)
-
-relr-in-requires : tie.Need-relr-in-requires Inv-loop μ-loop
-relr-in-requires c κs = search needs
-
-relr-of-requires : tie.Need-relr-of-requires Inv-loop μ-loop
-relr-of-requires c κs = search needs
-
-add-relr-requires : tie.Need-add-relr-requires Inv-loop μ-loop
-add-relr-requires c κs = search needs
 
 same-length : tie.Need-same-length Inv-loop μ-loop
 same-length c = c .before .before .before .add-relr .kept .0 ∙ c .before .before .before .before .before .before .before .before .before .loop .inv .0
@@ -101,12 +86,9 @@ returns c =
     let n = c .before .before .before .before .before .before .before .before .before .before .cut-to-32 .result in
     let b = c .before .before .before .before .before .before .before .before .before .before .before .bounds-of in
     rw (ne-eqb _ _ (c .if1 .taken)) at
-    (sym (turn (a .t) (heldBy (a .o)) n (l .i) (l .location) (l .arena) (omega arith) (sym (b .ensures .segments)) (c .before .before .before .before .before .before .relr-in .ensures) (c .before .before .before .before .before .relr-of .ensures) (m .ensures))
+    (sym (turn (a .t) (heldBy (a .o)) n (l .i) (l .location) (l .part) (omega arith) (sym (b .ensures .segments)) (c .before .before .before .before .before .before .relr-in .ensures) (c .before .before .before .before .before .relr-of .ensures) (m .ensures))
     ∙ (l .inv .3 (heldBy (a .o)) (sym (b .ensures .segments)) refl
-    ∙ ap (λ (k : ℕ). addRelrs (a .t) (heldBy (a .o)) k 0 far (now (a .arena))) (c .before .before .before .before .before .before .before .before .before .before .cut-to-32 .ensures)))
-
-add-i : tie.Need-add-i Inv-loop μ-loop
-add-i c = search needs
+    ∙ ap (λ (k : ℕ). addRelrs (a .t) (heldBy (a .o)) k 0 far (now (a .part))) (c .before .before .before .before .before .before .before .before .before .before .cut-to-32 .ensures)))
 
 loop-less : tie.Need-loop-less Inv-loop μ-loop
 loop-less c = counts-down (c .before .before .before .before .before .before .before .before .loop-test .taken)
@@ -119,10 +101,10 @@ loop-again c =
     let n = c .before .before .before .before .before .before .before .before .before .before .cut-to-32 .result in (
       m .kept .0 ∙ l .inv .0,
       omega arith,
-      subst (λ (s : Shifted). locationOf s ≤ far) (sym (m .ensures)) (still-near (a .t) _ (l .location) (l .inv .2) _ (l .arena)),
+      subst (λ (s : Shifted). locationOf s ≤ far) (sym (m .ensures)) (still-near (a .t .base) _ (l .location) (l .inv .2) _ (l .part)),
       λ r same at.
           rw (eq-eqb _ _ (c .if1 .left)) at
-          (sym (turn (a .t) r n (l .i) (l .location) (l .arena) (omega arith) same (c .before .before .before .before .before .before .relr-in .ensures ∙ ap (λ (k : ℕ). relrAt (imageIn (l .arena) (a .t)) k (l .i)) (sym at)) (c .before .before .before .before .before .relr-of .ensures) (m .ensures))
+          (sym (turn (a .t) r n (l .i) (l .location) (l .part) (omega arith) same (c .before .before .before .before .before .before .relr-in .ensures ∙ ap (λ (k : ℕ). relrAt (take (a .t .span) (l .part)) k (l .i)) (sym at)) (c .before .before .before .before .before .relr-of .ensures) (m .ensures))
           ∙ l .inv .3 r same at),
     )
 
@@ -134,9 +116,9 @@ returns-2 c =
     let a = c .before .before .before .before .before .args in
     let l = c .before .loop in
     let b = c .before .before .before .bounds-of in
-    sym (none (a .t) (heldBy (a .o)) (c .before .before .cut-to-32 .result - l .i) (l .i) (l .location) (l .arena) (omega arith))
+    sym (none (a .t) (heldBy (a .o)) (c .before .before .cut-to-32 .result - l .i) (l .i) (l .location) (l .part) (omega arith))
     ∙ (l .inv .3 (heldBy (a .o)) (sym (b .ensures .segments)) refl
-    ∙ ap (λ (k : ℕ). addRelrs (a .t) (heldBy (a .o)) k 0 far (now (a .arena))) (c .before .before .cut-to-32 .ensures))
+    ∙ ap (λ (k : ℕ). addRelrs (a .t) (heldBy (a .o)) k 0 far (now (a .part))) (c .before .before .cut-to-32 .ensures))
 
 pub add-relrs-spec : {M : Type 1} → statement M
 add-relrs-spec =
@@ -144,15 +126,15 @@ add-relrs-spec =
     (tie.spec
     Inv-loop
     μ-loop
-    bounds-of-requires
-    cut-to-32-requires
+    (λ c κs. search needs)
+    (λ c κs. search needs)
     loop-holds
-    relr-in-requires
-    relr-of-requires
-    add-relr-requires
+    (λ c κs. search needs)
+    (λ c κs. search needs)
+    (λ c κs. search needs)
     same-length
     returns
-    add-i
+    (λ c. search needs)
     loop-less
     loop-again
     same-length-2

@@ -7,15 +7,6 @@ use Rattle.object.specs.HashTable.{exportedAt, definition}
 use Rattle.object.proofs.hash_tables.ask.Statement.{statement}
 use Rattle.object.proofs.hash_tables.ask.Tie as tie
 
-lookup-requires : tie.Need-lookup-requires
-lookup-requires c κs = search needs
-
-enum-known-f : tie.Need-enum-known-f
-enum-known-f c = search needs
-
-enum-told : tie.Need-enum-told
-enum-told c = search needs
-
 returns : tie.Need-returns
 unfolding exportedAt
 returns c =
@@ -25,12 +16,6 @@ mul-symbol-off : tie.Need-mul-symbol-off
 mul-symbol-off c =
     let h = rw (c .before .f .given .1) at (c .before .before .before .lookup .ensures .1) in
     omega (arith, h)
-
-symbol-off-requires : tie.Need-symbol-off-requires
-symbol-off-requires c κs = search needs
-
-is-exported-requires : tie.Need-is-exported-requires
-is-exported-requires c κs = search needs
 
 returns-2 : tie.Need-returns-2
 unfolding exportedAt
@@ -46,12 +31,12 @@ pub ask-spec : {M : Type 1} → statement M
 ask-spec =
     tie.close
     (tie.spec
-    lookup-requires
-    enum-known-f
-    enum-told
+    (λ c κs. search needs)
+    (λ c. search needs)
+    (λ c. search needs)
     returns
     mul-symbol-off
-    symbol-off-requires
-    is-exported-requires
+    (λ c κs. search needs)
+    (λ c κs. search needs)
     returns-2
     returns-3)

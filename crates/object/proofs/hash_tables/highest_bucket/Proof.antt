@@ -4,8 +4,8 @@ use Prim.Native.Nat.{_-_, _^_, _≤_, _<_}
 use Rattle.object.proofs.CountLaws.{highest-more, highest-cut}
 use Rattle.object.proofs.hash_tables.bucket_count.Reads as bucket-count-reads
 use Rattle.object.proofs.hash_tables.bucket_word.Reads as bucket-word-reads
-use Rattle.object.proofs.hash_tables.larger.Reads as larger-reads
 use Rattle.object.specs.SymbolCount.{highest}
+use Rattle.words.proofs.bytes.larger.Reads as larger-reads
 use Rattle.words.proofs.bytes.smaller.Reads as smaller-reads
 use denote.Ref.{now}
 use mathlib.Core.Path.{_≡_, refl, ap, _∙_}
@@ -44,4 +44,4 @@ highest-bucket-spec =
     tie.close
     (tie.spec
     Inv-loop μ-loop (λ c κs. search needs) (λ c. search needs) (λ c. search needs) (λ c κs. search needs) loop-holds
-    (λ c κs. search needs) (λ c κs. search needs) (λ c. search needs) (λ c. search needs) loop-again (λ c. search needs) returns)
+    (λ c κs. search needs) (λ c. search needs) (λ c κs. search needs) (λ c. search needs) (λ c. search needs) loop-again returns)

@@ -5,10 +5,11 @@ use Prim.Native.Nat.{ℕ, _-_, _≤_}
 use native.Mathlib.Omega.{arith}
 use borrow.Author.Needs.{needs}
 use lib.ListN.{length, take, drop, length-take, drop-of-length-le}
+use Rattle.words.proofs.Slices.{length-mapped}
 use Rattle.words.specs.Choice.{both, some}
 use Rattle.object.specs.declared.program_header.Segment.{Segment}
 use Rattle.object.specs.TableBytes.{isWritable, holdsRange, inWritable}
-use Rattle.object.proofs.ListTests.{length-mapped, some-turn, some-end}
+use Rattle.object.proofs.ListTests.{some-turn, some-end}
 use Rattle.object.proofs.table_bytes.in_writable.Statement.{statement}
 use Rattle.object.proofs.table_bytes.in_writable.Tie as tie
 

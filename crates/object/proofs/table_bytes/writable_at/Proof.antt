@@ -4,7 +4,7 @@ use Prim.Native.Nat.{_-_, _≤_}
 use native.Mathlib.Omega.{arith}
 use borrow.Author.Needs.{needs}
 use lib.ListN.{length, take}
-use Rattle.object.proofs.ListTests.{length-mapped}
+use Rattle.words.proofs.Slices.{length-mapped}
 use Rattle.object.proofs.Ranges.{range-none, range-at}
 use Rattle.object.proofs.table_bytes.writable_at.Statement.{statement}
 use Rattle.object.proofs.table_bytes.writable_at.Tie as tie

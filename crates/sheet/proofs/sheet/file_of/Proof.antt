@@ -4,8 +4,9 @@ use native.Mathlib.Omega.{arith}
 use borrow.Author.Needs.{needs}
 use lib.ListN.{length}
 use denote.Ref.{now}
+use Rattle.words.proofs.Slices.{length-mapped}
 use Rattle.sheet.specs.Sheet.{Input}
-use Rattle.sheet.proofs.PartLaws.{length-mapped, input-at, input-past}
+use Rattle.sheet.proofs.PartLaws.{input-at, input-past}
 use Rattle.sheet.proofs.sheet.file_of.Statement.{statement}
 use Rattle.sheet.proofs.sheet.file_of.Tie as tie
 

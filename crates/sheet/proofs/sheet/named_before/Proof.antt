@@ -8,11 +8,12 @@ use native.Mathlib.Omega.{arith}
 use borrow.Author.Needs.{needs}
 use lib.ListN.{length, take, drop, length-map, List·getD-map}
 use denote.Ref.{now}
+use Rattle.words.proofs.Slices.{length-mapped}
 use Rattle.words.specs.Names.{sameBytes}
 use Rattle.sheet.specs.Steps.Parts.{noPart, inputIn, inputsIn}
 use Rattle.sheet.specs.Sheet.{Input, named}
 use Rattle.sheet.specs.declared.sheet.Parts.{Parts}
-use Rattle.sheet.proofs.PartLaws.{length-mapped, inputs-front, named-is, named-none}
+use Rattle.sheet.proofs.PartLaws.{inputs-front, named-is, named-none}
 use Rattle.sheet.proofs.sheet.named_before.Statement.{statement}
 use Rattle.sheet.proofs.sheet.named_before.Tie as tie
 

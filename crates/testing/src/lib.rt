@@ -1,0 +1,3 @@
+// What the test programs share: printing, and reading their input.
+pub mod input;
+pub mod show;
