@@ -5,7 +5,7 @@ ghost use Prim.Native.Nat.{_+_, _*_, _/_, _%_, _^_, _≤_, _<_, max};
 ghost use Rattle.words.specs.Memory.{mem};
 ghost use Rattle.words.specs.Words.{leAt};
 ghost use Rattle.words.specs.Names.{sameBytes};
-ghost use Rattle.object.specs.Symbol.{symbolAt, symbolName, isExported};
+ghost use Rattle.object.specs.Symbol.{symbolName};
 ghost use Rattle.object.specs.HashTable.{sysvAt, gnuAt, bucketCount, bucketAt, chainAt, isLast, nextSymbol, fuel, walk, bloomAt, hasBits, mayHold, bucketOf, sameHash, isExportedHit, lookupBy, small, answerBy, addressOf};
 ghost use Rattle.object.specs.HashCheck.{startOf};
 ghost use Rattle.object.specs.SymbolCount.{highest, lastReached, tableCount, countOf};
@@ -89,14 +89,6 @@ fn named(image: &[u8], symbols: usize, strings: usize, s: usize, name: &[u8]) ->
 {
     let at = words::bytes::u32_off(image, symbols, 24 * s);
     words::names::same_at(image, strings, at as usize, name)
-}
-
-// Whether symbol `s` is exported.
-fn exported(image: &[u8], symbols: usize, s: usize) -> bool
-    requires { ⌜ s < 2 ^ 40 ⌝ }
-    ensures { λ r. ⌜ r ≡ isExported (symbolAt (now (image .entry)) symbols s) ⌝ }
-{
-    crate::symbol::is_exported(crate::symbol::symbol_off(image, symbols, 24 * s))
 }
 
 // The place of a hash among `n`.
@@ -301,7 +293,7 @@ fn accepts(image: &[u8], v: View, name: &[u8], gnu: u32, s: usize, w: u32) -> bo
     if !named(image, v.symbols, v.strings, s, name) {
         return false;
     }
-    exported(image, v.symbols, s)
+    crate::symbol::exported_off(image, v.symbols, 24 * s)
 }
 
 // The first exported symbol with the name in the chain of the name's bucket; the name's hashes are given.

@@ -1,5 +1,4 @@
 -- `object::hash_tables::accepts` meets its contract. Assumes nothing.
-use Rattle.object.proofs.hash_tables.exported.Reads as exported-reads
 use Rattle.object.proofs.hash_tables.named.Reads as named-reads
 use Rattle.object.proofs.hash_tables.same_hash.Reads as same-hash-reads
 use Rattle.object.specs.HashTable.{isHit, isExportedHit}
@@ -22,10 +21,10 @@ returns-2 c =
 returns-3 : tie.Need-returns-3
 unfolding isHit isExportedHit
 returns-3 c =
-    rw (← c .before .before .before .before .before .before .before .pre .1, sym (c .before .before .before .before .same-hash .ensures) ∙ not-false _ (c .before .before .before .if1 .left), sym (c .before .before .named .ensures) ∙ not-false _ (c .before .if2 .left)) (c .exported .ensures)
+    rw (← c .before .before .before .before .before .before .before .pre .1, sym (c .before .before .before .before .same-hash .ensures) ∙ not-false _ (c .before .before .before .if1 .left), sym (c .before .before .named .ensures) ∙ not-false _ (c .before .if2 .left)) (c .exported-off .ensures)
 
 pub accepts-spec : {M : Type 1} → statement M
 accepts-spec =
     tie.close
     (tie.spec
-    (λ c κs. search needs) returns (λ c κs. search needs) returns-2 (λ c κs. search needs) returns-3)
+    (λ c κs. search needs) returns (λ c κs. search needs) returns-2 (λ c. search needs) (λ c κs. search needs) returns-3)
