@@ -1,4 +1,5 @@
-"""What document 01's program must answer: its rules for whole sets, on top of the reader of object_cases.py. Knows nothing of the crates."""
+"""What document 01's program must answer: its rules for whole sets, with document 02 (c), on top of the reader of object_cases.py. Knows
+nothing of the crates."""
 from object_cases import M64, Object, Refused, headers, le, need
 
 ADDRESS, ARENA, WORDS, INPUT = 0x10000000, 32768, 1024, 65536
@@ -45,7 +46,7 @@ class Set:
             self.offsets.append(len(self.arena))
             self.arena += o.image
         self.arena += bytes(ARENA - len(self.arena))
-        self.report = []
+        self.report, self.known = [], {}
 
     def order(self):
         done, out = set(), []
@@ -62,10 +63,16 @@ class Set:
             visit(k)
         return out + [1]
 
+    def answer(self, k, name):
+        """What object `k` has for the name."""
+        if (k, name) not in self.known:
+            self.known[k, name] = self.objects[k].answer(name)
+        return self.known[k, name]
+
     def look(self, scope, name):
         """The first answer: object, value, size, absolute, address; or None."""
         for k in scope:
-            words = self.objects[k].answer(name)
+            words = self.answer(k, name)
             if words[0] == "is":
                 _, _, value, size, _, absolute, _ = words
                 here = value if absolute == "yes" else (ADDRESS + self.offsets[k] + value) % M64
@@ -73,7 +80,7 @@ class Set:
         return None
 
     def resolve(self, k, name):
-        own = self.objects[k].answer(name)
+        own = self.answer(k, name)
         protected = own[0] == "is" and own[4] == "yes"
         return self.look([k] * protected + [1, *range(2, len(self.objects)), 0], name)
 
@@ -156,6 +163,18 @@ def answer(data):
         return ["refused %d object %d" % stop.args], bytes(ARENA), loaded
 
 
+def hidden_twins(loaded):
+    """The names that an object has twice in a chain, the first hit not exported, a later one exported: there the Rust is no oracle (document
+    02, (c))."""
+    out = set()
+    for o in loaded.objects:
+        for name in {o.name(o.symbol(s)[0]) for s in walked(o)}:
+            hits = [exported for _, exported in o.hits(name)]
+            if any(hits) and not hits[0]:
+                out.add(name)
+    return out
+
+
 def outside(loaded):
     """Why a bound set is not in document 01's common domain, or None."""
     for o, at in zip(loaded.objects, loaded.offsets):
@@ -200,8 +219,8 @@ def utf8(name):
         return False
 
 
-def symbols_read(o):
-    """Those that walks reach, and those of the entries that search."""
+def walked(o):
+    """The symbols that walks reach."""
     out = set()
     if o.kind == "gnu":
         at, buckets, first, blooms, _ = o.hash
@@ -218,6 +237,12 @@ def symbols_read(o):
             while s and s not in out:
                 out.add(s)
                 s = o.u(at + 8 + 4 * buckets + 4 * s, 4)
+    return out
+
+
+def symbols_read(o):
+    """Those that walks reach, and those of the entries that search."""
+    out = walked(o)
     for at, n in ((o.rela, o.relas), (o.plt, o.plts)) if o.loads else ():
         out |= {o.u(at + 24 * i + 12, 4) for i in range(n) if o.u(at + 24 * i + 8, 4) in (5, 6, 7)}
     return out
