@@ -152,6 +152,47 @@ class Set:
             raise Stop(20, 0)
 
 
+class Expected:
+    """What the rules say of a call to bind at any address, in any arena, with any report and policy; of a query by ask()."""
+
+    def __init__(self, data, address, arena, words, strict, limit=INPUT):
+        global ADDRESS, ARENA, WORDS, INPUT
+        ADDRESS, ARENA, WORDS, INPUT = address, arena, 1 << 32, limit
+        self.address, self.loaded, self.relocated, self.refusal = address, None, None, None
+        try:
+            parts_of(data)
+            if address % 4096 or arena > 1 << 28 or address + arena > 1 << 63:
+                raise Stop(2, 0)
+            self.loaded = Set(data)
+            self.placed = bytes(self.loaded.arena)
+            self.loaded.relocate()
+            report, kinds = self.loaded.report, [w >> 28 for w in self.loaded.report]
+            if strict and 6 in kinds:
+                last = max(i for i in range(kinds.index(6)) if kinds[i] == 5)
+                raise Stop(19, report[last] & 0xFFFFFFF)
+            if len(report) > words:
+                raise Stop(20, 0)
+            self.relocated = bytes(self.loaded.arena)
+        except Stop as stop:
+            self.refusal = stop.args
+
+    def ask(self, requester, name):
+        """("refused", number, object), ("absent",) or ("found", object, symbol, address)"""
+        if not self.loaded:
+            return "refused", *self.refusal
+        count = len(self.loaded.objects)
+        if requester >= count:
+            return "refused", 13, 0
+        own = self.loaded.answer(requester, name)
+        protected = own[0] == "is" and own[4] == "yes"
+        for k in [requester] * protected + [1, *range(2, count), 0]:
+            words = self.loaded.answer(k, name)
+            if words[0] == "is":
+                _, index, value, _, _, absolute, _ = words
+                return "found", k, index, value if absolute == "yes" else (self.address + self.loaded.offsets[k] + value) % M64
+        return ("absent",)
+
+
 def answer(data):
     """(lines of the program, the arena), and the set where it is loaded."""
     loaded = None
