@@ -205,15 +205,8 @@ def answer(data):
 
 
 def hidden_twins(loaded):
-    """The names that an object has twice in a chain, the first hit not exported, a later one exported: there the Rust is no oracle (document
-    02, (c))."""
-    out = set()
-    for o in loaded.objects:
-        for name in {o.name(o.symbol(s)[0]) for s in walked(o)}:
-            hits = [exported for _, exported in o.hits(name)]
-            if any(hits) and not hits[0]:
-                out.add(name)
-    return out
+    """The names for which the Rust is no oracle."""
+    return {name for o in loaded.objects for name in o.hidden_twins()}
 
 
 def outside(loaded):
@@ -260,30 +253,9 @@ def utf8(name):
         return False
 
 
-def walked(o):
-    """The symbols that walks reach."""
-    out = set()
-    if o.kind == "gnu":
-        at, buckets, first, blooms, _ = o.hash
-        start = at + 16 + 8 * blooms
-        for i in range(buckets):
-            s = o.u(start + 4 * i, 4)
-            while s:
-                out.add(s)
-                s = 0 if o.u(start + 4 * buckets + 4 * (s - first), 4) & 1 else s + 1
-    if o.kind == "sysv":
-        at, buckets, _ = o.hash
-        for i in range(buckets):
-            s = o.u(at + 8 + 4 * i, 4)
-            while s and s not in out:
-                out.add(s)
-                s = o.u(at + 8 + 4 * buckets + 4 * s, 4)
-    return out
-
-
 def symbols_read(o):
     """Those that walks reach, and those of the entries that search."""
-    out = walked(o)
+    out = o.walked()
     for at, n in ((o.rela, o.relas), (o.plt, o.plts)) if o.loads else ():
         out |= {o.u(at + 24 * i + 12, 4) for i in range(n) if o.u(at + 24 * i + 8, 4) in (5, 6, 7)}
     return out
