@@ -3,6 +3,8 @@ import os
 import struct
 import subprocess
 
+from object_cases import Object
+
 COMMON = ["-O1", "-nostdlib", "-fno-stack-protector", "-fno-asynchronous-unwind-tables", "-fcf-protection=none", "-Wl,-z,max-page-size=4096",
           "-Wl,--build-id=none", "-Wl,-s"]
 COMPACT = ["-Wl,-z,noseparate-code", "-Wl,-z,norelro"]
@@ -167,6 +169,25 @@ def started(linker):
     return linker.host("int h = 1;"), program, [(a, b"liba.so")]
 
 
+def hidden_twin(linker):
+    """`twin`, and `data`, in two versions, which GNU ld puts into one chain; of each the first in the chain is made local afterwards."""
+    versions = os.path.join(linker.folder, "versions")
+    with open(versions, "w") as out:
+        out.write("V1 { global: twin; data; local: *; }; V2 { global: twin; data; call; } V1;")
+    a = bytearray(linker.link("liba.so", """
+        __asm__(".symver twin_old, twin@V1\\n.symver twin_new, twin@@V2\\n.symver data_old, data@V1\\n.symver data_new, data@@V2");
+        int twin_old(void) { return 1; } int twin_new(void) { return 2; }
+        int data_old[2] = {1, 2}; int data_new[2] = {3, 4};
+        extern int twin(void); int call(void) { return twin(); }""", flags=["-Wl,--version-script=" + versions]))
+    o = Object(bytes(a), 1 << 20, False)
+    for name in (b"twin", b"data"):
+        (first, _), (_, _) = o.hits(name)
+        a[o.symbols + 24 * first + 4] &= 0xF
+    program = linker.program("extern int data[2]; int call(void); int twin(void); void entry(void) { data[0] = call() + twin(); for (;;); }",
+                             ["liba.so"])
+    return linker.host("int twin(void) { return 3; } int data[2] = {5, 6};"), program, [(bytes(a), b"liba.so")]
+
+
 def linked(folder):
     """{name: (host, program, libraries)}"""
     sets = {}
@@ -195,4 +216,6 @@ def linked(folder):
     for name, made in zip(("same", "larger", "smaller"), copies(linker("copies"))):
         sets["linked copy " + name] = made
     sets["linked started"] = started(linker("started"))
+    for hash in ("gnu", "sysv", "both"):
+        sets["linked hidden twin " + hash] = hidden_twin(linker("hidden_twin_" + hash, hash=hash))
     return sets

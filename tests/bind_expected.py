@@ -1,4 +1,5 @@
-"""What document 01's program must answer: its rules for whole sets, on top of the reader of object_cases.py. Knows nothing of the crates."""
+"""What document 01's program must answer: its rules for whole sets, with document 02 (c), on top of the reader of object_cases.py. Knows
+nothing of the crates."""
 from object_cases import M64, Object, Refused, headers, le, need
 
 ADDRESS, ARENA, WORDS, INPUT = 0x10000000, 32768, 1024, 65536
@@ -45,7 +46,7 @@ class Set:
             self.offsets.append(len(self.arena))
             self.arena += o.image
         self.arena += bytes(ARENA - len(self.arena))
-        self.report = []
+        self.report, self.known = [], {}
 
     def order(self):
         done, out = set(), []
@@ -62,10 +63,16 @@ class Set:
             visit(k)
         return out + [1]
 
+    def answer(self, k, name):
+        """What object `k` has for the name."""
+        if (k, name) not in self.known:
+            self.known[k, name] = self.objects[k].answer(name)
+        return self.known[k, name]
+
     def look(self, scope, name):
         """The first answer: object, value, size, absolute, address; or None."""
         for k in scope:
-            words = self.objects[k].answer(name)
+            words = self.answer(k, name)
             if words[0] == "is":
                 _, _, value, size, _, absolute, _ = words
                 here = value if absolute == "yes" else (ADDRESS + self.offsets[k] + value) % M64
@@ -73,7 +80,7 @@ class Set:
         return None
 
     def resolve(self, k, name):
-        own = self.objects[k].answer(name)
+        own = self.answer(k, name)
         protected = own[0] == "is" and own[4] == "yes"
         return self.look([k] * protected + [1, *range(2, len(self.objects)), 0], name)
 
@@ -145,6 +152,47 @@ class Set:
             raise Stop(20, 0)
 
 
+class Expected:
+    """What the rules say of a call to bind at any address, in any arena, with any report and policy; of a query by ask()."""
+
+    def __init__(self, data, address, arena, words, strict, limit=INPUT):
+        global ADDRESS, ARENA, WORDS, INPUT
+        ADDRESS, ARENA, WORDS, INPUT = address, arena, 1 << 32, limit
+        self.address, self.loaded, self.relocated, self.refusal = address, None, None, None
+        try:
+            parts_of(data)
+            if address % 4096 or arena > 1 << 28 or address + arena > 1 << 63:
+                raise Stop(2, 0)
+            self.loaded = Set(data)
+            self.placed = bytes(self.loaded.arena)
+            self.loaded.relocate()
+            report, kinds = self.loaded.report, [w >> 28 for w in self.loaded.report]
+            if strict and 6 in kinds:
+                last = max(i for i in range(kinds.index(6)) if kinds[i] == 5)
+                raise Stop(19, report[last] & 0xFFFFFFF)
+            if len(report) > words:
+                raise Stop(20, 0)
+            self.relocated = bytes(self.loaded.arena)
+        except Stop as stop:
+            self.refusal = stop.args
+
+    def ask(self, requester, name):
+        """("refused", number, object), ("absent",) or ("found", object, symbol, address)"""
+        if not self.loaded:
+            return "refused", *self.refusal
+        count = len(self.loaded.objects)
+        if requester >= count:
+            return "refused", 13, 0
+        own = self.loaded.answer(requester, name)
+        protected = own[0] == "is" and own[4] == "yes"
+        for k in [requester] * protected + [1, *range(2, count), 0]:
+            words = self.loaded.answer(k, name)
+            if words[0] == "is":
+                _, index, value, _, _, absolute, _ = words
+                return "found", k, index, value if absolute == "yes" else (self.address + self.loaded.offsets[k] + value) % M64
+        return ("absent",)
+
+
 def answer(data):
     """(lines of the program, the arena), and the set where it is loaded."""
     loaded = None
@@ -154,6 +202,11 @@ def answer(data):
         return [f"{w:08x}" for w in loaded.report], bytes(loaded.arena), loaded
     except Stop as stop:
         return ["refused %d object %d" % stop.args], bytes(ARENA), loaded
+
+
+def hidden_twins(loaded):
+    """The names for which the Rust is no oracle."""
+    return {name for o in loaded.objects for name in o.hidden_twins()}
 
 
 def outside(loaded):
@@ -202,22 +255,7 @@ def utf8(name):
 
 def symbols_read(o):
     """Those that walks reach, and those of the entries that search."""
-    out = set()
-    if o.kind == "gnu":
-        at, buckets, first, blooms, _ = o.hash
-        start = at + 16 + 8 * blooms
-        for i in range(buckets):
-            s = o.u(start + 4 * i, 4)
-            while s:
-                out.add(s)
-                s = 0 if o.u(start + 4 * buckets + 4 * (s - first), 4) & 1 else s + 1
-    if o.kind == "sysv":
-        at, buckets, _ = o.hash
-        for i in range(buckets):
-            s = o.u(at + 8 + 4 * i, 4)
-            while s and s not in out:
-                out.add(s)
-                s = o.u(at + 8 + 4 * buckets + 4 * s, 4)
+    out = o.walked()
     for at, n in ((o.rela, o.relas), (o.plt, o.plts)) if o.loads else ():
         out |= {o.u(at + 24 * i + 12, 4) for i in range(n) if o.u(at + 24 * i + 8, 4) in (5, 6, 7)}
     return out

@@ -1,5 +1,6 @@
-//! Reads sets from standard input, hands each to the port and to the Rust, and compares. usage: driver RUST_SIDE FILE SEED
-//! RUST_SIDE is the program with the Rust; the first set that differs goes to FILE.
+//! Reads sets from standard input, hands each to the port and to the Rust, and compares. usage: driver RUST_SIDE FILE TWINS SEED
+//! RUST_SIDE is the program with the Rust; the first set that differs goes to FILE. Sets with a hidden twin, of which the Rust answers only
+//! other names, go to TWINS with what the port answered, for twins.py.
 mod port;
 mod reader;
 mod shared;
@@ -7,6 +8,8 @@ mod sides;
 
 use std::{
     collections::{BTreeMap, HashSet},
+    fs::File,
+    io::{BufWriter, Write},
     time::Instant,
 };
 
@@ -42,14 +45,36 @@ struct Counts {
     compared: usize,
     differ: usize,
     queries: usize,
+    twins: usize,
+    twin_queries: usize,
     seen: BTreeMap<&'static str, usize>,
 }
 
-/// What came of a set: the outcome, whether it was compared with the Rust on the common domain, and the first difference.
+/// What came of a set: the outcome, whether it was compared with the Rust on the common domain, the first difference, and what the port
+/// answered where the set has a hidden twin.
 struct Verdict {
     outcome: String,
     compared: bool,
     difference: Option<String>,
+    twin: Option<Vec<u8>>,
+}
+
+/// What the port answered, as twins.py reads it: the refusal's number and object, the report, the arena after bind and after a query, the
+/// count of queries, and of each requester, length of the name, name, 1 if found, object, symbol, address.
+fn answered(
+    bound: Result<(), Refusal>, report: &[u32], arena: &[u8], placed: &[u8], questions: &[(u32, Vec<u8>)], answers: &[Option<Found>],
+) -> Vec<u8> {
+    let Refusal(number, object) = bound.err().unwrap_or(Refusal(0, 0));
+    let mut out: Vec<u8> = [&[number, object], report].concat().iter().flat_map(|word| word.to_le_bytes()).collect();
+    out.extend([arena, placed].concat());
+    out.extend((questions.len() as u32).to_le_bytes());
+    for ((requester, name), answer) in questions.iter().zip(answers) {
+        out.extend([*requester, name.len() as u32].iter().flat_map(|word| word.to_le_bytes()));
+        out.extend(name);
+        let words = answer.map_or([0; 4], |found| [1, found.object, found.symbol, found.address]);
+        out.extend(words.iter().flat_map(|word: &u64| word.to_le_bytes()));
+    }
+    out
 }
 
 fn first_difference(ours: &[u8], theirs: &[u8]) -> String {
@@ -130,7 +155,7 @@ fn count_forms(objects: &[reader::Object], names: &[&[u8]], seen: &mut BTreeMap<
 }
 
 fn compare(set: &Set, rust: &mut Rust, random: &mut Random, counts: &mut Counts) -> Verdict {
-    let differs = |outcome: &str, text: String| Verdict { outcome: outcome.into(), compared: false, difference: Some(text) };
+    let differs = |outcome: &str, text: String| Verdict { outcome: outcome.into(), compared: false, difference: Some(text), twin: None };
     // Arena and report are not clear when they are handed over.
     let mut arena = vec![0xa5u8; set.arena];
     let mut report = vec![0xa5a5_a5a5u32; set.report];
@@ -147,7 +172,7 @@ fn compare(set: &Set, rust: &mut Rust, random: &mut Random, counts: &mut Counts)
             if placed.iter().any(|&byte| byte != 0) {
                 return differs("refused", format!("query: {a:?}, and the arena is not clear"));
             }
-            return Verdict { outcome: format!("refused {}", a.0), compared: false, difference: None };
+            return Verdict { outcome: format!("refused {}", a.0), compared: false, difference: None, twin: None };
         }
         (Ok(()), Ok(_)) => (),
         (Err(Refusal(14..=20, _)), Ok(_)) => (),
@@ -181,17 +206,32 @@ fn compare(set: &Set, rust: &mut Rust, random: &mut Random, counts: &mut Counts)
         return differs("query", "the placed bytes depend on the query".into());
     }
 
+    let mut twins = HashSet::new();
+    for object in &objects {
+        object.hidden_twins(&mut twins);
+    }
+    let twin = (!twins.is_empty()).then(|| answered(bound, &report, &arena, &placed, &questions, &answers));
+
     let number = bound.err().map_or(0, |refusal| refusal.0);
     // Of the refusals after loading the Rust has 14 and 19; it has no report, so 20 is none to it.
-    let whole = matches!(number, 0 | 14 | 19);
+    let whole = twins.is_empty() && matches!(number, 0 | 14 | 19);
     rust.run(set, &questions, if whole { RELOCATED } else { ANSWERED });
-    let difference = against_the_rust(set, &rust.shared, number, &objects, &placed, &questions, &answers, &arena, &report);
+    let difference = against_the_rust(set, &rust.shared, number, whole, &objects, &placed, &questions, &answers, &twins, &arena, &report);
 
     let what = if number == 0 { "bound".to_string() } else { format!("refused {number}") };
     match outside {
         Some(why) => {
             let equal = if difference.is_none() { "equal" } else { "not equal" };
-            Verdict { outcome: format!("{what}, outside the common domain ({why}), the Rust {equal}"), compared: false, difference: None }
+            let outcome = format!("{what}, outside the common domain ({why}), the Rust {equal}");
+            Verdict { outcome, compared: false, difference: None, twin }
+        }
+        None if twin.is_some() => {
+            let asked = questions.iter().filter(|(_, name)| twins.contains(name)).count();
+            counts.twin_queries += asked;
+            counts.queries += questions.len() - asked;
+            let equal = if difference.is_none() { "equal" } else { "DIFFERENT" };
+            let outcome = format!("{}, a hidden twin, placed bytes and other names {equal}", if number == 0 { "bound" } else { "refused" });
+            Verdict { outcome, compared: false, difference, twin }
         }
         None => {
             if number == 0 {
@@ -208,15 +248,15 @@ fn compare(set: &Set, rust: &mut Rust, random: &mut Random, counts: &mut Counts)
                 _ => "placed bytes and names equal",
             };
             let outcome = if difference.is_some() { format!("{what}, the Rust DIFFERENT") } else { format!("{what}, {same}") };
-            Verdict { outcome, compared: true, difference }
+            Verdict { outcome, compared: true, difference, twin }
         }
     }
 }
 
 #[allow(clippy::too_many_arguments)]
 fn against_the_rust(
-    set: &Set, s: &Shared, number: u32, objects: &[reader::Object], placed: &[u8], questions: &[(u32, Vec<u8>)],
-    answers: &[Option<Found>], arena: &[u8], report: &[u32],
+    set: &Set, s: &Shared, number: u32, whole: bool, objects: &[reader::Object], placed: &[u8], questions: &[(u32, Vec<u8>)],
+    answers: &[Option<Found>], twins: &HashSet<Vec<u8>>, arena: &[u8], report: &[u32],
 ) -> Option<String> {
     let (stage, result) = (s.get(STAGE), s.get(RESULT));
     if result == NO_ARENA {
@@ -233,6 +273,9 @@ fn against_the_rust(
         return Some(format!("the Rust stopped while it answered queries, signal {}", s.get(SIGNAL)));
     }
     for (i, (answer, (requester, name))) in answers.iter().zip(questions).enumerate() {
+        if twins.contains(name) {
+            continue;
+        }
         let line = s.part(AT_ANSWERS + 48 * i, 48);
         let word = |k: usize| u64::from_le_bytes(line[8 * k..8 * k + 8].try_into().unwrap());
         let same = match answer {
@@ -252,15 +295,15 @@ fn against_the_rust(
     }
     let ended = s.get(SIGNAL) == 0 && s.get(STATUS) == 0;
     let wanted = match number {
-        14 => OUT_OF_BOUNDS,
-        19 => UNDEFINED,
+        14 if whole => OUT_OF_BOUNDS,
+        19 if whole => UNDEFINED,
         _ => FINE,
     };
     if !ended || result != wanted {
         let text = String::from_utf8_lossy(s.part(AT_PRINTED, s.get(PRINTED).min(300) as usize));
         return Some(format!("the Rust: stage {stage}, result {result}, signal {}, status {}: {text}", s.get(SIGNAL), s.get(STATUS)));
     }
-    if !matches!(number, 0 | 19) {
+    if !whole || number == 14 {
         return None;
     }
     // The names that the Rust prints or returns, and those of the entries that it found undefined by its own answers.
@@ -288,7 +331,8 @@ fn against_the_rust(
 
 fn main() {
     let arguments: Vec<String> = std::env::args().collect();
-    let [_, program, file, seed] = &arguments[..] else { panic!("usage: driver RUST_SIDE FILE SEED") };
+    let [_, program, file, twins, seed] = &arguments[..] else { panic!("usage: driver RUST_SIDE FILE TWINS SEED") };
+    let mut twins = BufWriter::new(File::create(twins).expect("the file for sets with a hidden twin"));
     let mut random = Random(seed.parse().expect("a number"));
     let mut rust = Rust::start(program, &[]);
     let mut frames = Frames(std::io::BufReader::with_capacity(1 << 20, std::io::stdin()), Vec::new());
@@ -302,6 +346,10 @@ fn main() {
         let form = counts.forms.entry(set.label.split(' ').next().unwrap_or("").to_string()).or_default();
         form.0 += 1;
         form.1 += verdict.compared as usize;
+        if let Some(answers) = verdict.twin {
+            counts.twins += 1;
+            twins.write_all(&frames.1).and_then(|()| twins.write_all(&answers)).expect("the file for sets with a hidden twin");
+        }
         if let Some(text) = verdict.difference {
             counts.differ += 1;
             if counts.differ <= 10 {
@@ -329,6 +377,11 @@ fn main() {
         println!("{count:8} {what}");
     }
     println!("{:8} queries were compared, those of refused sets among them.", counts.queries);
+    println!(
+        "{:8} sets have a hidden twin: {} queries of such names, words and relocated bytes are not compared with the Rust.",
+        counts.twins, counts.twin_queries
+    );
     println!("{} sets, {} compared, {} differ", counts.sets, counts.compared, counts.differ);
+    twins.flush().expect("the file for sets with a hidden twin");
     std::process::exit((counts.differ != 0) as i32);
 }

@@ -1,5 +1,5 @@
 //! Reads the objects of a set that the port has placed: which names occur, and whether the set is in document 01's common domain.
-use std::collections::{BTreeMap, BTreeSet, HashSet};
+use std::collections::{BTreeMap, BTreeSet, HashMap, HashSet};
 
 const GNU: u64 = 0x6fff_fef5;
 /// The dynamic tags whose value is a pointer.
@@ -28,6 +28,17 @@ pub struct Object<'a> {
 
 fn number(bytes: &[u8], at: usize, width: usize) -> u64 {
     (0..width).rev().fold(0, |sum, i| sum << 8 | at.checked_add(i).and_then(|k| bytes.get(k)).copied().unwrap_or(0) as u64)
+}
+
+fn gnu_hash(name: &[u8]) -> u32 {
+    name.iter().fold(5381, |h: u32, &byte| h.wrapping_mul(33).wrapping_add(byte as u32))
+}
+
+fn elf_hash(name: &[u8]) -> u32 {
+    name.iter().fold(0, |h: u32, &byte| {
+        let h = (h << 4).wrapping_add(byte as u32);
+        (h ^ (h & 0xf000_0000) >> 24) & 0x0fff_ffff
+    })
 }
 
 /// The objects, from the placed arena.
@@ -106,32 +117,64 @@ impl<'a> Object<'a> {
         self.image.get(at..at.checked_add(24)?)
     }
 
-    /// The symbols that the walks of the buckets reach.
-    fn walked(&self) -> BTreeSet<u32> {
-        let mut out = BTreeSet::new();
+    /// How many buckets the hash table has.
+    fn buckets(&self) -> u32 {
+        match self.hash {
+            Hash::None => 0,
+            Hash::Gnu(place) | Hash::SysV(place) => self.u32(place),
+        }
+    }
+
+    /// The walk of a bucket: each symbol, with its chain word.
+    fn walk(&self, bucket: u32) -> Vec<(u32, u32)> {
+        let mut out = Vec::new();
         match self.hash {
             Hash::None => (),
             Hash::Gnu(place) => {
                 let (buckets, first, blooms) = (self.u32(place) as usize, self.u32(place + 4), self.u32(place + 8) as usize);
                 let start = place + 16 + 8 * blooms;
-                for i in 0..buckets {
-                    let mut s = self.u32(start + 4 * i);
-                    while s != 0 && out.insert(s) && self.u32(start + 4 * buckets + 4 * (s - first) as usize) & 1 == 0 {
-                        s += 1;
-                    }
+                let mut s = self.u32(start + 4 * bucket as usize);
+                while s != 0 {
+                    let word = self.u32(start + 4 * buckets + 4 * (s - first) as usize);
+                    out.push((s, word));
+                    s = if word & 1 == 0 { s + 1 } else { 0 };
                 }
             }
             Hash::SysV(place) => {
                 let buckets = self.u32(place) as usize;
-                for i in 0..buckets {
-                    let mut s = self.u32(place + 8 + 4 * i);
-                    while s != 0 && out.insert(s) {
-                        s = self.u32(place + 8 + 4 * buckets + 4 * s as usize);
-                    }
+                let mut s = self.u32(place + 8 + 4 * bucket as usize);
+                while s != 0 {
+                    let next = self.u32(place + 8 + 4 * buckets + 4 * s as usize);
+                    out.push((s, next));
+                    s = next;
                 }
             }
         }
         out
+    }
+
+    /// The symbols that the walks of the buckets reach.
+    fn walked(&self) -> BTreeSet<u32> {
+        (0..self.buckets()).flat_map(|bucket| self.walk(bucket)).map(|(s, _)| s).collect()
+    }
+
+    /// Adds the names whose first hit is not exported and that have an exported one later in that chain: document 02, (c).
+    pub fn hidden_twins(&self, out: &mut HashSet<Vec<u8>>) {
+        for bucket in 0..self.buckets() {
+            let mut first = HashMap::new();
+            for (s, word) in self.walk(bucket) {
+                let Some(symbol) = self.symbol(s as usize) else { continue };
+                let Some(name) = self.name(number(symbol, 0, 4)) else { continue };
+                let hit = match self.hash {
+                    Hash::Gnu(_) => gnu_hash(name) % self.buckets() == bucket && gnu_hash(name) | 1 == word | 1,
+                    _ => elf_hash(name) % self.buckets() == bucket,
+                };
+                let exported = number(symbol, 6, 2) != 0 && [1, 2].contains(&(symbol[4] >> 4)) && [0, 3].contains(&(symbol[5] & 3));
+                if hit && !*first.entry(name).or_insert(exported) && exported {
+                    out.insert(name.to_vec());
+                }
+            }
+        }
     }
 
     /// Places of the entries of RELA and PLT; the host's are not read.

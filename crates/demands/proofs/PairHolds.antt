@@ -25,7 +25,7 @@ use Rattle.model.specs.Longer.{OnlyProgramCopies, HostOrNowhere, nowhere, Excep
 use Rattle.object.specs.Refusal.{require}
 use Rattle.object.specs.TableBytes.{isTable, tableBytes, tableName, inWritable}
 use Rattle.object.specs.Symbol.{symbolFrom, isExported}
-use Rattle.object.specs.HashTable.{walk, walkFrom, mayHold, isHit, firstIn, findBy, definition, answerIn}
+use Rattle.object.specs.HashTable.{walk, walkFrom, mayHold, isHit, isExportedHit, firstIn, findBy, definition, answerIn}
 use Rattle.object.specs.HashTable as hashes
 use Rattle.object.specs.HashCheck.{symbolOk}
 use Rattle.object.specs.Entries.{relaAt, relasFrom, relrsFrom, relrWords}
@@ -238,7 +238,7 @@ record Lookups : Type 0 where
 
 look : Lookups
 unfolding resolve scan scopeAnswer protectedOf symbols.address wordBytes tab mem byteOf leAt untilZero sameBytes hashBy elfHash gnuHash walk walkFrom
-    mayHold isHit firstIn findBy definition hashes.exportedAt symbolFrom isExported
+    mayHold isHit isExportedHit firstIn findBy definition hashes.answerOf symbolFrom isExported
 look = record { a-in-S = refl; a-in-T = refl; b-in-S = refl; b-in-T = refl }
 
 -- ---- reports

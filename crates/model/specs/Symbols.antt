@@ -1,5 +1,5 @@
 -- Symbols, and what a search for a name yields. System V gABI, "Symbol Table" (st_value, st_size, SHN_ABS, STV_PROTECTED);
--- document 01, "An address for a name". Assumes nothing.
+-- document 01, "An address for a name"; document 02, (c). Assumes nothing.
 use mathlib.Core.Bool.{Bool}
 use mathlib.Core.List.{List}
 use Prim.Native.Nat.{ℕ}
@@ -21,7 +21,8 @@ pub record Definition : Type 0 where
   pub protected : Bool
   pub absolute : Bool
 
--- what one object has for a name: "The first hit by name decides for its object"; `none` where there is no hit or the hit is not exported
+-- what one object has for a name: its first exported hit. Document 02, (c): "A search now passes over a hit that is not exported and goes on
+-- in that chain"; `none` where no hit is exported
 pub data Exported : Type 0 where
   none : Exported
   hit : Definition → Exported

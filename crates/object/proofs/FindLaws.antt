@@ -14,7 +14,7 @@ use Rattle.words.proofs.Choice.{both-true}
 use Rattle.object.specs.declared.hash_tables.HashTable.{HashTable}
 use Rattle.object.specs.declared.hash_tables.HashTable.the-variants.{Without, SysV, Gnu}
 use Rattle.object.specs.declared.hash_tables.Found.the-variants.{Hit, Miss}
-use Rattle.object.specs.HashTable.{bucketCount, bucketAt, chainAt, isLast, nextSymbol, fuel, walk, walkFrom, bloomAt, hasBits, mayHold, bucketOf, isHit, firstIn, findBy}
+use Rattle.object.specs.HashTable.{bucketCount, bucketAt, chainAt, isLast, nextSymbol, fuel, walk, walkFrom, bloomAt, hasBits, mayHold, bucketOf, isExportedHit, firstIn, findBy}
 
 -- a shift by 32 or more leaves nothing of a 32-bit number
 pub shifted-out : (h k : ℕ) → h < 2 ^ 32 → 32 ≤ k → h / 2 ^ k ≡ 0
@@ -69,6 +69,6 @@ module _ (m : List ℕ) (symbols strings : ℕ) (t : HashTable) (name : List ℕ
 
   -- the walk begins
   pub find-start : (b f : ℕ) → f ≡ fuel m t → mayHold m t g ≡ true → b ≡ leAt 4 (mem m) (bucketAt t (bucketOf t g e)) → (b ≡ 0 → ⊥)
-      → findBy m symbols strings t name g e ≡ firstIn (isHit m symbols strings t name g) (walk m t f b)
+      → findBy m symbols strings t name g e ≡ firstIn (isExportedHit m symbols strings t name g) (walk m t f b)
   unfolding findBy walkFrom
   find-start b f q h z nz = rw (q, h, ← z, ne-eqb b 0 nz)

@@ -27,7 +27,7 @@ use Rattle.object.specs.declared.hash_tables.Found.the-variants.{Hit, Mi
 use Rattle.object.specs.declared.hash_tables.SymbolCount.the-variants.{Unknown, Known}
 use Rattle.object.specs.TableBytes.{tableBytes, tableName, Agree}
 use Rattle.object.specs.Symbol.{symbolFrom, symbolAt, symbolName}
-use Rattle.object.specs.HashTable.{sysvAt, gnuAt, bucketCount, bucketAt, chainAt, isLast, nextSymbol, fuel, walk, walkFrom, reached, mayHold, bucketOf, isHit, firstIn, findBy, lookupBy, lookupIn, exportedAt, answerBy, answerIn}
+use Rattle.object.specs.HashTable.{sysvAt, gnuAt, bucketCount, bucketAt, chainAt, isLast, nextSymbol, fuel, walk, walkFrom, reached, mayHold, bucketOf, isHit, isExportedHit, firstIn, findBy, lookupBy, lookupIn, answerOf, answerBy, answerIn}
 use Rattle.object.specs.HashCheck.{startOf, tableSize, numbersOk, bucketOk, lengthOk, chainOk, symbolOk, stepOk, walkOk, tableOk}
 use Rattle.object.specs.SymbolCount.{highest, lastReached, pastWalk, tableCount, countOf}
 use Rattle.object.proofs.Ranges.{split, below-at, below-all}
@@ -276,12 +276,17 @@ module _ (isT : ℕ → Bool) (m m′ : List ℕ) (agree : Agree isT m m′) whe
         let h = step-parts s o in
         rw (chain-word t bytes s (h .0), symbol-name-same symbols strings s (h .1))
 
+    exported-same : (name : List ℕ) (g s : ℕ) → stepOk isT m symbols strings t s ≡ true
+        → isExportedHit m′ symbols strings t name g s ≡ isExportedHit m symbols strings t name g s
+    unfolding isExportedHit
+    exported-same name g s o = rw (hit-same name g s o, symbol-same symbols strings s (step-parts s o .1))
+
     bucket-same : (name : List ℕ) (g i : ℕ) → i < bucketCount t
-        → firstIn (isHit m′ symbols strings t name g) (reached m′ t i) ≡ firstIn (isHit m symbols strings t name g) (reached m t i)
+        → firstIn (isExportedHit m′ symbols strings t name g) (reached m′ t i) ≡ firstIn (isExportedHit m symbols strings t name g) (reached m t i)
     bucket-same name g i l =
         rw (reached-same i l)
-        (first-cong (isHit m symbols strings t name g) (isHit m′ symbols strings t name g) (stepOk isT m symbols strings t)
-        (λ s o. hit-same name g s o) (reached m t i) (passes i l))
+        (first-cong (isExportedHit m symbols strings t name g) (isExportedHit m′ symbols strings t name g) (stepOk isT m symbols strings t)
+        (λ s o. exported-same name g s o) (reached m t i) (passes i l))
 
     -- the lookup of every name
     pub find-same : (name : List ℕ) (g e : ℕ) → findBy m′ symbols strings t name g e ≡ findBy m symbols strings t name g e
@@ -300,7 +305,7 @@ module _ (isT : ℕ → Bool) (m m′ : List ℕ) (agree : Agree isT m m′) whe
     found-ok name g e s f =
         go (mayHold m t g) f
         (λ h f′.
-        step-parts s (first-ok (isHit m symbols strings t name g) (stepOk isT m symbols strings t) (reached m t (bucketOf t g e)) s
+        step-parts s (first-ok (isExportedHit m symbols strings t name g) (stepOk isT m symbols strings t) (reached m t (bucketOf t g e)) s
         (passes (bucketOf t g e) (bucket-in t numbers g e h)) f′) .1)
       where
         go : (b : Bool) {x : Found} {A : Type 0} → pick b x Miss ≡ Hit s → (b ≡ true → x ≡ Hit s → A) → A
@@ -309,15 +314,15 @@ module _ (isT : ℕ → Bool) (m m′ : List ℕ) (agree : Agree isT m m′) whe
 
     -- the object's answer
     answer-of : (f : Found) → ((s : ℕ) → f ≡ Hit s → symbolOk isT m symbols strings s ≡ true)
-        → exportedAt m′ symbols f ≡ exportedAt m symbols f
-    unfolding exportedAt
+        → answerOf m′ symbols f ≡ answerOf m symbols f
+    unfolding answerOf
     answer-of Miss o = refl
     answer-of (Hit s) o = rw (symbol-same symbols strings s (o s refl))
 
     pub answer-same : (name : List ℕ) (g e : ℕ)
-        → exportedAt m′ symbols (findBy m′ symbols strings t name g e) ≡ exportedAt m symbols (findBy m symbols strings t name g e)
+        → answerOf m′ symbols (findBy m′ symbols strings t name g e) ≡ answerOf m symbols (findBy m symbols strings t name g e)
     answer-same name g e =
-        ap (exportedAt m′ symbols) (find-same name g e)
+        ap (answerOf m′ symbols) (find-same name g e)
         ∙ answer-of (findBy m symbols strings t name g e) (λ s f. found-ok name g e s f)
 
     -- the symbol count

@@ -1,9 +1,10 @@
 -- A name in an object's hash table. System V gABI, "Hash Table": nbucket, nchain, bucket, chain; "if the hashing function returns the value
 -- x for some name, bucket[x%nbucket] gives an index, y, into both the symbol table and the chain table", and "chain[y] gives the next symbol
 -- table entry", until "the chain entry contains the value STN_UNDEF" (0). DT_GNU_HASH text: header (nbuckets, symndx, maskwords, shift2),
--- bloom filter, buckets, hash values, whose lowest bit marks the end of a chain. Document 01: "The bloom test, bucket and chain go as in
--- `HashTable::lookup`. The first hit by name decides for its object"; "The address is st_value for section 0xFFF1, else base + st_value
--- modulo 2^64". Assumes nothing.
+-- bloom filter, buckets, hash values, whose lowest bit marks the end of a chain. Document 01, "An address for a name": "The bloom test,
+-- bucket and chain go as in `HashTable::lookup`"; "exported means section not 0, binding 1 or 2, visibility 0 or 3"; "The address is
+-- st_value for section 0xFFF1, else base + st_value modulo 2^64". Document 02, (c): "A search now passes over a hit that is not exported and
+-- goes on in that chain". Assumes nothing.
 use mathlib.Core.Bool.{Bool, true, false, not}
 use mathlib.Core.List.{List, [], _∷_}
 use Prim.Native.Nat.{ℕ, zero, suc, _+_, _-_, _*_, _/_, _%_, _^_, _<_, min}
@@ -117,19 +118,24 @@ sameHash Without w g = false
 sameHash (SysV at n c) w g = true
 sameHash (Gnu at n symoffset b shift) w g = eqb (bitOr w 1) (bitOr g 1)
 
--- whether symbol `s` is a hit
+-- whether symbol `s` is a hit by name
 unfoldable pub isHit : List ℕ → ℕ → ℕ → HashTable → List ℕ → ℕ → ℕ → Bool
 isHit image symbols strings t name g s =
     both (sameHash t (leAt 4 (mem image) (chainAt t s)) g) (sameBytes (symbolName image symbols strings s) name)
+
+-- whether the search takes it: "A search now passes over a hit that is not exported"
+unfoldable pub isExportedHit : List ℕ → ℕ → ℕ → HashTable → List ℕ → ℕ → ℕ → Bool
+isExportedHit image symbols strings t name g s =
+    both (isHit image symbols strings t name g s) (isExported (symbolAt image symbols s))
 
 unfoldable pub firstIn : (ℕ → Bool) → List ℕ → Found
 firstIn p [] = Miss
 firstIn p (s ∷ l) = pick (p s) (Hit s) (firstIn p l)
 
--- the first hit of the name's bucket, for a name with the hashes `g` and `e`
+-- the first exported hit in the chain of the name's bucket, "that chain", for a name with the hashes `g` and `e`
 unfoldable pub findBy : List ℕ → ℕ → ℕ → HashTable → List ℕ → ℕ → ℕ → Found
 findBy image symbols strings t name g e =
-    pick (mayHold image t g) (firstIn (isHit image symbols strings t name g) (reached image t (bucketOf t g e))) Miss
+    pick (mayHold image t g) (firstIn (isExportedHit image symbols strings t name g) (reached image t (bucketOf t g e))) Miss
 
 abbrev pub lookupBy : List ℕ → View → List ℕ → ℕ → ℕ → Found
 lookupBy image v name g e = findBy image (v .symbols) (v .strings) (v .table) name g e
@@ -149,14 +155,13 @@ unfoldable pub definition : ℕ → Symbol → Definition
 definition s y =
     record { index = s; value = y .value; size = y .size; protected = isProtected y; absolute = isAbsolute y }
 
--- the first hit decides for its object: "exported ..; else that object has none"
-unfoldable pub exportedAt : List ℕ → ℕ → Found → Exported
-exportedAt image symbols Miss = Absent
-exportedAt image symbols (Hit s) =
-    pick (isExported (symbolAt image symbols s)) (Present (definition s (symbolAt image symbols s))) Absent
+-- what the symbol that was found says; "else that object has none"
+unfoldable pub answerOf : List ℕ → ℕ → Found → Exported
+answerOf image symbols Miss = Absent
+answerOf image symbols (Hit s) = Present (definition s (symbolAt image symbols s))
 
 abbrev pub answerBy : List ℕ → View → List ℕ → ℕ → ℕ → Exported
-answerBy image v name g e = exportedAt image (v .symbols) (lookupBy image v name g e)
+answerBy image v name g e = answerOf image (v .symbols) (lookupBy image v name g e)
 
 abbrev pub answerIn : List ℕ → View → List ℕ → Exported
 answerIn image v name = answerBy image v name (gnuHash name) (elfHash name)

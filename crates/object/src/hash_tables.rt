@@ -6,7 +6,7 @@ ghost use Rattle.words.specs.Memory.{mem};
 ghost use Rattle.words.specs.Words.{leAt};
 ghost use Rattle.words.specs.Names.{sameBytes};
 ghost use Rattle.object.specs.Symbol.{symbolName};
-ghost use Rattle.object.specs.HashTable.{sysvAt, gnuAt, bucketCount, bucketAt, chainAt, isLast, nextSymbol, fuel, walk, bloomAt, hasBits, mayHold, bucketOf, sameHash, isHit, lookupBy, small, answerBy, addressOf};
+ghost use Rattle.object.specs.HashTable.{sysvAt, gnuAt, bucketCount, bucketAt, chainAt, isLast, nextSymbol, fuel, walk, bloomAt, hasBits, mayHold, bucketOf, sameHash, isExportedHit, lookupBy, small, answerBy, addressOf};
 ghost use Rattle.object.specs.HashCheck.{startOf};
 ghost use Rattle.object.specs.SymbolCount.{highest, lastReached, tableCount, countOf};
 
@@ -281,19 +281,22 @@ fn same_hash(t: HashTable, w: u32, gnu: u32) -> bool
     }
 }
 
-// Whether symbol `s`, whose chain word is `w`, is a hit.
+// Whether the search takes symbol `s`, whose chain word is `w`: a hit that is exported. Names are compared first.
 fn accepts(image: &[u8], v: View, name: &[u8], gnu: u32, s: usize, w: u32) -> bool
     requires { ⌜ (s < 2 ^ 40) × (w ≡ leAt 4 (mem (now image)) (chainAt (v .table) s)) ⌝ }
-    ensures { λ r. ⌜ r ≡ isHit (now (image .entry)) (v .symbols) (v .strings) (v .table) (now (name .entry)) gnu s ⌝ }
+    ensures { λ r. ⌜ r ≡ isExportedHit (now (image .entry)) (v .symbols) (v .strings) (v .table) (now (name .entry)) gnu s ⌝ }
 {
     let t = v.table;
     if !same_hash(t, w, gnu) {
         return false;
     }
-    named(image, v.symbols, v.strings, s, name)
+    if !named(image, v.symbols, v.strings, s, name) {
+        return false;
+    }
+    crate::symbol::exported_off(image, v.symbols, 24 * s)
 }
 
-// The first symbol with the name in the bucket of the name, whose hashes are given.
+// The first exported symbol with the name in the chain of the name's bucket; the name's hashes are given.
 pub fn lookup(image: &[u8], v: View, name: &[u8], gnu: u32, elf: u32) -> Found
     ensures { λ r. ⌜ (r ≡ lookupBy (now (image .entry)) v (now (name .entry)) gnu elf) × small r ⌝ }
 {
@@ -321,7 +324,7 @@ pub fn lookup(image: &[u8], v: View, name: &[u8], gnu: u32, elf: u32) -> Found
     Found::Miss
 }
 
-// The object's answer for a name, whose hashes are given: its first hit, if that is exported.
+// The object's answer for a name, whose hashes are given: its first exported hit.
 pub fn ask(image: &[u8], v: View, name: &[u8], gnu: u32, elf: u32) -> Exported
     ensures { λ r. ⌜ r ≡ answerBy (now (image .entry)) v (now (name .entry)) gnu elf ⌝ }
 {
@@ -331,9 +334,6 @@ pub fn ask(image: &[u8], v: View, name: &[u8], gnu: u32, elf: u32) -> Exported
         return Exported::Absent;
     };
     let y = crate::symbol::symbol_off(image, symbols, 24 * s);
-    if !crate::symbol::is_exported(y) {
-        return Exported::Absent;
-    }
     Exported::Present(Definition {
         index: s,
         value: y.value,

@@ -116,3 +116,15 @@ pub fn is_exported(y: Symbol) -> bool
     }
     is_visible(y)
 }
+
+// Whether the symbol whose bytes stand `k` places after `at` is exported: what a search asks of each hit by name.
+pub(crate) fn exported_off(image: &[u8], at: usize, k: usize) -> bool
+    ensures { λ r. ⌜ r ≡ isExported (symbolFrom (now (image .entry)) (at + k)) ⌝ }
+{
+    let n = image.len();
+    let p = words::bytes::place(n, at, k);
+    if n - p < 24 {
+        return is_exported(symbol_over(image, p));
+    }
+    is_exported(symbol_in(image, p))
+}

@@ -49,7 +49,7 @@ bits-out arena off span at n shift g w fits is ne =
 
 -- a table that cannot hold the name
 miss : (image : List ℕ) (v : View) (name : List ℕ) (g e : ℕ) → mayHold image (v .table) g ≡ false → answerBy image v name g e ≡ Absent
-unfolding table.exportedAt
+unfolding table.answerOf
 miss image v name g e h = rw (find-not image (v .symbols) (v .strings) (v .table) name g e h)
 
 lacks-of : (arena : List ℕ) (s : Link) (g : ℕ) → mayHold (imageAt arena s) (s .view .table) g ≡ false → Lacks arena s g

@@ -14,7 +14,7 @@ use Rattle.object.specs.declared.hash_tables.Definition.{Definition}
 use Rattle.object.specs.declared.hash_tables.HashTable.the-variants.{Without, Gnu}
 use Rattle.object.specs.declared.hash_tables.Found as looked
 use Rattle.object.specs.HashTable as hash
-use Rattle.object.specs.HashTable.{findBy, exportedAt}
+use Rattle.object.specs.HashTable.{findBy, answerOf}
 use Rattle.scope.specs.declared.scope.Resolved.{Resolved}
 use Rattle.scope.specs.declared.scope.Resolved.the-variants.{Absent, Found}
 use Rattle.scope.specs.Steps.Links.{wordAt, linkAt, linksFrom}
@@ -40,7 +40,7 @@ module _ (arena table : List ℕ) (k : ℕ) (name : List ℕ) (g e e′ : ℕ) (
       go true q = ap (λ (h : ℕ). answerAt arena (linkAt table k) name g h) (same (eqb-true (wordAt table k 4) 1 q))
       go false q =
           rw q
-          (ap (λ (f : looked.Found). exportedAt (take (wordAt table k 1) (drop (wordAt table k 0) arena)) (wordAt table k 2) f)
+          (ap (λ (f : looked.Found). answerOf (take (wordAt table k 1) (drop (wordAt table k 0) arena)) (wordAt table k 2) f)
           (no-use (take (wordAt table k 1) (drop (wordAt table k 0) arena)) (wordAt table k 2) (wordAt table k 3) (eqb (wordAt table k 4) 2) (wordAt table k 5) (wordAt table k 6 % 2 ^ 32) (wordAt table k 7 % 2 ^ 32) (wordAt table k 8 % 2 ^ 32) (wordAt table k 9 % 2 ^ 32) name g e e′))
 
   pub link-any : (address : ℕ) → linkAnswer address arena k (linkAt table k) name g e ≡ linkAnswer address arena k (linkAt table k) name g e′

@@ -1,9 +1,7 @@
 -- `object::hash_tables::ask` meets its contract. Assumes nothing.
-use mathlib.Core.Path.{sym, _∙_}
 use native.Mathlib.Omega.{arith}
-use borrow.Author.Tests.{not-true, not-false}
 use borrow.Author.Needs.{needs}
-use Rattle.object.specs.HashTable.{exportedAt, definition}
+use Rattle.object.specs.HashTable.{answerOf, definition}
 use Rattle.object.proofs.hash_tables.ask.Statement.{statement}
 use Rattle.object.proofs.hash_tables.ask.Tie as tie
 
@@ -17,7 +15,7 @@ enum-told : tie.Need-enum-told
 enum-told c = search needs
 
 returns : tie.Need-returns
-unfolding exportedAt
+unfolding answerOf
 returns c =
     rw (← c .before .before .lookup .ensures .0, c .enum-told .given .1)
 
@@ -29,18 +27,10 @@ mul-symbol-off c =
 symbol-off-requires : tie.Need-symbol-off-requires
 symbol-off-requires c κs = search needs
 
-is-exported-requires : tie.Need-is-exported-requires
-is-exported-requires c κs = search needs
-
 returns-2 : tie.Need-returns-2
-unfolding exportedAt
+unfolding answerOf definition
 returns-2 c =
-    rw (← c .before .before .before .before .before .before .lookup .ensures .0, c .before .before .before .before .f .given .1, ← c .before .before .symbol-off .ensures, sym (c .before .is-exported .ensures) ∙ not-true _ (c .if1 .taken))
-
-returns-3 : tie.Need-returns-3
-unfolding exportedAt definition
-returns-3 c =
-    rw (← c .before .before .before .before .before .before .before .before .lookup .ensures .0, c .before .before .before .before .before .before .f .given .1, ← c .before .before .before .before .symbol-off .ensures, sym (c .before .before .before .is-exported .ensures) ∙ not-false _ (c .before .before .if1 .left))
+    rw (← c .before .before .before .before .before .before .lookup .ensures .0, c .before .before .before .before .f .given .1, ← c .before .before .symbol-off .ensures)
 
 pub ask-spec : {M : Type 1} → statement M
 ask-spec =
@@ -52,6 +42,4 @@ ask-spec =
     returns
     mul-symbol-off
     symbol-off-requires
-    is-exported-requires
-    returns-2
-    returns-3)
+    returns-2)

@@ -1,4 +1,4 @@
--- `object::hash_tables::lookup` meets its contract. The invariant: the answer is the first hit of what is left of the walk. Assumes nothing.
+-- `object::hash_tables::lookup` meets its contract. The invariant: the answer is the first exported hit of what is left of the walk. Assumes nothing.
 use borrow.Author.Needs.{needs}
 use Prim.Native.Nat.{ℕ, _+_, _-_, _^_, _≤_}
 use Rattle.object.proofs.FindLaws.{find-here, find-last, find-on, find-out, find-not, find-empty, find-start, held-buckets}
@@ -10,7 +10,7 @@ use Rattle.object.proofs.hash_tables.fuel_of.Reads as fuel-of-reads
 use Rattle.object.proofs.hash_tables.is_last.Reads as is-last-reads
 use Rattle.object.proofs.hash_tables.may_hold.Reads as may-hold-reads
 use Rattle.object.proofs.hash_tables.next_symbol.Reads as next-symbol-reads
-use Rattle.object.specs.HashTable.{findBy, firstIn, isHit, walk}
+use Rattle.object.specs.HashTable.{findBy, firstIn, isExportedHit, walk}
 use borrow.Author.Tests.{not-true, not-false}
 use denote.Ref.{now}
 use mathlib.Core.Path.{_≡_, sym, ap, _∙_}
@@ -22,7 +22,7 @@ abbrev Inv-loop : tie.InvT-loop
 Inv-loop image v name gnu elf t b s₀ left₀ s left =
     (left ≤ 2 ^ 32) × (s + left ≤ 2 ^ 33)
     × (findBy image (v .symbols) (v .strings) (v .table) name gnu elf
-    ≡ firstIn (isHit image (v .symbols) (v .strings) (v .table) name gnu) (walk image (v .table) left s))
+    ≡ firstIn (isExportedHit image (v .symbols) (v .strings) (v .table) name gnu) (walk image (v .table) left s))
 
 abbrev μ-loop : tie.MeasureT-loop
 μ-loop image v name gnu elf t b s₀ left₀ s left =
@@ -62,7 +62,7 @@ loop-again c =
     let a = c .before .before .before .before .before .before .before .before .before .before .before .before .before .before .before .before .args in
     let l = c .before .before .before .before .before .before .before .loop in
     let on = find-on (now (a .image)) (a .v .table) _ (l .s) (l .left) (c .before .before .before .before .before .chain-word .result) (l .left - 1) (omega arith) (c .before .before .before .before .before .chain-word .ensures) (sym (c .before .before .before .before .accepts .ensures) ∙ c .before .before .before .if3 .left) (sym (c .before .before .is-last .ensures) ∙ c .before .if4 .left) in
-    (omega arith, omega arith, l .inv .2 ∙ on ∙ ap (λ (x : ℕ). firstIn (isHit (now (a .image)) (a .v .symbols) (a .v .strings) (a .v .table) (now (a .name)) (a .gnu)) (walk (now (a .image)) (a .v .table) (l .left - 1) x)) (sym (c .next-symbol .ensures .0)))
+    (omega arith, omega arith, l .inv .2 ∙ on ∙ ap (λ (x : ℕ). firstIn (isExportedHit (now (a .image)) (a .v .symbols) (a .v .strings) (a .v .table) (now (a .name)) (a .gnu)) (walk (now (a .image)) (a .v .table) (l .left - 1) x)) (sym (c .next-symbol .ensures .0)))
 
 returns-5 : tie.Need-returns-5 Inv-loop μ-loop
 returns-5 c =
