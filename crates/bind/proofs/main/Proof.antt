@@ -16,29 +16,11 @@ use Rattle.io.proofs.write_all.Reads as write-all-reads
 use Rattle.program.proofs.run.Reads as run-reads
 
 -- src/main.rt:7:41
-slice-aggregate-read-full : tie.Need-slice-aggregate-read-full
-slice-aggregate-read-full c = search needs
-
 -- src/main.rt:7:9
-read-full-requires : tie.Need-read-full-requires
-read-full-requires c κs = search needs
-
 -- src/main.rt:9:26
-array-share-prefix-buffer : tie.Need-array-share-prefix-buffer
-array-share-prefix-buffer c = search needs
-
 -- src/main.rt:9:26
-slice-aggregate-run : tie.Need-slice-aggregate-run
-slice-aggregate-run c = search needs
-
 -- src/main.rt:9:40
-slice-aggregate-run-2 : tie.Need-slice-aggregate-run-2
-slice-aggregate-run-2 c = search needs
-
 -- src/main.rt:9:9
-run-requires : tie.Need-run-requires
-run-requires c κs = search needs
-
 -- src/main.rt:10:34
 array-share-prefix-out : tie.Need-array-share-prefix-out
 array-share-prefix-out c =
@@ -50,24 +32,18 @@ slice-aggregate-write-all c =
     sym (length-take-le (c .before .before .run .result) (c .before .before .run .last .1 .0) (array-share-prefix-out (c .before)))
 
 -- src/main.rt:10:5
-write-all-requires : tie.Need-write-all-requires
-write-all-requires c κs = search needs
-
 -- src/main.rt:5:1
-returns : tie.Need-returns
-returns c = search needs
-
 pub main-spec : {M : Type 1} → statement M
 main-spec =
     tie.close
     (tie.spec
-    slice-aggregate-read-full
-    read-full-requires
-    array-share-prefix-buffer
-    slice-aggregate-run
-    slice-aggregate-run-2
-    run-requires
+    (λ c. search needs)
+    (λ c κs. search needs)
+    (λ c. search needs)
+    (λ c. search needs)
+    (λ c. search needs)
+    (λ c κs. search needs)
     array-share-prefix-out
     slice-aggregate-write-all
-    write-all-requires
-    returns)
+    (λ c κs. search needs)
+    (λ c. search needs))

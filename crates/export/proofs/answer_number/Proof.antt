@@ -6,21 +6,9 @@ use Rattle.export.proofs.answer_number.Reads as reads
 use Rattle.export.proofs.answer_number.Lts as lts
 use Rattle.export.proofs.pack.Reads as pack-reads
 
-enum-told : tie.Need-enum-told
-enum-told c = search needs
-
-enum-known-a : tie.Need-enum-known-a
-enum-known-a c = search needs
-
-pack-requires : tie.Need-pack-requires
-pack-requires c κs = search needs
-
-returns : tie.Need-returns
-returns c = search needs
-
 returns-2 : tie.Need-returns-2
 returns-2 c =
     rw (c .before .before .a .given .1) (c .pack .ensures)
 
 pub answer-number-spec : {M : Type 1} → statement M
-answer-number-spec = tie.close (tie.spec enum-told enum-known-a pack-requires returns returns-2)
+answer-number-spec = tie.close (tie.spec (λ c. search needs) (λ c. search needs) (λ c κs. search needs) (λ c. search needs) returns-2)

@@ -11,21 +11,6 @@ use Rattle.binder.proofs.bind.bind.Reads as bind-reads
 use Rattle.export.proofs.answer_number.Reads as answer-number-reads
 use Rattle.export.proofs.policy_of.Reads as policy-of-reads
 
-policy-of-requires : tie.Need-policy-of-requires
-policy-of-requires c κs = search needs
-
-bind-requires : tie.Need-bind-requires
-bind-requires c κs = search needs
-
-answer-number-requires : tie.Need-answer-number-requires
-answer-number-requires c κs = search needs
-
-same-length : tie.Need-same-length
-same-length c = search needs
-
-same-length-2 : tie.Need-same-length-2
-same-length-2 c = search needs
-
 returns : tie.Need-returns
 returns c =
     ap (λ (n : ℕ). called n (c .before .before .before .before .before .bind .last .1 .1 .0) (c .before .before .before .before .before .bind .last .1 .1 .1 .1 .1 .0)) (c .answer-number .ensures)
@@ -35,9 +20,9 @@ pub lugwormpin-bind-spec : {M : Type 1} → statement M
 lugwormpin-bind-spec =
     tie.close
     (tie.spec
-    policy-of-requires
-    bind-requires
-    answer-number-requires
-    same-length
-    same-length-2
+    (λ c κs. search needs)
+    (λ c κs. search needs)
+    (λ c κs. search needs)
+    (λ c. search needs)
+    (λ c. search needs)
     returns)

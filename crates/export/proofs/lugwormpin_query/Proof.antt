@@ -11,18 +11,6 @@ use Rattle.export.proofs.lugwormpin_query.Lts as lts
 use Rattle.binder.proofs.query.query.Reads as query-reads
 use Rattle.export.proofs.store_reply.Reads as store-reply-reads
 
-query-requires : tie.Need-query-requires
-query-requires c κs = search needs
-
-store-reply-requires : tie.Need-store-reply-requires
-store-reply-requires c κs = search needs
-
-same-length : tie.Need-same-length
-same-length c = search needs
-
-same-length-2 : tie.Need-same-length-2
-same-length-2 c = search needs
-
 returns : tie.Need-returns
 returns c =
     rw (c .before .before .store-reply .ensures .0, c .before .before .store-reply .ensures .1)
@@ -30,4 +18,4 @@ returns c =
 
 pub lugwormpin-query-spec : {M : Type 1} → statement M
 lugwormpin-query-spec =
-    tie.close (tie.spec query-requires store-reply-requires same-length same-length-2 returns)
+    tie.close (tie.spec (λ c κs. search needs) (λ c κs. search needs) (λ c. search needs) (λ c. search needs) returns)

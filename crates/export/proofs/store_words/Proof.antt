@@ -27,30 +27,12 @@ loop-holds : tie.Need-loop-holds Inv-loop μ-loop
 loop-holds c =
     (search needs, search needs, sym (patch-none (now (c .before .before .args .answer)) 0 (mem (now (c .before .before .args .words)))))
 
-word-at-requires : tie.Need-word-at-requires Inv-loop μ-loop
-word-at-requires c κs = search needs
-
-mul-answer : tie.Need-mul-answer Inv-loop μ-loop
-mul-answer c = search needs
-
-slice-write-answer : tie.Need-slice-write-answer Inv-loop μ-loop
-slice-write-answer c = search needs
-
-add-i : tie.Need-add-i Inv-loop μ-loop
-add-i c = search needs
-
-loop-less : tie.Need-loop-less Inv-loop μ-loop
-loop-less c = search needs
-
 loop-again : tie.Need-loop-again Inv-loop μ-loop
 loop-again c =
     let a = c .before .before .before .before .before .args in
     let l = c .before .before .loop in
     let z : 0 + l .i ≡ l .i = omega arith in
     (omega arith, simp length-set (l .inv .1), patch-next (now (a .answer)) 0 (l .i) (mem (now (a .words))) (l .inv .2) (rw z (ap (set (l .answer) (l .i)) (c .word-at .ensures))))
-
-same-length : tie.Need-same-length Inv-loop μ-loop
-same-length c = search needs
 
 returns : tie.Need-returns Inv-loop μ-loop
 returns c =
@@ -66,11 +48,11 @@ store-words-spec =
     Inv-loop
     μ-loop
     loop-holds
-    word-at-requires
-    mul-answer
-    slice-write-answer
-    add-i
-    loop-less
+    (λ c κs. search needs)
+    (λ c. search needs)
+    (λ c. search needs)
+    (λ c. search needs)
+    (λ c. search needs)
     loop-again
-    same-length
+    (λ c. search needs)
     returns)

@@ -10,12 +10,6 @@ use Rattle.export.proofs.word_at.Tie as tie
 use Rattle.export.proofs.word_at.Reads as reads
 use Rattle.export.proofs.word_at.Lts as lts
 
-mul-result : tie.Need-mul-result
-mul-result c = search needs
-
-shared-slice-read-result : tie.Need-shared-slice-read-result
-shared-slice-read-result c = search needs
-
 returns : tie.Need-returns
 unfolding memory.mem
 returns c = search needs
@@ -26,4 +20,4 @@ returns-2 c =
     sym (mem-past (now (a .words)) (a .i) (omega arith))
 
 pub word-at-spec : {M : Type 1} → statement M
-word-at-spec = tie.close (tie.spec mul-result shared-slice-read-result returns returns-2)
+word-at-spec = tie.close (tie.spec (λ c. search needs) (λ c. search needs) returns returns-2)

@@ -17,42 +17,9 @@ use Rattle.program.proofs.bind_sheet.Lts as lts
 use Rattle.binder.proofs.bind.bind.Reads as bind-reads
 use Rattle.program.proofs.read_words.Reads as read-words-reads
 
-slice-aggregate-read-words : tie.Need-slice-aggregate-read-words
-slice-aggregate-read-words c = search needs
-
-read-words-requires : tie.Need-read-words-requires
-read-words-requires c κs = search needs
-
-mul-start : tie.Need-mul-start
-mul-start c = search needs
-
-add-start : tie.Need-add-start
-add-start c = search needs
-
-array-share-prefix-sheet : tie.Need-array-share-prefix-sheet
-array-share-prefix-sheet c = search needs
-
 slice-aggregate-bind : tie.Need-slice-aggregate-bind
 slice-aggregate-bind c =
     sym (length-take-le (c .before .before .before .before .before .before .before .args .count) (c .before .before .read-words .last .1 .0) (omega arith))
-
-sub-bind : tie.Need-sub-bind
-sub-bind c = search needs
-
-part-bind-start : tie.Need-part-bind-start
-part-bind-start c = search needs
-
-part-bind-end : tie.Need-part-bind-end
-part-bind-end c = search needs
-
-bind-requires : tie.Need-bind-requires
-bind-requires c κs = search needs
-
-same-length : tie.Need-same-length
-same-length c = search needs
-
-same-length-2 : tie.Need-same-length-2
-same-length-2 c = search needs
 
 returns : tie.Need-returns
 returns c =
@@ -68,16 +35,16 @@ pub bind-sheet-spec : {M : Type 1} → statement M
 bind-sheet-spec =
     tie.close
     (tie.spec
-    slice-aggregate-read-words
-    read-words-requires
-    mul-start
-    add-start
-    array-share-prefix-sheet
+    (λ c. search needs)
+    (λ c κs. search needs)
+    (λ c. search needs)
+    (λ c. search needs)
+    (λ c. search needs)
     slice-aggregate-bind
-    sub-bind
-    part-bind-start
-    part-bind-end
-    bind-requires
-    same-length
-    same-length-2
+    (λ c. search needs)
+    (λ c. search needs)
+    (λ c. search needs)
+    (λ c κs. search needs)
+    (λ c. search needs)
+    (λ c. search needs)
     returns)

@@ -15,57 +15,9 @@ use Rattle.program.proofs.digit_of.Reads as digit-of-reads
 use Rattle.program.proofs.put.Reads as put-reads
 use Rattle.program.proofs.width.Reads as width-reads
 
-digit-of-requires : tie.Need-digit-of-requires
-digit-of-requires c κs = search needs
-
-digit-of-requires-2 : tie.Need-digit-of-requires-2
-digit-of-requires-2 c κs = search needs
-
-digit-of-requires-3 : tie.Need-digit-of-requires-3
-digit-of-requires-3 c κs = search needs
-
-digit-of-requires-4 : tie.Need-digit-of-requires-4
-digit-of-requires-4 c κs = search needs
-
-digit-of-requires-5 : tie.Need-digit-of-requires-5
-digit-of-requires-5 c κs = search needs
-
-digit-of-requires-6 : tie.Need-digit-of-requires-6
-digit-of-requires-6 c κs = search needs
-
-digit-of-requires-7 : tie.Need-digit-of-requires-7
-digit-of-requires-7 c κs = search needs
-
-digit-of-requires-8 : tie.Need-digit-of-requires-8
-digit-of-requires-8 c κs = search needs
-
-digit-of-requires-9 : tie.Need-digit-of-requires-9
-digit-of-requires-9 c κs = search needs
-
-digit-of-requires-10 : tie.Need-digit-of-requires-10
-digit-of-requires-10 c κs = search needs
-
-width-requires : tie.Need-width-requires
-width-requires c κs = search needs
-
 sub-start : tie.Need-sub-start
 sub-start c =
     omega (arith, c .width .ensures, width-most 9 1 (c .before .before .before .before .before .before .before .before .before .before .before .before .args .v))
-
-sub-put : tie.Need-sub-put
-sub-put c = search needs
-
-part-put-start : tie.Need-part-put-start
-part-put-start c = search needs
-
-part-put-end : tie.Need-part-put-end
-part-put-end c = search needs
-
-put-requires : tie.Need-put-requires
-put-requires c κs = search needs
-
-same-length : tie.Need-same-length
-same-length c = search needs
 
 returns : tie.Need-returns
 unfolding digits
@@ -78,21 +30,21 @@ pub put-decimal-spec : {M : Type 1} → statement M
 put-decimal-spec =
     tie.close
     (tie.spec
-    digit-of-requires
-    digit-of-requires-2
-    digit-of-requires-3
-    digit-of-requires-4
-    digit-of-requires-5
-    digit-of-requires-6
-    digit-of-requires-7
-    digit-of-requires-8
-    digit-of-requires-9
-    digit-of-requires-10
-    width-requires
+    (λ c κs. search needs)
+    (λ c κs. search needs)
+    (λ c κs. search needs)
+    (λ c κs. search needs)
+    (λ c κs. search needs)
+    (λ c κs. search needs)
+    (λ c κs. search needs)
+    (λ c κs. search needs)
+    (λ c κs. search needs)
+    (λ c κs. search needs)
+    (λ c κs. search needs)
     sub-start
-    sub-put
-    part-put-start
-    part-put-end
-    put-requires
-    same-length
+    (λ c. search needs)
+    (λ c. search needs)
+    (λ c. search needs)
+    (λ c κs. search needs)
+    (λ c. search needs)
     returns)

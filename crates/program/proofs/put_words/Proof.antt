@@ -28,29 +28,11 @@ loop-holds : tie.Need-loop-holds Inv-loop μ-loop
 loop-holds c =
     (refl, omega arith, omega arith, refl)
 
-mul-w : tie.Need-mul-w Inv-loop μ-loop
-mul-w c = search needs
-
-shared-slice-read-w : tie.Need-shared-slice-read-w Inv-loop μ-loop
-shared-slice-read-w c = search needs
-
-same-length : tie.Need-same-length Inv-loop μ-loop
-same-length c = search needs
-
 returns : tie.Need-returns Inv-loop μ-loop
 unfolding hexLines
 returns c =
     let l = c .before .before .before .loop in
     sym (print-none (l .out) (l .at) (l .inv .1)) ∙ rw (name-stop (now (c .before .before .before .before .before .before .args .report)) (l .i) (omega arith) (c .if1 .taken)) at (l .inv .3)
-
-put-word-requires : tie.Need-put-word-requires Inv-loop μ-loop
-put-word-requires c κs = search needs
-
-add-i : tie.Need-add-i Inv-loop μ-loop
-add-i c = search needs
-
-loop-less : tie.Need-loop-less Inv-loop μ-loop
-loop-less c = search needs
 
 loop-again : tie.Need-loop-again Inv-loop μ-loop
 unfolding hexLines
@@ -65,9 +47,6 @@ loop-again c =
           ∙ rw (name-more (now (c .before .before .before .before .before .before .before .before .before .before .args .report)) (l .i) (omega arith) (c .before .before .before .before .if1 .left)) at (l .inv .3),
     )
 
-same-length-2 : tie.Need-same-length-2 Inv-loop μ-loop
-same-length-2 c = search needs
-
 returns-2 : tie.Need-returns-2 Inv-loop μ-loop
 unfolding hexLines
 returns-2 c =
@@ -81,13 +60,13 @@ put-words-spec =
     Inv-loop
     μ-loop
     loop-holds
-    mul-w
-    shared-slice-read-w
-    same-length
+    (λ c. search needs)
+    (λ c. search needs)
+    (λ c. search needs)
     returns
-    put-word-requires
-    add-i
-    loop-less
+    (λ c κs. search needs)
+    (λ c. search needs)
+    (λ c. search needs)
     loop-again
-    same-length-2
+    (λ c. search needs)
     returns-2)

@@ -26,36 +26,12 @@ loop-holds : tie.Need-loop-holds Inv-loop μ-loop
 loop-holds c =
     (search needs, search needs, sym (patch-none (now (c .before .before .args .sheet)) 0 (wordIn (now (c .before .before .args .input)))))
 
-mul-u32-at : tie.Need-mul-u32-at Inv-loop μ-loop
-mul-u32-at c = search needs
-
-add-u32-at : tie.Need-add-u32-at Inv-loop μ-loop
-add-u32-at c = search needs
-
-u32-at-requires : tie.Need-u32-at-requires Inv-loop μ-loop
-u32-at-requires c κs = search needs
-
-mul-sheet : tie.Need-mul-sheet Inv-loop μ-loop
-mul-sheet c = search needs
-
-slice-write-sheet : tie.Need-slice-write-sheet Inv-loop μ-loop
-slice-write-sheet c = search needs
-
-add-i : tie.Need-add-i Inv-loop μ-loop
-add-i c = search needs
-
-loop-less : tie.Need-loop-less Inv-loop μ-loop
-loop-less c = search needs
-
 loop-again : tie.Need-loop-again Inv-loop μ-loop
 loop-again c =
     let a = c .before .before .before .before .before .args in
     let l = c .before .before .loop in
     let z : 0 + l .i ≡ l .i = omega arith in
     (omega arith, simp length-set (l .inv .1), patch-next (now (a .sheet)) 0 (l .i) (wordIn (now (a .input))) (l .inv .2) (rw z (ap (set (l .sheet) (l .i)) (c .u32-at .ensures))))
-
-same-length : tie.Need-same-length Inv-loop μ-loop
-same-length c = search needs
 
 returns : tie.Need-returns Inv-loop μ-loop
 returns c =
@@ -69,13 +45,13 @@ read-words-spec =
     Inv-loop
     μ-loop
     loop-holds
-    mul-u32-at
-    add-u32-at
-    u32-at-requires
-    mul-sheet
-    slice-write-sheet
-    add-i
-    loop-less
+    (λ c. search needs)
+    (λ c. search needs)
+    (λ c κs. search needs)
+    (λ c. search needs)
+    (λ c. search needs)
+    (λ c. search needs)
+    (λ c. search needs)
     loop-again
-    same-length
+    (λ c. search needs)
     returns)

@@ -13,24 +13,6 @@ use Rattle.program.proofs.run.Lts as lts
 use Rattle.program.proofs.bind_input.Reads as bind-input-reads
 use Rattle.program.proofs.put_answer.Reads as put-answer-reads
 
-slice-aggregate-bind-input : tie.Need-slice-aggregate-bind-input
-slice-aggregate-bind-input c = search needs
-
-slice-aggregate-bind-input-2 : tie.Need-slice-aggregate-bind-input-2
-slice-aggregate-bind-input-2 c = search needs
-
-bind-input-requires : tie.Need-bind-input-requires
-bind-input-requires c κs = search needs
-
-slice-aggregate-put-answer : tie.Need-slice-aggregate-put-answer
-slice-aggregate-put-answer c = search needs
-
-put-answer-requires : tie.Need-put-answer-requires
-put-answer-requires c κs = search needs
-
-same-length : tie.Need-same-length
-same-length c = search needs
-
 returns : tie.Need-returns
 unfolding programOf
 returns c =
@@ -44,10 +26,10 @@ pub run-spec : {M : Type 1} → statement M
 run-spec =
     tie.close
     (tie.spec
-    slice-aggregate-bind-input
-    slice-aggregate-bind-input-2
-    bind-input-requires
-    slice-aggregate-put-answer
-    put-answer-requires
-    same-length
+    (λ c. search needs)
+    (λ c. search needs)
+    (λ c κs. search needs)
+    (λ c. search needs)
+    (λ c κs. search needs)
+    (λ c. search needs)
     returns)

@@ -16,9 +16,6 @@ unfolding endsBy verdict
 returns c =
     rw (ne-eqb _ _ (c .if1 .taken))
 
-allows-undefined-requires : tie.Need-allows-undefined-requires
-allows-undefined-requires c κs = search needs
-
 returns-2 : tie.Need-returns-2
 unfolding endsBy verdict unless
 returns-2 c =
@@ -35,4 +32,4 @@ returns-4 c =
     rw (eq-eqb _ _ (c .before .before .before .if1 .left), sym (c .before .before .allows-undefined .ensures) ∙ not-false _ (c .before .if2 .left), c .if3 .left)
 
 pub end-spec : {M : Type 1} → statement M
-end-spec = tie.close (tie.spec returns allows-undefined-requires returns-2 returns-3 returns-4)
+end-spec = tie.close (tie.spec returns (λ c κs. search needs) returns-2 returns-3 returns-4)

@@ -8,22 +8,10 @@ use Rattle.binder.proofs.bind.finish.Lts as lts
 use Rattle.words.proofs.bytes.clear.Reads as clear-reads
 use Rattle.words.proofs.bytes.clear_words.Reads as clear-words-reads
 
-enum-known-m : tie.Need-enum-known-m
-enum-known-m c = search needs
-
-enum-told : tie.Need-enum-told
-enum-told c = search needs
-
 returns : tie.Need-returns
 unfolding finishedOf
 returns c =
     rw (c .enum-told .given .1)
-
-clear-requires : tie.Need-clear-requires
-clear-requires c κs = search needs
-
-clear-words-requires : tie.Need-clear-words-requires
-clear-words-requires c κs = search needs
 
 same-length : tie.Need-same-length
 same-length c =
@@ -42,11 +30,11 @@ pub finish-spec : {M : Type 1} → statement M
 finish-spec =
     tie.close
     (tie.spec
-    enum-known-m
-    enum-told
+    (λ c. search needs)
+    (λ c. search needs)
     returns
-    clear-requires
-    clear-words-requires
+    (λ c κs. search needs)
+    (λ c κs. search needs)
     same-length
     same-length-2
     returns-2)

@@ -72,24 +72,15 @@ returns : tie.Need-returns
 returns c =
     not-placed (c .before .args .size) (c .before .args .t) (c .before .args .to) (c .before .args .s) (c .before .args .d) (c .before .args .n) (c .if1 .taken)
 
-ends-inside-requires : tie.Need-ends-inside-requires
-ends-inside-requires c κs = search needs
-
 returns-2 : tie.Need-returns-2
 returns-2 c =
     let a = c .before .before .before .args in
     past-span (a .size) (a .t) (a .to) (a .s) (a .d) (a .n) (c .before .before .if1 .left) (omega (arith, not-told (0 + a .d .value + a .n) (a .s .span) (c .before .ends-inside .ensures) (c .if2 .taken)))
 
-ends-inside-requires-2 : tie.Need-ends-inside-requires-2
-ends-inside-requires-2 c κs = search needs
-
 returns-3 : tie.Need-returns-3
 returns-3 c =
     let a = c .before .before .before .before .before .args in
     to-past-end (a .size) (a .t) (a .to) (a .s) (a .d) (a .n) (c .before .before .before .before .if1 .left) (omega (arith, told (0 + a .d .value + a .n) (a .s .span) (c .before .before .before .ends-inside .ensures) (c .before .before .if2 .left))) (not-told (a .t .offset + a .to + a .n) (a .size) (c .before .ends-inside2 .ensures) (c .if3 .taken))
-
-ends-inside-requires-3 : tie.Need-ends-inside-requires-3
-ends-inside-requires-3 c κs = search needs
 
 returns-4 : tie.Need-returns-4
 returns-4 c =
@@ -146,11 +137,11 @@ copy-fits-spec =
     tie.close
     (tie.spec
     returns
-    ends-inside-requires
+    (λ c κs. search needs)
     returns-2
-    ends-inside-requires-2
+    (λ c κs. search needs)
     returns-3
-    ends-inside-requires-3
+    (λ c κs. search needs)
     returns-4
     add-if5
     add-if5-2

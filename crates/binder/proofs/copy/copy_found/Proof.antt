@@ -74,22 +74,10 @@ returns c =
     let a = c .before .before .args in
     nothing (a .t) (take (a .b .count) (a .b .segments)) (a .to) (a .s) (a .d) (a .n) (a .p) (now (a .arena)) (c .if1 .taken)
 
-in-writable-requires : tie.Need-in-writable-requires
-in-writable-requires c κs = search needs
-
-refused-requires : tie.Need-refused-requires
-refused-requires c κs = search needs
-
 returns-2 : tie.Need-returns-2
 returns-2 c =
     let a = c .before .before .before .before .before .args in
     refused-17 (a .t) (take (a .b .count) (a .b .segments)) (a .to) (a .s) (a .d) (a .n) (a .p) (now (a .arena)) (c .before .before .before .if1 .left) (sym (c .before .before .in-writable .ensures) ∙ not-true _ (c .before .if2 .taken)) (c .refused .ensures)
-
-copy-fits-requires : tie.Need-copy-fits-requires
-copy-fits-requires c κs = search needs
-
-refused-requires-2 : tie.Need-refused-requires-2
-refused-requires-2 c κs = search needs
 
 returns-3 : tie.Need-returns-3
 returns-3 c =
@@ -119,11 +107,11 @@ copy-found-spec =
     tie.close
     (tie.spec
     returns
-    in-writable-requires
-    refused-requires
+    (λ c κs. search needs)
+    (λ c κs. search needs)
     returns-2
-    copy-fits-requires
-    refused-requires-2
+    (λ c κs. search needs)
+    (λ c κs. search needs)
     returns-3
     add-copy-part
     copy-part-requires

@@ -19,9 +19,6 @@ returns-2 c =
     let a = c .before .before .args in
     sym (lt-leb (a .off + a .place + a .n) (a .size) (omega arith))
 
-sub-if3 : tie.Need-sub-if3
-sub-if3 c = search needs
-
 returns-3 : tie.Need-returns-3
 returns-3 c =
     let a = c .before .before .before .args in
@@ -33,4 +30,4 @@ returns-4 c =
     sym (le-leb (a .off + a .place + a .n) (a .size) (omega arith))
 
 pub ends-inside-spec : {M : Type 1} → statement M
-ends-inside-spec = tie.close (tie.spec returns returns-2 sub-if3 returns-3 returns-4)
+ends-inside-spec = tie.close (tie.spec returns returns-2 (λ c. search needs) returns-3 returns-4)

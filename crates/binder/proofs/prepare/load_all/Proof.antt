@@ -28,36 +28,15 @@ loop-holds : tie.Need-loop-holds Inv-loop μ-loop
 loop-holds c =
     (refl, sym (c .before .before .before .pre .1), load-begin _ _ _)
 
-file-of-requires : tie.Need-file-of-requires Inv-loop μ-loop
-file-of-requires c κs = search needs
-
 load-at-requires : tie.Need-load-at-requires Inv-loop μ-loop
 load-at-requires c κs =
     c .before .before .before .loop .inv .2 .offset
-
-enum-known-p : tie.Need-enum-known-p Inv-loop μ-loop
-enum-known-p c = search needs
-
-cast-t15 : tie.Need-cast-t15 Inv-loop μ-loop
-cast-t15 c = search needs
-
-same-length : tie.Need-same-length Inv-loop μ-loop
-same-length c = search needs
-
-same-length-2 : tie.Need-same-length-2 Inv-loop μ-loop
-same-length-2 c = search needs
 
 returns : tie.Need-returns Inv-loop μ-loop
 returns c =
     let a = c .before .before .before .before .before .before .before .before .before .before .before .before .before .args in
     load-fail (inputsIn (now (a .bytes)) (a .parts)) (now (a .arena)) (c .before .before .before .before .before .before .before .before .before .loop .arena) (c .before .before .before .before .before .before .before .before .before .loop .table) (c .before .before .before .before .before .before .before .before .before .loop .off) (c .before .before .before .before .before .before .before .before .before .loop .k) (c .before .before .before .before .before .before .before .before .before .loop .inv .2) (omega (arith, c .before .before .before .before .before .before .before .before .before .loop .inv .1)) (c .before .before .before .before .before .load-at .last .0) (c .before .before .before .before .before .load-at .result)
     (rw (c .before .before .before .before .before .before .before .file-of .ensures) at (c .before .before .before .before .before .load-at .ensures)) _ (c .before .p .given .1) _
-
-enum-known-p-2 : tie.Need-enum-known-p-2 Inv-loop μ-loop
-enum-known-p-2 c = search needs
-
-put-link-requires : tie.Need-put-link-requires Inv-loop μ-loop
-put-link-requires c κs = search needs
 
 add-off : tie.Need-add-off Inv-loop μ-loop
 add-off c =
@@ -70,9 +49,6 @@ add-off c =
           (rw (c .before .before .before .before .before .before .before .before .before .before .before .before .file-of .ensures) at (c .before .before .before .before .before .before .before .before .before .before .load-at .ensures)) (c .before .before .before .before .before .before .p2 .given .0 .0) (c .before .before .before .before .before .before .p2 .given .1),
     ) in
     record { fits = h }
-
-add-k : tie.Need-add-k Inv-loop μ-loop
-add-k c = search needs
 
 loop-less : tie.Need-loop-less Inv-loop μ-loop
 loop-less c =
@@ -91,9 +67,6 @@ loop-again c =
 
 sub-zero : tie.Need-sub-zero Inv-loop μ-loop
 sub-zero c = search (needs, c .before .before .loop .inv .2 .offset)
-
-zero-requires : tie.Need-zero-requires Inv-loop μ-loop
-zero-requires c κs = search needs
 
 same-length-3 : tie.Need-same-length-3 Inv-loop μ-loop
 same-length-3 c =
@@ -117,21 +90,21 @@ load-all-spec =
     Inv-loop
     μ-loop
     loop-holds
-    file-of-requires
+    (λ c κs. search needs)
     load-at-requires
-    enum-known-p
-    cast-t15
-    same-length
-    same-length-2
+    (λ c. search needs)
+    (λ c. search needs)
+    (λ c. search needs)
+    (λ c. search needs)
     returns
-    enum-known-p-2
-    put-link-requires
+    (λ c. search needs)
+    (λ c κs. search needs)
     add-off
-    add-k
+    (λ c. search needs)
     loop-less
     loop-again
     sub-zero
-    zero-requires
+    (λ c κs. search needs)
     same-length-3
     same-length-4
     returns-2)

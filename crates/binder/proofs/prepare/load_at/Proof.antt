@@ -9,31 +9,10 @@ use Rattle.binder.proofs.prepare.load_at.Lts as lts
 use Rattle.object.proofs.dynamic_fields.view_of.Reads as view-of-reads
 use Rattle.object.proofs.object_data.load.Reads as load-reads
 
-sub-load : tie.Need-sub-load
-sub-load c = search needs
-
-part-load-start : tie.Need-part-load-start
-part-load-start c = search needs
-
-part-load-end : tie.Need-part-load-end
-part-load-end c = search needs
-
-load-requires : tie.Need-load-requires
-load-requires c κs = search needs
-
-same-length : tie.Need-same-length
-same-length c = search needs
-
 returns : tie.Need-returns
 returns c =
     let a = c .before .before .before .before .before .before .before .args in
     (refusal-at (a .host) (now (a .file)) (a .off) (now (a .arena)) (c .before .before .before .load .last .0) (c .before .before .before .load .result) (c .before .before .before .load .ensures), c .if1 .taken)
-
-view-of-requires : tie.Need-view-of-requires
-view-of-requires c κs = search needs
-
-same-length-2 : tie.Need-same-length-2
-same-length-2 c = search needs
 
 returns-2 : tie.Need-returns-2
 returns-2 c =
@@ -44,12 +23,12 @@ pub load-at-spec : {M : Type 1} → statement M
 load-at-spec =
     tie.close
     (tie.spec
-    sub-load
-    part-load-start
-    part-load-end
-    load-requires
-    same-length
+    (λ c. search needs)
+    (λ c. search needs)
+    (λ c. search needs)
+    (λ c κs. search needs)
+    (λ c. search needs)
     returns
-    view-of-requires
-    same-length-2
+    (λ c κs. search needs)
+    (λ c. search needs)
     returns-2)

@@ -6,12 +6,6 @@ use Rattle.binder.proofs.query.reply_of.Tie as tie
 use Rattle.binder.proofs.query.reply_of.Reads as reads
 use Rattle.binder.proofs.query.reply_of.Lts as lts
 
-enum-known-s : tie.Need-enum-known-s
-enum-known-s c = search needs
-
-enum-told : tie.Need-enum-told
-enum-told c = search needs
-
 returns : tie.Need-returns
 unfolding scopedOf
 returns c =
@@ -23,4 +17,4 @@ returns-2 c =
     rw (c .before .s .given .1)
 
 pub reply-of-spec : {M : Type 1} → statement M
-reply-of-spec = tie.close (tie.spec enum-known-s enum-told returns returns-2)
+reply-of-spec = tie.close (tie.spec (λ c. search needs) (λ c. search needs) returns returns-2)

@@ -10,63 +10,6 @@ use Rattle.binder.proofs.relocate.is_symbolic.Reads as is-symbolic-read
 use Rattle.words.proofs.bytes.u32_in.Reads as u32-in-reads
 use Rattle.words.proofs.bytes.u64_in.Reads as u64-in-reads
 
-add-u32-in : tie.Need-add-u32-in
-add-u32-in c = search needs
-
-u32-in-requires : tie.Need-u32-in-requires
-u32-in-requires c κs = search needs
-
-is-symbolic-requires : tie.Need-is-symbolic-requires
-is-symbolic-requires c κs = search needs
-
-returns : tie.Need-returns
-returns c = search needs
-
-u64-in-requires : tie.Need-u64-in-requires
-u64-in-requires c κs = search needs
-
-returns-2 : tie.Need-returns-2
-returns-2 c = search needs
-
-sub-if3 : tie.Need-sub-if3
-sub-if3 c = search needs
-
-returns-3 : tie.Need-returns-3
-returns-3 c = search needs
-
-add-u32-in-2 : tie.Need-add-u32-in-2
-add-u32-in-2 c = search needs
-
-u32-in-requires-2 : tie.Need-u32-in-requires-2
-u32-in-requires-2 c κs = search needs
-
-cast-if4 : tie.Need-cast-if4
-cast-if4 c = search needs
-
-returns-4 : tie.Need-returns-4
-returns-4 c = search needs
-
-add-u32-in-3 : tie.Need-add-u32-in-3
-add-u32-in-3 c = search needs
-
-cast-u32-in : tie.Need-cast-u32-in
-cast-u32-in c = search needs
-
-mul-u32-in : tie.Need-mul-u32-in
-mul-u32-in c = search needs
-
-add-u32-in-4 : tie.Need-add-u32-in-4
-add-u32-in-4 c = search needs
-
-u32-in-requires-3 : tie.Need-u32-in-requires-3
-u32-in-requires-3 c κs = search needs
-
-cast-if5 : tie.Need-cast-if5
-cast-if5 c = search needs
-
-returns-5 : tie.Need-returns-5
-returns-5 c = search needs
-
 returns-6 : tie.Need-returns-6
 returns-6 c =
     record { acts = rw (← c .before .before .before .before .before .before .before .before .before .before .before .before .before .u32-in .ensures) (c .before .before .before .before .before .before .before .before .before .before .before .before .is-symbolic .ensures (not-false _ (c .before .before .before .before .before .before .before .before .before .before .before .if1 .left))); place-is = c .before .before .before .before .before .before .before .before .before .before .u64-in .ensures; above = omega (arith, c .before .before .before .before .before .before .before .before .before .if2 .left); below = omega (arith, c .before .before .before .before .before .before .before .before .if3 .left, c .before .before .before .before .before .before .before .before .before .before .before .before .before .before .before .pre .2); index-is = c .before .before .before .before .before .before .before .u32-in2 .ensures; few = omega (arith, c .before .before .before .before .before .if4 .left); name-is = c .before .before .u32-in3 .ensures; named = omega (arith, c .if5 .left) }
@@ -75,23 +18,23 @@ pub symbol-entry-spec : {M : Type 1} → statement M
 symbol-entry-spec =
     tie.close
     (tie.spec
-    add-u32-in
-    u32-in-requires
-    is-symbolic-requires
-    returns
-    u64-in-requires
-    returns-2
-    sub-if3
-    returns-3
-    add-u32-in-2
-    u32-in-requires-2
-    cast-if4
-    returns-4
-    add-u32-in-3
-    cast-u32-in
-    mul-u32-in
-    add-u32-in-4
-    u32-in-requires-3
-    cast-if5
-    returns-5
+    (λ c. search needs)
+    (λ c κs. search needs)
+    (λ c κs. search needs)
+    (λ c. search needs)
+    (λ c κs. search needs)
+    (λ c. search needs)
+    (λ c. search needs)
+    (λ c. search needs)
+    (λ c. search needs)
+    (λ c κs. search needs)
+    (λ c. search needs)
+    (λ c. search needs)
+    (λ c. search needs)
+    (λ c. search needs)
+    (λ c. search needs)
+    (λ c. search needs)
+    (λ c κs. search needs)
+    (λ c. search needs)
+    (λ c. search needs)
     returns-6)

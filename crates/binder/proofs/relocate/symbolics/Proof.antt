@@ -42,15 +42,9 @@ here-in c =
     let l = c .before .before .before .before .before .before .before .loop in
     subst (EntryRead (l .arena) (a .t) (a .y) (l .k) (a .w .low) (a .w .high)) (c .before .e .given .1) (c .before .before .before .symbol-entry .ensures)
 
-in-reach-requires : tie.Need-in-reach-requires Inv-loop μ-loop
-in-reach-requires c κs = search needs
-
 returns : tie.Need-returns Inv-loop μ-loop
 returns c =
     (omega arith, c .before .before .before .before .pre .0, λ r _ _ _ _ _ _. (refl, kept-none _ r _))
-
-symbols-in-requires : tie.Need-symbols-in-requires Inv-loop μ-loop
-symbols-in-requires c κs = search needs
 
 returns-2 : tie.Need-returns-2 Inv-loop μ-loop
 returns-2 c =
@@ -59,9 +53,6 @@ returns-2 c =
 add-k : tie.Need-add-k Inv-loop μ-loop
 add-k c =
     let g = c .before .before .before .before .in-reach .ensures (not-false _ (c .before .before .before .if1 .left)) in search (needs, g .span, g .entries)
-
-cast-k : tie.Need-cast-k Inv-loop μ-loop
-cast-k c = search needs
 
 mul-k : tie.Need-mul-k Inv-loop μ-loop
 mul-k c =
@@ -79,12 +70,6 @@ symbol-entry-requires : tie.Need-symbol-entry-requires Inv-loop μ-loop
 symbol-entry-requires c κs =
     let l = c .before .before .before .loop in let g = l .inv .4 in (omega (arith, l .inv .0, l .inv .3, g .entries, g .span, c .before .if3 .taken), omega (arith, l .inv .0, l .inv .5, g .span), g .word)
 
-enum-known-e : tie.Need-enum-known-e Inv-loop μ-loop
-enum-known-e c = search needs
-
-enum-told : tie.Need-enum-told Inv-loop μ-loop
-enum-told c = search needs
-
 same-length : tie.Need-same-length Inv-loop μ-loop
 same-length c =
     c .before .before .before .before .before .before .loop .inv .0
@@ -93,21 +78,9 @@ returns-3 : tie.Need-returns-3 Inv-loop μ-loop
 returns-3 c =
     (c .before .before .before .before .before .before .loop .inv .1, c .before .before .before .before .before .before .loop .inv .2, c .before .before .before .before .before .before .loop .inv .6)
 
-cast-number : tie.Need-cast-number Inv-loop μ-loop
-cast-number c = search needs
-
-add-number : tie.Need-add-number Inv-loop μ-loop
-add-number c = search needs
-
 address-of-requires : tie.Need-address-of-requires Inv-loop μ-loop
 address-of-requires c κs =
     c .before .before .before .before .before .before .before .before .before .before .before .before .before .before .before .before .before .pre .1
-
-enum-known-a : tie.Need-enum-known-a Inv-loop μ-loop
-enum-known-a c = search needs
-
-enum-told-2 : tie.Need-enum-told-2 Inv-loop μ-loop
-enum-told-2 c = search needs
 
 same-length-2 : tie.Need-same-length-2 Inv-loop μ-loop
 same-length-2 c =
@@ -169,25 +142,25 @@ symbolics-spec =
     (tie.spec
     Inv-loop
     μ-loop
-    in-reach-requires
+    (λ c κs. search needs)
     returns
-    symbols-in-requires
+    (λ c κs. search needs)
     returns-2
     add-k
-    cast-k
+    (λ c. search needs)
     mul-k
     add-k-2
     loop-holds
     symbol-entry-requires
-    enum-known-e
-    enum-told
+    (λ c. search needs)
+    (λ c. search needs)
     same-length
     returns-3
-    cast-number
-    add-number
+    (λ c. search needs)
+    (λ c. search needs)
     address-of-requires
-    enum-known-a
-    enum-told-2
+    (λ c. search needs)
+    (λ c. search needs)
     same-length-2
     returns-4
     add-store-in

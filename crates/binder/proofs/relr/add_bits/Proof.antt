@@ -30,9 +30,6 @@ abbrev μ-loop : tie.MeasureT-loop
 loop-holds : tie.Need-loop-holds Inv-loop μ-loop
 loop-holds c = (refl, omega arith, omega arith, refl)
 
-in-writable-requires : tie.Need-in-writable-requires Inv-loop μ-loop
-in-writable-requires c κs = search needs
-
 same-length : tie.Need-same-length Inv-loop μ-loop
 same-length c = c .before .before .before .before .loop .inv .0
 
@@ -42,18 +39,6 @@ returns c =
     let l = c .before .before .before .before .loop in
     sym (refused (a .base) (take (a .b .count) (a .b .segments)) (l .n) (l .p) (l .left) (l .part) (omega arith) (c .before .before .if1 .taken) (sym (c .before .in-writable .ensures) ∙ not-true _ (c .if2 .taken)))
     ∙ l .inv .3
-
-add-word-requires : tie.Need-add-word-requires Inv-loop μ-loop
-add-word-requires c κs = search needs
-
-add-p : tie.Need-add-p Inv-loop μ-loop
-add-p c = search needs
-
-sub-n : tie.Need-sub-n Inv-loop μ-loop
-sub-n c = search needs
-
-loop-less : tie.Need-loop-less Inv-loop μ-loop
-loop-less c = search needs
 
 loop-again : tie.Need-loop-again Inv-loop μ-loop
 loop-again c =
@@ -94,13 +79,13 @@ add-bits-spec =
     Inv-loop
     μ-loop
     loop-holds
-    in-writable-requires
+    (λ c κs. search needs)
     same-length
     returns
-    add-word-requires
-    add-p
-    sub-n
-    loop-less
+    (λ c κs. search needs)
+    (λ c. search needs)
+    (λ c. search needs)
+    (λ c. search needs)
     loop-again
     same-length-2
     returns-2)

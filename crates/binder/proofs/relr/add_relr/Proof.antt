@@ -41,32 +41,11 @@ module _ (base : ℕ) (ss : List Segment) (location : ℕ) (e : Relr) where
   unfolding addRelr
   bitmap-added bits a is l g = rw (is, l, ← g) refl
 
-enum-known-e : tie.Need-enum-known-e
-enum-known-e c = search needs
-
-in-writable-requires : tie.Need-in-writable-requires
-in-writable-requires c κs = search needs
-
 returns : tie.Need-returns
 returns c =
     let a = c .before .before .before .before .before .before .args in
     address-refused (a .base) (take (a .b .count) (a .b .segments)) (a .location) (a .e) (c .before .before .before .e .given .0 .0) (now (a .part)) (c .before .before .before .e .given .1)
     (sym (c .before .in-writable .ensures) ∙ not-true _ (c .if1 .taken))
-
-add-word-requires : tie.Need-add-word-requires
-add-word-requires c κs = search needs
-
-place-requires : tie.Need-place-requires
-place-requires c κs = search needs
-
-enum-known-e-2 : tie.Need-enum-known-e-2
-enum-known-e-2 c = search needs
-
-add-bitmap-requires : tie.Need-add-bitmap-requires
-add-bitmap-requires c κs = search needs
-
-place-requires-2 : tie.Need-place-requires-2
-place-requires-2 c κs = search needs
 
 same-length : tie.Need-same-length
 same-length c = c .before .before .before .add-word .kept .0
@@ -90,14 +69,14 @@ pub add-relr-spec : {M : Type 1} → statement M
 add-relr-spec =
     tie.close
     (tie.spec
-    enum-known-e
-    in-writable-requires
+    (λ c. search needs)
+    (λ c κs. search needs)
     returns
-    add-word-requires
-    place-requires
-    enum-known-e-2
-    add-bitmap-requires
-    place-requires-2
+    (λ c κs. search needs)
+    (λ c κs. search needs)
+    (λ c. search needs)
+    (λ c κs. search needs)
+    (λ c κs. search needs)
     same-length
     returns-2
     same-length-2

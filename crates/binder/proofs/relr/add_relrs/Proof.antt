@@ -72,23 +72,8 @@ Inv-loop part₀ t b table n location₀ i₀ part location i =
 abbrev μ-loop : tie.MeasureT-loop
 μ-loop part₀ t b table n location₀ i₀ part location i = n - i
 
-bounds-of-requires : tie.Need-bounds-of-requires Inv-loop μ-loop
-bounds-of-requires c κs = search needs
-
-cut-to-32-requires : tie.Need-cut-to-32-requires Inv-loop μ-loop
-cut-to-32-requires c κs = search needs
-
 loop-holds : tie.Need-loop-holds Inv-loop μ-loop
 loop-holds c = (refl, omega arith, omega arith, λ r e f. simp unary-clauses refl)
-
-relr-in-requires : tie.Need-relr-in-requires Inv-loop μ-loop
-relr-in-requires c κs = search needs
-
-relr-of-requires : tie.Need-relr-of-requires Inv-loop μ-loop
-relr-of-requires c κs = search needs
-
-add-relr-requires : tie.Need-add-relr-requires Inv-loop μ-loop
-add-relr-requires c κs = search needs
 
 same-length : tie.Need-same-length Inv-loop μ-loop
 same-length c = c .before .before .before .add-relr .kept .0 ∙ c .before .before .before .before .before .before .before .before .before .loop .inv .0
@@ -104,9 +89,6 @@ returns c =
     (sym (turn (a .t) (heldBy (a .o)) n (l .i) (l .location) (l .part) (omega arith) (sym (b .ensures .segments)) (c .before .before .before .before .before .before .relr-in .ensures) (c .before .before .before .before .before .relr-of .ensures) (m .ensures))
     ∙ (l .inv .3 (heldBy (a .o)) (sym (b .ensures .segments)) refl
     ∙ ap (λ (k : ℕ). addRelrs (a .t) (heldBy (a .o)) k 0 far (now (a .part))) (c .before .before .before .before .before .before .before .before .before .before .cut-to-32 .ensures)))
-
-add-i : tie.Need-add-i Inv-loop μ-loop
-add-i c = search needs
 
 loop-less : tie.Need-loop-less Inv-loop μ-loop
 loop-less c = counts-down (c .before .before .before .before .before .before .before .before .loop-test .taken)
@@ -144,15 +126,15 @@ add-relrs-spec =
     (tie.spec
     Inv-loop
     μ-loop
-    bounds-of-requires
-    cut-to-32-requires
+    (λ c κs. search needs)
+    (λ c κs. search needs)
     loop-holds
-    relr-in-requires
-    relr-of-requires
-    add-relr-requires
+    (λ c κs. search needs)
+    (λ c κs. search needs)
+    (λ c κs. search needs)
     same-length
     returns
-    add-i
+    (λ c. search needs)
     loop-less
     loop-again
     same-length-2

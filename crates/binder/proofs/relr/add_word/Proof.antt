@@ -9,15 +9,6 @@ use Rattle.words.proofs.bytes.store_u64.Reads as store-u64-reads
 use Rattle.words.proofs.bytes.sum_u64.Reads as sum-u64-reads
 use Rattle.words.proofs.bytes.u64_at.Reads as u64-at-reads
 
-u64-at-requires : tie.Need-u64-at-requires
-u64-at-requires c κs = search needs
-
-sum-u64-requires : tie.Need-sum-u64-requires
-sum-u64-requires c κs = search needs
-
-store-u64-requires : tie.Need-store-u64-requires
-store-u64-requires c κs = search needs
-
 same-length : tie.Need-same-length
 same-length c = c .before .before .store-u64 .kept .0
 
@@ -28,4 +19,4 @@ returns c =
 
 pub add-word-spec : {M : Type 1} → statement M
 add-word-spec =
-    tie.close (tie.spec u64-at-requires sum-u64-requires store-u64-requires same-length returns)
+    tie.close (tie.spec (λ c κs. search needs) (λ c κs. search needs) (λ c κs. search needs) same-length returns)

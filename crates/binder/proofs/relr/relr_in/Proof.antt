@@ -7,14 +7,8 @@ use Rattle.binder.proofs.relr.relr_in.Lts as lts
 use Rattle.sheet.proofs.sheet.part_of.Reads as part-of-reads
 use Rattle.object.proofs.relocate.relr_at.Reads as relr-at-reads
 
-part-of-requires : tie.Need-part-of-requires
-part-of-requires c κs = search needs
-
-relr-at-requires : tie.Need-relr-at-requires
-relr-at-requires c κs = search needs
-
 returns : tie.Need-returns
 returns c = rw (c .relr-at .ensures, c .before .part-of .ensures)
 
 pub relr-in-spec : {M : Type 1} → statement M
-relr-in-spec = tie.close (tie.spec part-of-requires relr-at-requires returns)
+relr-in-spec = tie.close (tie.spec (λ c κs. search needs) (λ c κs. search needs) returns)

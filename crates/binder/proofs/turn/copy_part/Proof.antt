@@ -44,21 +44,6 @@ abbrev μ-loop : tie.MeasureT-loop
 loop-holds : tie.Need-loop-holds Inv-loop μ-loop
 loop-holds c = (refl, omega arith, sym (patch-none _ _ _))
 
-add-b : tie.Need-add-b Inv-loop μ-loop
-add-b c = search needs
-
-slice-read-b : tie.Need-slice-read-b Inv-loop μ-loop
-slice-read-b c = search needs
-
-add-write-byte : tie.Need-add-write-byte Inv-loop μ-loop
-add-write-byte c = search needs
-
-write-byte-requires : tie.Need-write-byte-requires Inv-loop μ-loop
-write-byte-requires c κs = search needs
-
-add-i : tie.Need-add-i Inv-loop μ-loop
-add-i c = search needs
-
 loop-less : tie.Need-loop-less Inv-loop μ-loop
 loop-less c = counts-down (c .before .before .before .before .before .loop-test .taken)
 
@@ -87,11 +72,11 @@ copy-part-spec =
     Inv-loop
     μ-loop
     loop-holds
-    add-b
-    slice-read-b
-    add-write-byte
-    write-byte-requires
-    add-i
+    (λ c. search needs)
+    (λ c. search needs)
+    (λ c. search needs)
+    (λ c κs. search needs)
+    (λ c. search needs)
     loop-less
     loop-again
     same-length

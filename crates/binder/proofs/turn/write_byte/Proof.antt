@@ -10,21 +10,6 @@ use Rattle.binder.proofs.turn.write_byte.Tie as tie
 use Rattle.binder.proofs.turn.write_byte.Reads as reads
 use Rattle.binder.proofs.turn.write_byte.Lts as lts
 
-sub-part : tie.Need-sub-part
-sub-part c = search needs
-
-part-part-start : tie.Need-part-part-start
-part-part-start c = search needs
-
-part-part-end : tie.Need-part-part-end
-part-part-end c = search needs
-
-slice-write-part : tie.Need-slice-write-part
-slice-write-part c = search needs
-
-same-length : tie.Need-same-length
-same-length c = search needs
-
 returns : tie.Need-returns
 returns c =
     let a = c .before .before .before .args in
@@ -34,4 +19,4 @@ returns c =
 pub write-byte-spec : {M : Type 1} → statement M
 write-byte-spec =
     tie.close
-    (tie.spec sub-part part-part-start part-part-end slice-write-part same-length returns)
+    (tie.spec (λ c. search needs) (λ c. search needs) (λ c. search needs) (λ c. search needs) (λ c. search needs) returns)

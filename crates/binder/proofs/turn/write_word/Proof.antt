@@ -14,21 +14,6 @@ use Rattle.words.proofs.bytes.store_u64.Reads as store-u64-reads
 returns : tie.Need-returns
 returns c = sym (patch-past _ _ _ _ (omega arith))
 
-sub-store-u64 : tie.Need-sub-store-u64
-sub-store-u64 c = search needs
-
-part-store-u64-start : tie.Need-part-store-u64-start
-part-store-u64-start c = search needs
-
-part-store-u64-end : tie.Need-part-store-u64-end
-part-store-u64-end c = search needs
-
-store-u64-requires : tie.Need-store-u64-requires
-store-u64-requires c κs = search needs
-
-same-length : tie.Need-same-length
-same-length c = search needs
-
 returns-2 : tie.Need-returns-2
 returns-2 c =
     let a = c .before .before .before .before .before .before .args in
@@ -39,9 +24,9 @@ write-word-spec =
     tie.close
     (tie.spec
     returns
-    sub-store-u64
-    part-store-u64-start
-    part-store-u64-end
-    store-u64-requires
-    same-length
+    (λ c. search needs)
+    (λ c. search needs)
+    (λ c. search needs)
+    (λ c κs. search needs)
+    (λ c. search needs)
     returns-2)

@@ -7,12 +7,9 @@ returns : tie.Need-returns
 returns c =
     rw (c .if1 .taken)
 
-sum-u64-requires : tie.Need-sum-u64-requires
-sum-u64-requires c κs = search needs
-
 returns-2 : tie.Need-returns-2
 returns-2 c =
     rw (c .before .if1 .left) (c .sum-u64 .ensures)
 
 pub address-of-spec : {M : Type 1} → statement M
-address-of-spec = tie.close (tie.spec returns sum-u64-requires returns-2)
+address-of-spec = tie.close (tie.spec returns (λ c κs. search needs) returns-2)

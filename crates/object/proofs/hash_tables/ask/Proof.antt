@@ -5,15 +5,6 @@ use Rattle.object.specs.HashTable.{answerOf, definition}
 use Rattle.object.proofs.hash_tables.ask.Statement.{statement}
 use Rattle.object.proofs.hash_tables.ask.Tie as tie
 
-lookup-requires : tie.Need-lookup-requires
-lookup-requires c κs = search needs
-
-enum-known-f : tie.Need-enum-known-f
-enum-known-f c = search needs
-
-enum-told : tie.Need-enum-told
-enum-told c = search needs
-
 returns : tie.Need-returns
 unfolding answerOf
 returns c =
@@ -24,9 +15,6 @@ mul-symbol-off c =
     let h = rw (c .before .f .given .1) at (c .before .before .before .lookup .ensures .1) in
     omega (arith, h)
 
-symbol-off-requires : tie.Need-symbol-off-requires
-symbol-off-requires c κs = search needs
-
 returns-2 : tie.Need-returns-2
 unfolding answerOf definition
 returns-2 c =
@@ -36,10 +24,10 @@ pub ask-spec : {M : Type 1} → statement M
 ask-spec =
     tie.close
     (tie.spec
-    lookup-requires
-    enum-known-f
-    enum-told
+    (λ c κs. search needs)
+    (λ c. search needs)
+    (λ c. search needs)
     returns
     mul-symbol-off
-    symbol-off-requires
+    (λ c κs. search needs)
     returns-2)

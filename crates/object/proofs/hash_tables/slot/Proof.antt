@@ -6,9 +6,6 @@ use borrow.Author.Needs.{needs}
 use Rattle.object.proofs.hash_tables.slot.Statement.{statement}
 use Rattle.object.proofs.hash_tables.slot.Tie as tie
 
-rem-result : tie.Need-rem-result
-rem-result c = search needs
-
 cast-result : tie.Need-cast-result
 cast-result c =
     omega (arith, mod-lt (c .args .h) (c .pre))
@@ -18,4 +15,4 @@ returns c =
     (refl, mod-lt (c .args .h) (c .pre))
 
 pub slot-spec : {M : Type 1} → statement M
-slot-spec = tie.close (tie.spec rem-result cast-result returns)
+slot-spec = tie.close (tie.spec (λ c. search needs) cast-result returns)

@@ -8,15 +8,6 @@ use borrow.Author.Needs.{needs}
 use Rattle.object.proofs.object_data.check_file.Statement.{statement}
 use Rattle.object.proofs.object_data.check_file.Tie as tie
 
-read-loads-requires : tie.Need-read-loads-requires
-read-loads-requires c κs = search needs
-
-segments-ok-requires : tie.Need-segments-ok-requires
-segments-ok-requires c κs = search needs
-
-refused-requires : tie.Need-refused-requires
-refused-requires c κs = search needs
-
 returns : tie.Need-returns
 returns c =
     checked-no _ (now (c .before .before .before .before .before .args .file)) _ 7 (λ h. omega arith) (file-seven (now (c .before .before .before .before .before .args .file)) _ (c .before .before .before .read-loads .ensures) (c .before .before .before .before .before .pre) (sym (c .before .before .segments-ok .ensures) ∙ not-true _ (c .before .if1 .taken))) (c .refused .ensures .0) (c .refused .ensures .1) (c .refused .ensures .2)
@@ -35,9 +26,9 @@ pub check-file-spec : {M : Type 1} → statement M
 check-file-spec =
     tie.close
     (tie.spec
-    read-loads-requires
-    segments-ok-requires
-    refused-requires
+    (λ c κs. search needs)
+    (λ c κs. search needs)
+    (λ c κs. search needs)
     returns
     span-of-requires
     returns-2)

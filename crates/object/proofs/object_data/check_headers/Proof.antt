@@ -6,12 +6,6 @@ use borrow.Author.Needs.{needs}
 use Rattle.object.proofs.object_data.check_headers.Statement.{statement}
 use Rattle.object.proofs.object_data.check_headers.Tie as tie
 
-header-refusal-requires : tie.Need-header-refusal-requires
-header-refusal-requires c κs = search needs
-
-refused-requires : tie.Need-refused-requires
-refused-requires c κs = search needs
-
 returns : tie.Need-returns
 returns c =
     let ne : headerRefusal (now (c .before .before .before .before .args .file)) ≡ 0 → ⊥ = λ h. c .before .if1 .taken (c .before .before .header-refusal .ensures ∙ h) in
@@ -38,8 +32,8 @@ pub check-headers-spec : {M : Type 1} → statement M
 check-headers-spec =
     tie.close
     (tie.spec
-    header-refusal-requires
-    refused-requires
+    (λ c κs. search needs)
+    (λ c κs. search needs)
     returns
     check-host-requires
     returns-2

@@ -13,21 +13,9 @@ use Rattle.object.proofs.dynamic_fields.refused.Reads as refused-reads
 use Rattle.object.proofs.object_data.place.Reads as place-reads
 use Rattle.object.proofs.program_header.dynamic_at.Reads as dynamic-at-reads
 
-place-requires : tie.Need-place-requires
-place-requires c κs = search needs
-
-refused-requires : tie.Need-refused-requires
-refused-requires c κs = search needs
-
-same-length : tie.Need-same-length
-same-length c = search needs
-
 returns : tie.Need-returns
 returns c =
     load-refused (c .before .before .before .before .before .before .before .before .before .args .host) (now (c .before .before .before .before .before .before .before .before .before .args .file)) (now (c .before .before .before .before .before .before .before .before .before .args .part)) (c .before .before .before .before .before .place .last .0) (c .before .before .before .before .before .place .result) (c .before .before .before .before .before .place .ensures) (c .before .if1 .taken) _ (c .refused .ensures .0) (c .refused .ensures .1)
-
-dynamic-at-requires : tie.Need-dynamic-at-requires
-dynamic-at-requires c κs = search needs
 
 slice-reshare-prefix-read-object : tie.Need-slice-reshare-prefix-read-object
 slice-reshare-prefix-read-object c =
@@ -37,12 +25,6 @@ slice-aggregate-read-object : tie.Need-slice-aggregate-read-object
 slice-aggregate-read-object c =
     sym (length-take-le (c .before .before .before .before .before .before .before .place .result .span) (c .before .before .before .before .before .before .before .place .last .0) (load-fits (c .before .before .before .before .before .before .before .before .before .before .before .args .host) (now (c .before .before .before .before .before .before .before .before .before .before .before .args .file)) (now (c .before .before .before .before .before .before .before .before .before .before .before .args .part)) (c .before .before .before .before .before .before .before .place .last .0) (c .before .before .before .before .before .before .before .place .result) (c .before .before .before .before .before .before .before .place .ensures) (c .before .before .before .if1 .left)))
 
-read-object-requires : tie.Need-read-object-requires
-read-object-requires c κs = search needs
-
-same-length-2 : tie.Need-same-length-2
-same-length-2 c = search needs
-
 returns-2 : tie.Need-returns-2
 returns-2 c =
     load-read (c .before .before .before .before .before .before .before .before .before .before .before .before .args .host) (now (c .before .before .before .before .before .before .before .before .before .before .before .before .args .file)) (now (c .before .before .before .before .before .before .before .before .before .before .before .before .args .part)) (c .before .before .before .before .before .before .before .before .place .last .0) (c .before .before .before .before .before .before .before .before .place .result) (c .before .before .before .before .before .before .before .before .place .ensures) (c .before .before .before .before .if1 .left) _ _ (c .before .before .dynamic-at .ensures) (c .read-object .ensures)
@@ -51,13 +33,13 @@ pub load-spec : {M : Type 1} → statement M
 load-spec =
     tie.close
     (tie.spec
-    place-requires
-    refused-requires
-    same-length
+    (λ c κs. search needs)
+    (λ c κs. search needs)
+    (λ c. search needs)
     returns
-    dynamic-at-requires
+    (λ c κs. search needs)
     slice-reshare-prefix-read-object
     slice-aggregate-read-object
-    read-object-requires
-    same-length-2
+    (λ c κs. search needs)
+    (λ c. search needs)
     returns-2)

@@ -5,15 +5,9 @@ use borrow.Author.Needs.{needs}
 use Rattle.object.proofs.object_data.place.Statement.{statement}
 use Rattle.object.proofs.object_data.place.Tie as tie
 
-check-headers-requires : tie.Need-check-headers-requires
-check-headers-requires c κs = search needs
-
 returns : tie.Need-returns
 returns c =
     placed-refused (c .before .before .before .before .before .args .host) (now (c .before .before .before .before .before .args .file)) (now (c .before .before .before .before .before .args .part)) _ (c .before .before .check-headers .ensures) (c .if1 .taken)
-
-refused-requires : tie.Need-refused-requires
-refused-requires c κs = search needs
 
 returns-2 : tie.Need-returns-2
 returns-2 c =
@@ -24,9 +18,6 @@ place-runs-requires c κs =
     let k = c .before .before .before .before .before .check-headers .ensures in
     (sym (k .refusal) ∙ c .before .before .before .if1 .left, k .segments (c .before .before .before .if1 .left), k .few)
 
-same-length : tie.Need-same-length
-same-length c = search needs
-
 returns-3 : tie.Need-returns-3
 returns-3 c =
     placed-runs (c .before .before .before .before .before .before .before .before .before .before .before .args .host) (now (c .before .before .before .before .before .before .before .before .before .before .before .args .file)) (now (c .before .before .before .before .before .before .before .before .before .before .before .args .part)) _ (c .before .before .before .before .before .before .before .before .check-headers .ensures) (c .before .before .before .before .before .before .if1 .left) (c .before .before .before .before .before .if2 .left) (c .before .before .place-runs .ensures)
@@ -35,10 +26,10 @@ pub place-spec : {M : Type 1} → statement M
 place-spec =
     tie.close
     (tie.spec
-    check-headers-requires
+    (λ c κs. search needs)
     returns
-    refused-requires
+    (λ c κs. search needs)
     returns-2
     place-runs-requires
-    same-length
+    (λ c. search needs)
     returns-3)

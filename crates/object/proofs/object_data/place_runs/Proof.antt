@@ -8,12 +8,6 @@ use borrow.Author.Needs.{needs}
 use Rattle.object.proofs.object_data.place_runs.Statement.{statement}
 use Rattle.object.proofs.object_data.place_runs.Tie as tie
 
-copy-requires : tie.Need-copy-requires
-copy-requires c κs = search needs
-
-same-length : tie.Need-same-length
-same-length c = search needs
-
 returns : tie.Need-returns
 returns c =
     rw (c .before .before .before .before .if1 .taken) (host-runs (now (c .before .before .before .before .before .before .before .args .file)) (now (c .before .before .before .before .before .before .before .args .part)) (c .before .before .copy .ensures))
@@ -25,9 +19,6 @@ place-segments-requires c κs =
     let e : segmentsIn (a .l) ≡ segmentsOf false (now (a .file)) = rw (c .before .if1 .left) at (c .before .before .before .before .pre .1) in
     (c .before .before .before .before .pre .2, file-every (now (a .file)) (a .l) e z)
 
-same-length-2 : tie.Need-same-length-2
-same-length-2 c = search needs
-
 returns-2 : tie.Need-returns-2
 returns-2 c =
     let a = c .before .before .before .before .before .before .before .args in
@@ -37,4 +28,4 @@ returns-2 c =
 pub place-runs-spec : {M : Type 1} → statement M
 place-runs-spec =
     tie.close
-    (tie.spec copy-requires same-length returns place-segments-requires same-length-2 returns-2)
+    (tie.spec (λ c κs. search needs) (λ c. search needs) returns place-segments-requires (λ c. search needs) returns-2)

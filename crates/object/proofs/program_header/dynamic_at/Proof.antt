@@ -20,24 +20,9 @@ abbrev μ-loop : tie.MeasureT-loop
 μ-loop file start i₀ i =
     i
 
-table-start-requires : tie.Need-table-start-requires Inv-loop μ-loop
-table-start-requires c κs = search needs
-
-header-count-requires : tie.Need-header-count-requires Inv-loop μ-loop
-header-count-requires c κs = search needs
-
 loop-holds : tie.Need-loop-holds Inv-loop μ-loop
 loop-holds c =
     (omega (arith, c .header-count .ensures), ap (dynamicIn (now (c .before .before .before .args .file))) (c .header-count .ensures .0))
-
-sub-i : tie.Need-sub-i Inv-loop μ-loop
-sub-i c = search needs
-
-type-at-requires : tie.Need-type-at-requires Inv-loop μ-loop
-type-at-requires c κs = search needs
-
-segment-at-requires : tie.Need-segment-at-requires Inv-loop μ-loop
-segment-at-requires c κs = search needs
 
 returns : tie.Need-returns Inv-loop μ-loop
 returns c =
@@ -46,9 +31,6 @@ returns c =
     sym
     (sym (c .before .before .before .before .loop .inv .1)
     ∙ (dynamic-here file i (i - 1) (omega arith) (sym (c .before .before .type-at .ensures) ∙ c .before .if1 .taken) ∙ ap (λ (s : Segment). At (s .vaddr)) (sym (c .segment-at .ensures))))
-
-loop-less : tie.Need-loop-less Inv-loop μ-loop
-loop-less c = search needs
 
 loop-again : tie.Need-loop-again Inv-loop μ-loop
 loop-again c =
@@ -68,13 +50,13 @@ dynamic-at-spec =
     (tie.spec
     Inv-loop
     μ-loop
-    table-start-requires
-    header-count-requires
+    (λ c κs. search needs)
+    (λ c κs. search needs)
     loop-holds
-    sub-i
-    type-at-requires
-    segment-at-requires
+    (λ c. search needs)
+    (λ c κs. search needs)
+    (λ c κs. search needs)
     returns
-    loop-less
+    (λ c. search needs)
     loop-again
     returns-2)

@@ -22,23 +22,11 @@ abbrev μ-loop : tie.MeasureT-loop
 μ-loop file start n found₀ i₀ found i =
     n - i
 
-table-start-requires : tie.Need-table-start-requires Inv-loop μ-loop
-table-start-requires c κs = search needs
-
-header-count-requires : tie.Need-header-count-requires Inv-loop μ-loop
-header-count-requires c κs = search needs
-
-no-loads-requires : tie.Need-no-loads-requires Inv-loop μ-loop
-no-loads-requires c κs = search needs
-
 loop-holds : tie.Need-loop-holds Inv-loop μ-loop
 unfolding loadsIn
 loop-holds c =
     let e = c .no-loads .ensures in
     (omega arith, e .0, omega (arith, e .0), e .1, ap (λ k. take k (c .no-loads .result .list)) (e .0))
-
-type-at-requires : tie.Need-type-at-requires Inv-loop μ-loop
-type-at-requires c κs = search needs
 
 returns : tie.Need-returns Inv-loop μ-loop
 returns c =
@@ -47,24 +35,9 @@ returns c =
     loaded-over file (c .before .before .before .before .loop .i) _ (omega (arith, c .before .before .before .loop-test .taken, c .before .before .before .before .before .before .header-count .ensures .0)) (omega (arith, v .1, v .2, c .if2 .taken)) (sym (c .before .before .type-at .ensures) ∙ c .before .if1 .taken) refl (v .3)
     (sym (take-all (c .before .before .before .before .loop .found .count) (c .before .before .before .before .loop .found .list) (omega (arith, v .3, c .if2 .taken))) ∙ v .4)
 
-segment-at-requires : tie.Need-segment-at-requires Inv-loop μ-loop
-segment-at-requires c κs = search needs
-
-mul-t12 : tie.Need-mul-t12 Inv-loop μ-loop
-mul-t12 c = search needs
-
 element-set-from-found : tie.Need-element-set-from-found Inv-loop μ-loop
 element-set-from-found c =
     omega (arith, c .before .before .before .before .before .loop .inv .3, c .before .if2 .left)
-
-add-found : tie.Need-add-found Inv-loop μ-loop
-add-found c = search needs
-
-add-i : tie.Need-add-i Inv-loop μ-loop
-add-i c = search needs
-
-loop-less : tie.Need-loop-less Inv-loop μ-loop
-loop-less c = search needs
 
 loop-again : tie.Need-loop-again Inv-loop μ-loop
 loop-again c =
@@ -79,12 +52,6 @@ loop-again c =
       length-set (c .before .before .before .before .before .loop .found .list) (c .before .before .before .before .before .loop .found .count) (c .segment-at .result) ∙ v .3,
       table-more file i (c .before .before .before .before .before .loop .found) (c .before .if2 .left) (v .3) (v .4) _ t (c .segment-at .ensures),
     )
-
-add-i-2 : tie.Need-add-i-2 Inv-loop μ-loop
-add-i-2 c = search needs
-
-loop-less-2 : tie.Need-loop-less-2 Inv-loop μ-loop
-loop-less-2 c = search needs
 
 loop-again-2 : tie.Need-loop-again-2 Inv-loop μ-loop
 loop-again-2 c =
@@ -104,20 +71,20 @@ read-loads-spec =
     (tie.spec
     Inv-loop
     μ-loop
-    table-start-requires
-    header-count-requires
-    no-loads-requires
+    (λ c κs. search needs)
+    (λ c κs. search needs)
+    (λ c κs. search needs)
     loop-holds
-    type-at-requires
+    (λ c κs. search needs)
     returns
-    segment-at-requires
-    mul-t12
+    (λ c κs. search needs)
+    (λ c. search needs)
     element-set-from-found
-    add-found
-    add-i
-    loop-less
+    (λ c. search needs)
+    (λ c. search needs)
+    (λ c. search needs)
     loop-again
-    add-i-2
-    loop-less-2
+    (λ c. search needs)
+    (λ c. search needs)
     loop-again-2
     returns-2)

@@ -6,24 +6,15 @@ use Rattle.object.specs.Symbol.{isExported}
 use Rattle.object.proofs.symbol.is_exported.Statement.{statement}
 use Rattle.object.proofs.symbol.is_exported.Tie as tie
 
-is-defined-requires : tie.Need-is-defined-requires
-is-defined-requires c κs = search needs
-
 returns : tie.Need-returns
 unfolding isExported
 returns c =
     rw (sym (c .before .is-defined .ensures) ∙ not-true _ (c .if1 .taken))
 
-is-public-requires : tie.Need-is-public-requires
-is-public-requires c κs = search needs
-
 returns-2 : tie.Need-returns-2
 unfolding isExported
 returns-2 c =
     rw (sym (c .before .before .before .is-defined .ensures) ∙ not-false _ (c .before .before .if1 .left), sym (c .before .is-public .ensures) ∙ not-true _ (c .if2 .taken))
-
-is-visible-requires : tie.Need-is-visible-requires
-is-visible-requires c κs = search needs
 
 returns-3 : tie.Need-returns-3
 unfolding isExported
@@ -34,9 +25,9 @@ pub is-exported-spec : {M : Type 1} → statement M
 is-exported-spec =
     tie.close
     (tie.spec
-    is-defined-requires
+    (λ c κs. search needs)
     returns
-    is-public-requires
+    (λ c κs. search needs)
     returns-2
-    is-visible-requires
+    (λ c κs. search needs)
     returns-3)

@@ -3,21 +3,9 @@ use borrow.Author.Needs.{needs}
 use Rattle.object.proofs.symbol.symbol_name.Statement.{statement}
 use Rattle.object.proofs.symbol.symbol_name.Tie as tie
 
-mul-u32-off : tie.Need-mul-u32-off
-mul-u32-off c = search needs
-
-u32-off-requires : tie.Need-u32-off-requires
-u32-off-requires c κs = search needs
-
-cast-name-off : tie.Need-cast-name-off
-cast-name-off c = search needs
-
-name-off-requires : tie.Need-name-off-requires
-name-off-requires c κs = search needs
-
 returns : tie.Need-returns
 returns c = rw (c .name-off .ensures, c .before .u32-off .ensures)
 
 pub symbol-name-spec : {M : Type 1} → statement M
 symbol-name-spec =
-    tie.close (tie.spec mul-u32-off u32-off-requires cast-name-off name-off-requires returns)
+    tie.close (tie.spec (λ c. search needs) (λ c κs. search needs) (λ c. search needs) (λ c κs. search needs) returns)

@@ -32,9 +32,6 @@ returns-5 c =
     let a = c .before .before .before .before .before .before .before .before .before .before .args in
     sym (below-all (λ k. spares (a .s) (a .at + k)) (a .n) (λ k h. seg-out (a .s) (a .at + k) (λ f l u. omega arith)))
 
-sub-if6 : tie.Need-sub-if6
-sub-if6 c = search needs
-
 returns-6 : tie.Need-returns-6
 returns-6 c =
     let a = c .before .before .before .before .before .before .before .before .before .args in
@@ -48,4 +45,4 @@ returns-7 c =
 pub apart-spec : {M : Type 1} → statement M
 apart-spec =
     tie.close
-    (tie.spec returns returns-2 returns-3 returns-4 returns-5 sub-if6 returns-6 returns-7)
+    (tie.spec returns returns-2 returns-3 returns-4 returns-5 (λ c. search needs) returns-6 returns-7)

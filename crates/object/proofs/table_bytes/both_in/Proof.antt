@@ -25,15 +25,6 @@ abbrev μ-loop : tie.MeasureT-loop
 whole : (c : tie.Start Inv-loop μ-loop) → length (c .args .t2 .segments) ≡ 16
 whole c = search (needs, length-mapped)
 
-smaller-requires : tie.Need-smaller-requires Inv-loop μ-loop
-smaller-requires c κs = search needs
-
-element-copy-out-least : tie.Need-element-copy-out-least Inv-loop μ-loop
-element-copy-out-least c = search needs
-
-element-copy-out-low : tie.Need-element-copy-out-low Inv-loop μ-loop
-element-copy-out-low c = search needs
-
 loop-holds : tie.Need-loop-holds Inv-loop μ-loop
 loop-holds c =
     let a = c .before .before .before .before .args in (
@@ -41,36 +32,6 @@ loop-holds c =
       run-start (now (a .image)) (a .t2 .span) (a .t2 .count) (a .t2 .segments) (a .p) (c .before .before .before .before .pre .0) _ (c .before .before .before .before .pre .2 .1),
       run-start (now (a .image)) (a .t2 .span) (a .t2 .count) (a .t2 .segments) (a .q) (c .before .before .before .before .pre .1) _ (c .before .before .before .before .pre .2 .1),
     )
-
-mul-s : tie.Need-mul-s Inv-loop μ-loop
-mul-s c = search needs
-
-element-copy-out-s : tie.Need-element-copy-out-s Inv-loop μ-loop
-element-copy-out-s c = search needs
-
-mul-nearer : tie.Need-mul-nearer Inv-loop μ-loop
-mul-nearer c = search needs
-
-element-copy-out-nearer : tie.Need-element-copy-out-nearer Inv-loop μ-loop
-element-copy-out-nearer c = search needs
-
-nearer-requires : tie.Need-nearer-requires Inv-loop μ-loop
-nearer-requires c κs = search needs
-
-mul-nearer-2 : tie.Need-mul-nearer-2 Inv-loop μ-loop
-mul-nearer-2 c = search needs
-
-element-copy-out-nearer-2 : tie.Need-element-copy-out-nearer-2 Inv-loop μ-loop
-element-copy-out-nearer-2 c = search needs
-
-nearer-requires-2 : tie.Need-nearer-requires-2 Inv-loop μ-loop
-nearer-requires-2 c κs = search needs
-
-add-i : tie.Need-add-i Inv-loop μ-loop
-add-i c = search needs
-
-loop-less : tie.Need-loop-less Inv-loop μ-loop
-loop-less c = search needs
 
 loop-again : tie.Need-loop-again Inv-loop μ-loop
 loop-again c =
@@ -123,20 +84,20 @@ both-in-spec =
     (tie.spec
     Inv-loop
     μ-loop
-    smaller-requires
-    element-copy-out-least
-    element-copy-out-low
+    (λ c κs. search needs)
+    (λ c. search needs)
+    (λ c. search needs)
     loop-holds
-    mul-s
-    element-copy-out-s
-    mul-nearer
-    element-copy-out-nearer
-    nearer-requires
-    mul-nearer-2
-    element-copy-out-nearer-2
-    nearer-requires-2
-    add-i
-    loop-less
+    (λ c. search needs)
+    (λ c. search needs)
+    (λ c. search needs)
+    (λ c. search needs)
+    (λ c κs. search needs)
+    (λ c. search needs)
+    (λ c. search needs)
+    (λ c κs. search needs)
+    (λ c. search needs)
+    (λ c. search needs)
     loop-again
     sub-if1
     returns

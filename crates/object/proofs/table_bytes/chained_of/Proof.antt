@@ -12,21 +12,9 @@ returns : tie.Need-returns
 returns c =
     λ d h. absurd (omega arith)
 
-sub-if2 : tie.Need-sub-if2
-sub-if2 c = search needs
-
 returns-2 : tie.Need-returns-2
 returns-2 c =
     λ d h. absurd (omega arith)
-
-add-p : tie.Need-add-p
-add-p c = search needs
-
-run-from-requires : tie.Need-run-from-requires
-run-from-requires c κs = search needs
-
-sub-result : tie.Need-sub-result
-sub-result c = search needs
 
 returns-3 : tie.Need-returns-3
 returns-3 c =
@@ -35,4 +23,4 @@ returns-3 c =
 
 pub chained-of-spec : {M : Type 1} → statement M
 chained-of-spec =
-    tie.close (tie.spec returns sub-if2 returns-2 add-p run-from-requires sub-result returns-3)
+    tie.close (tie.spec returns (λ c. search needs) returns-2 (λ c. search needs) (λ c κs. search needs) (λ c. search needs) returns-3)

@@ -15,18 +15,6 @@ returns-2 : tie.Need-returns-2
 returns-2 c =
     tables-none _ _ _ _ _
 
-run-from-requires : tie.Need-run-from-requires
-run-from-requires c κs = search needs
-
-run-from-requires-2 : tie.Need-run-from-requires-2
-run-from-requires-2 c κs = search needs
-
-sub-t8 : tie.Need-sub-t8
-sub-t8 c = search needs
-
-monus-requires : tie.Need-monus-requires
-monus-requires c κs = search needs
-
 returns-3 : tie.Need-returns-3
 returns-3 c =
     let a = c .before .before .before .before .before .before .before .before .before .args in
@@ -38,8 +26,8 @@ fine-of-spec =
     (tie.spec
     returns
     returns-2
-    run-from-requires
-    run-from-requires-2
-    sub-t8
-    monus-requires
+    (λ c κs. search needs)
+    (λ c κs. search needs)
+    (λ c. search needs)
+    (λ c κs. search needs)
     returns-3)

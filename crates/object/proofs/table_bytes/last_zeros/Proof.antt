@@ -24,30 +24,6 @@ loop-holds : tie.Need-loop-holds Inv-loop μ-loop
 loop-holds c =
     (search needs, c .before .pre, λ j h. absurd (omega arith))
 
-mul-s : tie.Need-mul-s Inv-loop μ-loop
-mul-s c = search needs
-
-element-copy-out-s : tie.Need-element-copy-out-s Inv-loop μ-loop
-element-copy-out-s c = search needs
-
-smaller-requires : tie.Need-smaller-requires Inv-loop μ-loop
-smaller-requires c κs = search needs
-
-last-zero-requires : tie.Need-last-zero-requires Inv-loop μ-loop
-last-zero-requires c κs = search needs
-
-mul-zeros : tie.Need-mul-zeros Inv-loop μ-loop
-mul-zeros c = search needs
-
-element-write-zeros : tie.Need-element-write-zeros Inv-loop μ-loop
-element-write-zeros c = search needs
-
-add-i : tie.Need-add-i Inv-loop μ-loop
-add-i c = search needs
-
-loop-less : tie.Need-loop-less Inv-loop μ-loop
-loop-less c = search needs
-
 loop-again : tie.Need-loop-again Inv-loop μ-loop
 loop-again c =
     let l = c .before .before .before .before .loop in
@@ -59,12 +35,6 @@ loop-again c =
           (λ (e : l .i ≤ j). let q : j ≡ l .i = omega arith in rw (q, getD-set-same (l .zeros) (l .i) v 0 (omega arith), ← c .before .smaller .ensures) (c .last-zero .ensures))
           (split j (l .i)),
     )
-
-last-zero-requires-2 : tie.Need-last-zero-requires-2 Inv-loop μ-loop
-last-zero-requires-2 c κs = search needs
-
-element-write-zeros-2 : tie.Need-element-write-zeros-2 Inv-loop μ-loop
-element-write-zeros-2 c = search needs
 
 returns : tie.Need-returns Inv-loop μ-loop
 returns c =
@@ -79,15 +49,15 @@ last-zeros-spec =
     Inv-loop
     μ-loop
     loop-holds
-    mul-s
-    element-copy-out-s
-    smaller-requires
-    last-zero-requires
-    mul-zeros
-    element-write-zeros
-    add-i
-    loop-less
+    (λ c. search needs)
+    (λ c. search needs)
+    (λ c κs. search needs)
+    (λ c κs. search needs)
+    (λ c. search needs)
+    (λ c. search needs)
+    (λ c. search needs)
+    (λ c. search needs)
     loop-again
-    last-zero-requires-2
-    element-write-zeros-2
+    (λ c κs. search needs)
+    (λ c. search needs)
     returns)

@@ -22,27 +22,9 @@ abbrev μ-loop : tie.MeasureT-loop
 whole : (c : tie.Start Inv-loop μ-loop) → length (c .args .t2 .segments) ≡ 16
 whole c = search (needs, length-mapped)
 
-smaller-requires : tie.Need-smaller-requires Inv-loop μ-loop
-smaller-requires c κs = search needs
-
 loop-holds : tie.Need-loop-holds Inv-loop μ-loop
 loop-holds c =
     let a = c .before .before .args in (search needs, omega (arith, c .before .before .pre), omega arith, rest-start (a .t2 .span) (a .t2 .count) (a .t2 .segments) (a .p))
-
-mul-s : tie.Need-mul-s Inv-loop μ-loop
-mul-s c = search needs
-
-element-copy-out-s : tie.Need-element-copy-out-s Inv-loop μ-loop
-element-copy-out-s c = search needs
-
-nearer-requires : tie.Need-nearer-requires Inv-loop μ-loop
-nearer-requires c κs = search needs
-
-add-i : tie.Need-add-i Inv-loop μ-loop
-add-i c = search needs
-
-loop-less : tie.Need-loop-less Inv-loop μ-loop
-loop-less c = search needs
 
 loop-again : tie.Need-loop-again Inv-loop μ-loop
 loop-again c =
@@ -54,9 +36,6 @@ loop-again c =
       omega (arith, w .1),
       rest-turn (a .t2 .span) (a .t2 .count) (a .t2 .segments) (a .p) (l .i) (l .end) (c .nearer .result .end) none-segment (omega arith) (omega (arith, whole (c .before .before .before .before .before .before))) (l .inv .3) (w .1) (c .nearer .ensures .0),
     )
-
-last-zero-requires : tie.Need-last-zero-requires Inv-loop μ-loop
-last-zero-requires c κs = search needs
 
 returns : tie.Need-returns Inv-loop μ-loop
 returns c =
@@ -74,13 +53,13 @@ run-from-spec =
     (tie.spec
     Inv-loop
     μ-loop
-    smaller-requires
+    (λ c κs. search needs)
     loop-holds
-    mul-s
-    element-copy-out-s
-    nearer-requires
-    add-i
-    loop-less
+    (λ c. search needs)
+    (λ c. search needs)
+    (λ c κs. search needs)
+    (λ c. search needs)
+    (λ c. search needs)
     loop-again
-    last-zero-requires
+    (λ c κs. search needs)
     returns)

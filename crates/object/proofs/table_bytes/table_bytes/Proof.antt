@@ -36,9 +36,6 @@ returns-2 c =
     let a = c .before .before .args in
     sym (span-out (a .t1 .span) (take (a .t1 .count) (a .t1 .segments)) (a .at) (a .n) (omega arith) (omega arith))
 
-sub-if3 : tie.Need-sub-if3 Inv-loop μ-loop
-sub-if3 c = search needs
-
 returns-3 : tie.Need-returns-3 Inv-loop μ-loop
 returns-3 c =
     let a = c .before .before .before .args in
@@ -55,27 +52,12 @@ returns-4 c =
     let l = c .before .before .loop in
     sym (l .inv .1 ∙ rest-end (a .at) (a .n) (a .t1 .count) (a .t1 .segments) (l .i) (simp length-take (omega arith)))
 
-mul-s : tie.Need-mul-s Inv-loop μ-loop
-mul-s c = search needs
-
-element-copy-out-s : tie.Need-element-copy-out-s Inv-loop μ-loop
-element-copy-out-s c = search needs
-
-apart-requires : tie.Need-apart-requires Inv-loop μ-loop
-apart-requires c κs = search needs
-
 returns-5 : tie.Need-returns-5 Inv-loop μ-loop
 returns-5 c =
     let a = c .before .before .before .before .before .before .before .before .before .args in
     let l = c .before .before .before .before .before .loop in
     sym (l .inv .1 ∙ rest-no (a .at) (a .n) (a .t1 .count) (a .t1 .segments) (l .i) _ (omega arith) (omega (arith, whole (c .before .before .before .before .before .before .before .before .before)))
     (sym (c .before .apart .ensures) ∙ not-true _ (c .if5 .taken)))
-
-add-i : tie.Need-add-i Inv-loop μ-loop
-add-i c = search needs
-
-loop-less : tie.Need-loop-less Inv-loop μ-loop
-loop-less c = search needs
 
 loop-again : tie.Need-loop-again Inv-loop μ-loop
 loop-again c =
@@ -100,15 +82,15 @@ table-bytes-spec =
     μ-loop
     returns
     returns-2
-    sub-if3
+    (λ c. search needs)
     returns-3
     loop-holds
     returns-4
-    mul-s
-    element-copy-out-s
-    apart-requires
+    (λ c. search needs)
+    (λ c. search needs)
+    (λ c κs. search needs)
     returns-5
-    add-i
-    loop-less
+    (λ c. search needs)
+    (λ c. search needs)
     loop-again
     returns-6)

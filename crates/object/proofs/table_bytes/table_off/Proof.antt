@@ -20,24 +20,12 @@ returns-2 c =
     let a = c .before .before .args in
     sym (span-out (a .b .span) (take (a .b .count) (a .b .segments)) (a .at + a .k) (a .n) (omega arith) (omega arith))
 
-sub-if3 : tie.Need-sub-if3
-sub-if3 c = search needs
-
 returns-3 : tie.Need-returns-3
 returns-3 c =
     let a = c .before .before .before .args in
     sym (span-out (a .b .span) (take (a .b .count) (a .b .segments)) (a .at + a .k) (a .n) (omega arith) (omega arith))
 
-add-table-bytes : tie.Need-add-table-bytes
-add-table-bytes c = search needs
-
-table-bytes-requires : tie.Need-table-bytes-requires
-table-bytes-requires c κs = search needs
-
-returns-4 : tie.Need-returns-4
-returns-4 c = search needs
-
 pub table-off-spec : {M : Type 1} → statement M
 table-off-spec =
     tie.close
-    (tie.spec returns returns-2 sub-if3 returns-3 add-table-bytes table-bytes-requires returns-4)
+    (tie.spec returns returns-2 (λ c. search needs) returns-3 (λ c. search needs) (λ c κs. search needs) (λ c. search needs))

@@ -10,15 +10,6 @@ use Rattle.words.proofs.Slices.{mem-past}
 use Rattle.words.proofs.bytes.byte_at.Statement.{statement}
 use Rattle.words.proofs.bytes.byte_at.Tie as tie
 
-sub-if2 : tie.Need-sub-if2
-sub-if2 c = search needs
-
-add-result : tie.Need-add-result
-add-result c = search needs
-
-shared-slice-read-result : tie.Need-shared-slice-read-result
-shared-slice-read-result c = search needs
-
 returns : tie.Need-returns
 unfolding mem
 returns c = search needs
@@ -35,4 +26,4 @@ returns-3 c =
 
 pub byte-at-spec : {M : Type 1} → statement M
 byte-at-spec =
-    tie.close (tie.spec sub-if2 add-result shared-slice-read-result returns returns-2 returns-3)
+    tie.close (tie.spec (λ c. search needs) (λ c. search needs) (λ c. search needs) returns returns-2 returns-3)

@@ -20,45 +20,12 @@ returns c =
     let a = c .before .before .before .args in
     sym (patch-past (now (a .dst)) (a .at) (a .n) (from (a .start) (mem (now (a .src)))) (omega arith))
 
-sub-smaller : tie.Need-sub-smaller
-sub-smaller c = search needs
-
-smaller-requires : tie.Need-smaller-requires
-smaller-requires c κs = search needs
-
-monus-requires : tie.Need-monus-requires
-monus-requires c κs = search needs
-
-smaller-requires-2 : tie.Need-smaller-requires-2
-smaller-requires-2 c κs = search needs
-
-zero-part-requires : tie.Need-zero-part-requires
-zero-part-requires c κs = search needs
-
-same-length : tie.Need-same-length
-same-length c = search needs
-
 returns-2 : tie.Need-returns-2
 returns-2 c =
     let a = c .before .before .before .before .before .before .before .before .before .before .before .args in
     c .before .before .zero-part .ensures
     ∙ copy-none (now (a .dst)) (now (a .src)) (a .at) (a .start) (a .n) _ _ (omega arith) (c .before .before .before .before .before .before .before .smaller .ensures)
     (c .before .before .before .before .before .smaller2 .ensures ∙ ap (min (c .before .before .before .before .before .before .before .smaller .result)) (c .before .before .before .before .before .before .monus .ensures)) (c .before .before .before .before .if2 .taken)
-
-copy-part-requires : tie.Need-copy-part-requires
-copy-part-requires c κs = search needs
-
-add-zero-part : tie.Need-add-zero-part
-add-zero-part c = search needs
-
-sub-zero-part : tie.Need-sub-zero-part
-sub-zero-part c = search needs
-
-zero-part-requires-2 : tie.Need-zero-part-requires-2
-zero-part-requires-2 c κs = search needs
-
-same-length-2 : tie.Need-same-length-2
-same-length-2 c = search needs
 
 returns-3 : tie.Need-returns-3
 returns-3 c =
@@ -71,16 +38,16 @@ copy-spec =
     tie.close
     (tie.spec
     returns
-    sub-smaller
-    smaller-requires
-    monus-requires
-    smaller-requires-2
-    zero-part-requires
-    same-length
+    (λ c. search needs)
+    (λ c κs. search needs)
+    (λ c κs. search needs)
+    (λ c κs. search needs)
+    (λ c κs. search needs)
+    (λ c. search needs)
     returns-2
-    copy-part-requires
-    add-zero-part
-    sub-zero-part
-    zero-part-requires-2
-    same-length-2
+    (λ c κs. search needs)
+    (λ c. search needs)
+    (λ c. search needs)
+    (λ c κs. search needs)
+    (λ c. search needs)
     returns-3)

@@ -22,24 +22,6 @@ loop-holds : tie.Need-loop-holds Inv-loop μ-loop
 loop-holds c =
     (refl, omega arith, sym (patch-none _ _ _))
 
-add-dst : tie.Need-add-dst Inv-loop μ-loop
-add-dst c = search needs
-
-shared-slice-read-dst : tie.Need-shared-slice-read-dst Inv-loop μ-loop
-shared-slice-read-dst c = search needs
-
-add-dst-2 : tie.Need-add-dst-2 Inv-loop μ-loop
-add-dst-2 c = search needs
-
-slice-write-dst : tie.Need-slice-write-dst Inv-loop μ-loop
-slice-write-dst c = search needs
-
-add-i : tie.Need-add-i Inv-loop μ-loop
-add-i c = search needs
-
-loop-less : tie.Need-loop-less Inv-loop μ-loop
-loop-less c = search needs
-
 loop-again : tie.Need-loop-again Inv-loop μ-loop
 unfolding mem
 loop-again c =
@@ -63,12 +45,12 @@ copy-part-spec =
     Inv-loop
     μ-loop
     loop-holds
-    add-dst
-    shared-slice-read-dst
-    add-dst-2
-    slice-write-dst
-    add-i
-    loop-less
+    (λ c. search needs)
+    (λ c. search needs)
+    (λ c. search needs)
+    (λ c. search needs)
+    (λ c. search needs)
+    (λ c. search needs)
     loop-again
     same-length
     returns)

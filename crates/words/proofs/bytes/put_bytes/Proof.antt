@@ -27,18 +27,6 @@ loop-holds : tie.Need-loop-holds Inv-loop μ-loop
 loop-holds c =
     (refl, omega arith, sym (div-one _), sym (patch-none _ _ _))
 
-cast-set-byte : tie.Need-cast-set-byte Inv-loop μ-loop
-cast-set-byte c = search needs
-
-set-byte-requires : tie.Need-set-byte-requires Inv-loop μ-loop
-set-byte-requires c κs = search needs
-
-add-i : tie.Need-add-i Inv-loop μ-loop
-add-i c = search needs
-
-loop-less : tie.Need-loop-less Inv-loop μ-loop
-loop-less c = search needs
-
 loop-again : tie.Need-loop-again Inv-loop μ-loop
 loop-again c =
     let a = c .before .before .before .before .before .before .before .args in
@@ -66,10 +54,10 @@ put-bytes-spec =
     Inv-loop
     μ-loop
     loop-holds
-    cast-set-byte
-    set-byte-requires
-    add-i
-    loop-less
+    (λ c. search needs)
+    (λ c κs. search needs)
+    (λ c. search needs)
+    (λ c. search needs)
     loop-again
     same-length
     returns)

@@ -9,21 +9,6 @@ use borrow.Author.Needs.{needs}
 use Rattle.words.proofs.bytes.set_byte.Statement.{statement}
 use Rattle.words.proofs.bytes.set_byte.Tie as tie
 
-sub-if2 : tie.Need-sub-if2
-sub-if2 c = search needs
-
-add-s : tie.Need-add-s
-add-s c = search needs
-
-slice-write-s : tie.Need-slice-write-s
-slice-write-s c = search needs
-
-same-length : tie.Need-same-length
-same-length c = search needs
-
-returns : tie.Need-returns
-returns c = search needs
-
 returns-2 : tie.Need-returns-2
 returns-2 c =
     let a = c .before .before .args in
@@ -36,4 +21,4 @@ returns-3 c =
 
 pub set-byte-spec : {M : Type 1} → statement M
 set-byte-spec =
-    tie.close (tie.spec sub-if2 add-s slice-write-s same-length returns returns-2 returns-3)
+    tie.close (tie.spec (λ c. search needs) (λ c. search needs) (λ c. search needs) (λ c. search needs) (λ c. search needs) returns-2 returns-3)

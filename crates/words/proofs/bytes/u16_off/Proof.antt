@@ -10,16 +10,10 @@ use Rattle.words.proofs.bytes.u16_off.Lts as lts
 use Rattle.words.proofs.bytes.place.Reads as place-reads
 use Rattle.words.proofs.bytes.u16_at.Reads as u16-at-reads
 
-place-requires : tie.Need-place-requires
-place-requires c κs = search needs
-
-u16-at-requires : tie.Need-u16-at-requires
-u16-at-requires c κs = search needs
-
 returns : tie.Need-returns
 returns c =
     let a = c .before .before .before .args in
     c .u16-at .ensures ∙ leAt-end 2 (now (a .s)) (a .at + a .k) (c .before .place .ensures)
 
 pub u16-off-spec : {M : Type 1} → statement M
-u16-off-spec = tie.close (tie.spec place-requires u16-at-requires returns)
+u16-off-spec = tie.close (tie.spec (λ c κs. search needs) (λ c κs. search needs) returns)

@@ -10,16 +10,10 @@ use Rattle.words.proofs.bytes.u32_off.Lts as lts
 use Rattle.words.proofs.bytes.place.Reads as place-reads
 use Rattle.words.proofs.bytes.u32_at.Reads as u32-at-reads
 
-place-requires : tie.Need-place-requires
-place-requires c κs = search needs
-
-u32-at-requires : tie.Need-u32-at-requires
-u32-at-requires c κs = search needs
-
 returns : tie.Need-returns
 returns c =
     let a = c .before .before .before .args in
     c .u32-at .ensures ∙ leAt-end 4 (now (a .s)) (a .at + a .k) (c .before .place .ensures)
 
 pub u32-off-spec : {M : Type 1} → statement M
-u32-off-spec = tie.close (tie.spec place-requires u32-at-requires returns)
+u32-off-spec = tie.close (tie.spec (λ c κs. search needs) (λ c κs. search needs) returns)

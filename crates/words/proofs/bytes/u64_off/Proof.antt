@@ -10,16 +10,10 @@ use Rattle.words.proofs.bytes.u64_off.Lts as lts
 use Rattle.words.proofs.bytes.place.Reads as place-reads
 use Rattle.words.proofs.bytes.u64_at.Reads as u64-at-reads
 
-place-requires : tie.Need-place-requires
-place-requires c κs = search needs
-
-u64-at-requires : tie.Need-u64-at-requires
-u64-at-requires c κs = search needs
-
 returns : tie.Need-returns
 returns c =
     let a = c .before .before .before .args in
     c .u64-at .ensures ∙ leAt-end 8 (now (a .s)) (a .at + a .k) (c .before .place .ensures)
 
 pub u64-off-spec : {M : Type 1} → statement M
-u64-off-spec = tie.close (tie.spec place-requires u64-at-requires returns)
+u64-off-spec = tie.close (tie.spec (λ c κs. search needs) (λ c κs. search needs) returns)

@@ -15,18 +15,6 @@ returns c =
     let a = c .before .before .args in
     sym (patch-past (now (a .s)) (a .at) (a .n) (λ _. 0) (omega arith))
 
-sub-smaller : tie.Need-sub-smaller
-sub-smaller c = search needs
-
-smaller-requires : tie.Need-smaller-requires
-smaller-requires c κs = search needs
-
-zero-part-requires : tie.Need-zero-part-requires
-zero-part-requires c κs = search needs
-
-same-length : tie.Need-same-length
-same-length c = search needs
-
 returns-2 : tie.Need-returns-2
 returns-2 c =
     let a = c .before .before .before .before .before .before .before .args in
@@ -35,4 +23,4 @@ returns-2 c =
 pub zero-spec : {M : Type 1} → statement M
 zero-spec =
     tie.close
-    (tie.spec returns sub-smaller smaller-requires zero-part-requires same-length returns-2)
+    (tie.spec returns (λ c. search needs) (λ c κs. search needs) (λ c κs. search needs) (λ c. search needs) returns-2)

@@ -9,16 +9,10 @@ use Rattle.words.proofs.NameLaws.{name-end-at}
 use Rattle.words.proofs.names.same_at.Statement.{statement}
 use Rattle.words.proofs.names.same_at.Tie as tie
 
-place-requires : tie.Need-place-requires
-place-requires c κs = search needs
-
-same-from-requires : tie.Need-same-from-requires
-same-from-requires c κs = search needs
-
 returns : tie.Need-returns
 returns c =
     let a = c .before .before .before .before .args in
     c .same-from .ensures ∙ ap (λ (l : List ℕ). sameBytes l (now (a .name))) (name-end-at (now (a .image)) (a .at + a .k) (c .before .place .ensures))
 
 pub same-at-spec : {M : Type 1} → statement M
-same-at-spec = tie.close (tie.spec place-requires same-from-requires returns)
+same-at-spec = tie.close (tie.spec (λ c κs. search needs) (λ c κs. search needs) returns)

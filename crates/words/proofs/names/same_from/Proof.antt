@@ -19,9 +19,6 @@ abbrev μ-loop : tie.MeasureT-loop
 μ-loop image at name n left i₀ i =
     n - i
 
-sub-left : tie.Need-sub-left Inv-loop μ-loop
-sub-left c = search needs
-
 returns : tie.Need-returns Inv-loop μ-loop
 returns c =
     let a = c .before .args in
@@ -30,15 +27,6 @@ returns c =
 loop-holds : tie.Need-loop-holds Inv-loop μ-loop
 loop-holds c =
     (search needs, rw add-zero)
-
-add-b : tie.Need-add-b Inv-loop μ-loop
-add-b c = search needs
-
-shared-slice-read-b : tie.Need-shared-slice-read-b Inv-loop μ-loop
-shared-slice-read-b c = search needs
-
-shared-slice-read-if2 : tie.Need-shared-slice-read-if2 Inv-loop μ-loop
-shared-slice-read-if2 c = search needs
 
 returns-2 : tie.Need-returns-2 Inv-loop μ-loop
 returns-2 c =
@@ -52,12 +40,6 @@ returns-3 c =
     let l = c .before .before .before .before .before .loop in
     sym (l .inv .1 ∙ from-zero (now (a .image)) (now (a .name)) (a .at + l .i) (l .i) (omega arith) (omega arith) (c .if3 .taken))
 
-add-i : tie.Need-add-i Inv-loop μ-loop
-add-i c = search needs
-
-loop-less : tie.Need-loop-less Inv-loop μ-loop
-loop-less c = search needs
-
 loop-again : tie.Need-loop-again Inv-loop μ-loop
 loop-again c =
     let a = c .before .before .before .before .before .before .before .args in
@@ -70,12 +52,6 @@ returns-4 c =
     let a = c .before .before .before .before .args in
     let l = c .before .before .loop in
     sym (l .inv .1 ∙ from-end (now (a .image)) (now (a .name)) (a .at + l .i) (l .i) (omega arith) (name-none (now (a .image)) (a .at + l .i) (omega arith)))
-
-add-if5 : tie.Need-add-if5 Inv-loop μ-loop
-add-if5 c = search needs
-
-shared-slice-read-if5 : tie.Need-shared-slice-read-if5 Inv-loop μ-loop
-shared-slice-read-if5 c = search needs
 
 returns-5 : tie.Need-returns-5 Inv-loop μ-loop
 returns-5 c =
@@ -97,19 +73,19 @@ same-from-spec =
     (tie.spec
     Inv-loop
     μ-loop
-    sub-left
+    (λ c. search needs)
     returns
     loop-holds
-    add-b
-    shared-slice-read-b
-    shared-slice-read-if2
+    (λ c. search needs)
+    (λ c. search needs)
+    (λ c. search needs)
     returns-2
     returns-3
-    add-i
-    loop-less
+    (λ c. search needs)
+    (λ c. search needs)
     loop-again
     returns-4
-    add-if5
-    shared-slice-read-if5
+    (λ c. search needs)
+    (λ c. search needs)
     returns-5
     returns-6)
