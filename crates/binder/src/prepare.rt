@@ -5,7 +5,7 @@ ghost use lib.ListN.{length};
 ghost use Rattle.sheet.specs.Steps.Parts.{inputsIn};
 ghost use Rattle.binder.specs.Bind.{filesOf};
 ghost use Rattle.binder.specs.Steps.Prepared.{LoadedAt, LoadedFiles, Prepared};
-use scope::seats::Seat;
+use scope::links::Link;
 use sheet::sheet::Parts;
 
 // The checks of a set: passed, or the first refusal with its object.
@@ -14,10 +14,10 @@ pub enum Met {
     Refused { number: u32, object: u32 },
 }
 
-// One object: its refusal, or its seat.
+// One object: its refusal, or its link.
 pub enum Loaded {
     Refused(u32),
-    At(Seat),
+    At(Link),
 }
 
 // Loads an object at the offset `off`, in the part of the arena from there to its end.
@@ -32,15 +32,15 @@ fn load_at(arena: &mut [u8], off: usize, file: &[u8], host: bool) -> Loaded
     }
     let o = r.object;
     let view = object::dynamic_fields::view_of(o);
-    let seat = Seat {
+    let link = Link {
         offset: off,
         span: o.span,
         view: view,
     };
-    Loaded::At(seat)
+    Loaded::At(link)
 }
 
-// Loads the objects that the table of parts names, one after another, writes zeros behind the last, and fills the table of seats.
+// Loads the objects that the table of parts names, one after another, writes zeros behind the last, and fills the table of links.
 fn load_all(bytes: &[u8], parts: Parts, arena: &mut [u8], table: &mut [u64]) -> Met
     requires { ⌜ (parts .count ≤ 64) × (length (inputsIn (now bytes) parts) ≡ parts .count) × (1024 ≤ length (now table)) ⌝ }
     ensures { λ r. ⌜ LoadedFiles (filesOf (inputsIn (now (bytes .entry)) parts)) (now (arena .entry)) (now (arena .exit)) (now (table .exit)) r ⌝ }
@@ -59,7 +59,7 @@ fn load_all(bytes: &[u8], parts: Parts, arena: &mut [u8], table: &mut [u64]) -> 
                 };
             }
             Loaded::At(s) => {
-                scope::seats::put_seat(table, k, s);
+                scope::links::put_link(table, k, s);
                 off += s.span;
                 k += 1;
             }
@@ -69,7 +69,7 @@ fn load_all(bytes: &[u8], parts: Parts, arena: &mut [u8], table: &mut [u64]) -> 
     Met::Passed
 }
 
-// Refusals 1 to 12 of the objects that the table of parts names; what passes is loaded, whatever the arena holds before, and its seats are
+// Refusals 1 to 12 of the objects that the table of parts names; what passes is loaded, whatever the arena holds before, and its links are
 // in the table. A refused sheet's table of parts names no object.
 pub(crate) fn prepare(
     bytes: &[u8],
@@ -93,7 +93,7 @@ pub(crate) fn prepare(
             object: 0,
         };
     }
-    let t = sheet::sheet::twin(bytes, parts);
+    let t = sheet::sheet::duplicate(bytes, parts);
     if t != 0 {
         return Met::Refused {
             number: 3,
