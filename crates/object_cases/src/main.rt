@@ -363,7 +363,13 @@ fn refused(n: u32) {
 // Loads the file into the room, and prints the case's line.
 fn load(room: &mut [u8], file: &[u8], flags: u8, input: &[u8], base: usize, own: usize, count: u8) {
     words::bytes::copy(room, 0, input, 0, room.len());
-    let r = object::object_data::load(room, file, flags % 2 == 1);
+    let host = flags % 2 == 1;
+    let c = object::object_data::check_headers(file, host);
+    if c.refusal != 0 {
+        refused(c.refusal);
+        return;
+    }
+    let r = object::object_data::load(room, file, host, c);
     if r.refusal != 0 {
         refused(r.refusal);
         return;
