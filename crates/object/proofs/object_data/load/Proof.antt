@@ -38,7 +38,8 @@ slice-aggregate-read-object c =
     sym (length-take-le (c .before .before .before .before .before .before .before .place .result .span) (c .before .before .before .before .before .before .before .place .last .0) (load-fits (c .before .before .before .before .before .before .before .before .before .before .before .args .host) (now (c .before .before .before .before .before .before .before .before .before .before .before .args .file)) (now (c .before .before .before .before .before .before .before .before .before .before .before .args .part)) (c .before .before .before .before .before .before .before .place .last .0) (c .before .before .before .before .before .before .before .place .result) (c .before .before .before .before .before .before .before .place .ensures) (c .before .before .before .if1 .left)))
 
 read-object-requires : tie.Need-read-object-requires
-read-object-requires c κs = search needs
+read-object-requires c κs =
+    c .before .before .before .before .before .before .before .place .ensures .few
 
 same-length-2 : tie.Need-same-length-2
 same-length-2 c = search needs

@@ -37,10 +37,16 @@ add-u32-off c = search needs
 u32-off-requires : tie.Need-u32-off-requires
 u32-off-requires c κs = search needs
 
+add-u64-off-5 : tie.Need-add-u64-off-5
+add-u64-off-5 c = search needs
+
+u64-off-requires-5 : tie.Need-u64-off-requires-5
+u64-off-requires-5 c κs = search needs
+
 returns : tie.Need-returns
 unfolding segmentAt
 returns c =
-    rw (← c .before .before .before .before .before .before .pre .0, ← c .u32-off .ensures, ← c .before .before .before .before .u64-off .ensures, ← c .before .before .before .u64-off2 .ensures, ← c .before .before .u64-off3 .ensures, ← c .before .u64-off4 .ensures)
+    rw (← c .before .before .before .before .before .before .before .pre .0, ← c .before .u32-off .ensures, ← c .before .before .before .before .before .u64-off .ensures, ← c .before .before .before .before .u64-off2 .ensures, ← c .before .before .before .u64-off3 .ensures, ← c .before .before .u64-off4 .ensures, ← c .u64-off5 .ensures)
 
 pub segment-at-spec : {M : Type 1} → statement M
 segment-at-spec =
@@ -57,4 +63,6 @@ segment-at-spec =
     u64-off-requires-4
     add-u32-off
     u32-off-requires
+    add-u64-off-5
+    u64-off-requires-5
     returns)
