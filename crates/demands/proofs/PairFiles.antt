@@ -16,11 +16,14 @@ use Rattle.words.specs.Names.{untilZero}
 use Rattle.words.proofs.Memory.{Out, in-or-out, out-empty, write-in, write-out}
 use Rattle.words.proofs.Slices.{mem-ext, mem-tab, mem-past, length-tab}
 use Rattle.object.specs.Refusal.{require, after}
-use Rattle.object.specs.Header.{headerRefusal}
+use Rattle.object.specs.Header.{isSharedObject, isX86, headersInside, headerRefusal}
 use Rattle.object.specs.ProgramHeader.{loadsIn, loadsOf, segmentAt, dynamicIn, dynamicOf}
 use Rattle.object.specs.Segments.{
   segmentsOk,
   holdsHeaders,
+  sizesOk,
+  addressOk,
+  flagsOk,
   segmentOk,
   pagesApart,
   allApart,
@@ -223,8 +226,8 @@ record AllComputed : Type 0 where
   of-b : LibraryComputed 98
 
 computed : AllComputed
-unfolding wordBytes every some below tab mem byteOf leAt untilZero require after headerRefusal loadsIn segmentAt dynamicIn segmentsOk holdsHeaders
-    segmentOk pagesApart allApart segmentsOf itemsIn endIn lastValue firstOf allOf fieldOf isTable tableBytes tableName walk walkFrom numbersOk
+unfolding wordBytes every some below tab mem byteOf leAt untilZero require after isSharedObject isX86 headersInside headerRefusal loadsIn segmentAt dynamicIn segmentsOk holdsHeaders
+    sizesOk addressOk flagsOk segmentOk pagesApart allApart segmentsOf itemsIn endIn lastValue firstOf allOf fieldOf isTable tableBytes tableName walk walkFrom numbersOk
     bucketOk lengthOk chainOk symbolOk walkOk tableOk tableIn tableCount countOf recordIn recordAt sizesRefusal fieldsRefusal needsOk relocationsOk tablesOk
     readRefusal
 computed =

@@ -84,13 +84,7 @@ header-range : (file : List ℕ) → Range 4 12 (headerRefusal file)
 unfolding headerRefusal
 header-range file =
     required-range 4 12 _ 4 _ (omega arith) (omega arith)
-    (required-range 4 12 _ 4 _ (omega arith) (omega arith)
-    (required-range 4 12 _ 4 _ (omega arith) (omega arith)
-    (required-range 4 12 _ 5 _ (omega arith) (omega arith)
-    (required-range 4 12 _ 5 _ (omega arith) (omega arith)
-    (required-range 4 12 _ 5 _ (omega arith) (omega arith)
-    (required-range 4 12 _ 5 _ (omega arith) (omega arith)
-    (required-range 4 12 _ 6 _ (omega arith) (omega arith) (last-range 4 12 _ 6 (omega arith) (omega arith)))))))))
+    (required-range 4 12 _ 5 _ (omega arith) (omega arith) (last-range 4 12 _ 6 (omega arith) (omega arith)))
 
 -- 7 and 8
 file-range : (host : Bool) (file : List ℕ) → Range 4 12 (fileRefusal host file)

@@ -5,10 +5,11 @@ use mathlib.Core.List.{List}
 use Prim.Native.Nat.{ℕ, zero, suc, _≤_}
 use native.Mathlib.Omega.{arith}
 use borrow.Author.Tests.{leb-true}
-use lib.Dec.{eqb, leb}
+use lib.Dec.{leb}
 use lib.ListN.{length}
+use Rattle.words.proofs.Choice.{both-true}
 use Rattle.object.specs.Refusal.{require, after}
-use Rattle.object.specs.Header.{headerRefusal, magic, fileType, class, encoding, machine, headerSize, headerCount, tableEnd}
+use Rattle.object.specs.Header.{isSharedObject, isX86, headersInside, headerRefusal, headerCount, tableEnd}
 
 -- a chain that gives 0 passed its first test
 pub required : (t : Bool) (n rest : ℕ) → require t (suc n) rest ≡ 0 → (t ≡ true) × (rest ≡ 0)
@@ -43,15 +44,9 @@ after-twice (suc h) t u rest = refl
 
 -- the header table lies in the file
 pub table-inside : (file : List ℕ) → headerRefusal file ≡ 0 → tableEnd file ≤ length file
-unfolding headerRefusal
+unfolding headerRefusal headersInside
 table-inside file e =
-    let a = required (leb 64 (length file)) 3 _ e in
-    let b = required (eqb (magic file) 0x464c457f) 3 _ (a .1) in
-    let c = required (eqb (fileType file) 3) 3 _ (b .1) in
-    let d = required (eqb (class file) 2) 4 _ (c .1) in
-    let f = required (eqb (encoding file) 1) 4 _ (d .1) in
-    let g = required (eqb (machine file) 62) 4 _ (f .1) in
-    let h = required (eqb (headerSize file) 56) 4 _ (g .1) in
-    let i = required (leb (headerCount file) 64) 5 _ (h .1) in
-    let j = required (leb (tableEnd file) (length file)) 5 _ (i .1) in
-    leb-true (tableEnd file) (length file) (j .0)
+    let a = required (isSharedObject file) 3 _ e in
+    let b = required (isX86 file) 4 _ (a .1) in
+    let c = required (headersInside file) 5 _ (b .1) in
+    leb-true (tableEnd file) (length file) (both-true (leb (headerCount file) 64) _ (c .0) .1)

@@ -12,7 +12,7 @@ use Rattle.words.specs.Choice.{both, every}
 use Rattle.words.specs.Memory.{from}
 use Rattle.words.specs.Page.{pageSize, pageStart, pageEnd}
 use Rattle.words.proofs.Choice.{both-true}
-use Rattle.object.specs.Segments.{segmentOk, pagesApart, allApart, endOf, fileBytes}
+use Rattle.object.specs.Segments.{sizesOk, addressOk, segmentOk, pagesApart, allApart, endOf, fileBytes}
 use Rattle.object.specs.declared.program_header.Segment.{Segment}
 use Rattle.object.proofs.ListTests.{one-left, none-left}
 
@@ -34,19 +34,18 @@ nonzero : (k : ℕ) → (k ≡ 0 → ⊥) → 0 < k
 nonzero k ne = omega arith
 
 pub sound : (n : ℕ) (s : Segment) → segmentOk n s ≡ true → Sound n s
-unfolding segmentOk
+unfolding segmentOk sizesOk addressOk
 sound n s e =
-    let a = both-true (not (eqb (s .memsz) 0)) _ e in
+    let g = both-true (sizesOk n s) _ e in
+    let a = both-true (not (eqb (s .memsz) 0)) _ (g .0) in
     let b = both-true (leb (s .filesz) (s .memsz)) _ (a .1) in
-    let c = both-true (leb (s .offset + s .filesz) n) _ (b .1) in
-    let d = both-true (leb (s .vaddr + s .memsz) (2 ^ 28)) _ (c .1) in
-    let f = both-true (eqb (s .offset % pageSize) (s .vaddr % pageSize)) _ (d .1) in
+    let d = both-true (leb (s .vaddr + s .memsz) (2 ^ 28)) _ (both-true (addressOk s) _ (g .1) .0) in
     record {
       some-bytes = nonzero (s .memsz) (eqb-false (s .memsz) 0 (not-true (eqb (s .memsz) 0) (a .0)));
       file-bytes = leb-true (s .filesz) (s .memsz) (b .0);
-      in-file = leb-true (s .offset + s .filesz) n (c .0);
+      in-file = leb-true (s .offset + s .filesz) n (b .1);
       low = leb-true (s .vaddr + s .memsz) (2 ^ 28) (d .0);
-      aligned = eqb-true (s .offset % pageSize) (s .vaddr % pageSize) (f .0);
+      aligned = eqb-true (s .offset % pageSize) (s .vaddr % pageSize) (d .1);
     }
 
 -- its file pages are as many from its address

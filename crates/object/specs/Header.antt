@@ -1,9 +1,11 @@
 -- The ELF header. System V gABI, "ELF Header" (Elf64_Ehdr; the identification bytes are in "ELF Identification"); the machine number is
 -- the x86-64 psABI's EM_X86_64. Document 01, refusals 4, 5 and 6. A file is the list of its bytes. Assumes nothing.
+use mathlib.Core.Bool.{Bool}
 use mathlib.Core.List.{List}
 use Prim.Native.Nat.{ℕ, _+_, _*_}
 use lib.Dec.{eqb, leb}
 use lib.ListN.{length}
+use Rattle.words.specs.Choice.{both}
 use Rattle.words.specs.Memory.{mem}
 use Rattle.words.specs.Words.{leAt}
 use Rattle.object.specs.Refusal.{require}
@@ -38,16 +40,17 @@ headerCount file = leAt 2 (mem file) 56
 abbrev pub tableEnd : List ℕ → ℕ
 tableEnd file = tableStart file + 56 * headerCount file
 
--- 4 "Under 64 bytes, magic wrong, or e_type not 3"; 5 "Class not 2, data not 1, machine not 62, or e_phentsize not 56";
--- 6 "Over 64 program headers, or their table not inside the file"
+-- not 4 "Under 64 bytes, magic wrong, or e_type not 3"
+unfoldable pub isSharedObject : List ℕ → Bool
+isSharedObject file = both (leb 64 (length file)) (both (eqb (magic file) 0x464c457f) (eqb (fileType file) 3))
+
+-- not 5 "Class not 2, data not 1, machine not 62, or e_phentsize not 56"
+unfoldable pub isX86 : List ℕ → Bool
+isX86 file = both (eqb (class file) 2) (both (eqb (encoding file) 1) (both (eqb (machine file) 62) (eqb (headerSize file) 56)))
+
+-- not 6 "Over 64 program headers, or their table not inside the file"
+unfoldable pub headersInside : List ℕ → Bool
+headersInside file = both (leb (headerCount file) 64) (leb (tableEnd file) (length file))
+
 unfoldable pub headerRefusal : List ℕ → ℕ
-headerRefusal file =
-    require (leb 64 (length file)) 4
-    (require (eqb (magic file) 0x464c457f) 4
-    (require (eqb (fileType file) 3) 4
-    (require (eqb (class file) 2) 5
-    (require (eqb (encoding file) 1) 5
-    (require (eqb (machine file) 62) 5
-    (require (eqb (headerSize file) 56) 5
-    (require (leb (headerCount file) 64) 6
-    (require (leb (tableEnd file) (length file)) 6 0))))))))
+headerRefusal file = require (isSharedObject file) 4 (require (isX86 file) 5 (require (headersInside file) 6 0))

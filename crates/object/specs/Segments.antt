@@ -23,17 +23,20 @@ holdsHeaders end s = both (eqb (s .offset) 0) (both (eqb (s .vaddr) 0) (leb end 
 abbrev pub isReadable : Segment → Bool
 isReadable s = eqb (s .flags / 4 % 2) 1
 
--- not "one with p_memsz 0, p_filesz over p_memsz, file end passed, end over 2^28, offset and vaddr unequal modulo 4,096, no read flag,
--- zero fill without write flag", of a file of `n` bytes
+-- not "one with p_memsz 0, p_filesz over p_memsz, file end passed", of a file of `n` bytes
+unfoldable pub sizesOk : ℕ → Segment → Bool
+sizesOk n s = both (not (eqb (s .memsz) 0)) (both (leb (s .filesz) (s .memsz)) (leb (s .offset + s .filesz) n))
+
+-- not "end over 2^28, offset and vaddr unequal modulo 4,096"
+unfoldable pub addressOk : Segment → Bool
+addressOk s = both (leb (s .vaddr + s .memsz) (2 ^ 28)) (eqb (s .offset % pageSize) (s .vaddr % pageSize))
+
+-- not "no read flag, zero fill without write flag"
+unfoldable pub flagsOk : Segment → Bool
+flagsOk s = both (isReadable s) (either (leb (s .memsz) (s .filesz)) (isWritable s))
+
 unfoldable pub segmentOk : ℕ → Segment → Bool
-segmentOk n s =
-    both (not (eqb (s .memsz) 0))
-    (both (leb (s .filesz) (s .memsz))
-    (both (leb (s .offset + s .filesz) n)
-    (both (leb (s .vaddr + s .memsz) (2 ^ 28))
-    (both (eqb (s .offset % pageSize) (s .vaddr % pageSize))
-    (both (isReadable s)
-    (either (leb (s .memsz) (s .filesz)) (isWritable s)))))))
+segmentOk n s = both (sizesOk n s) (both (addressOk s) (flagsOk s))
 
 -- not "a page shared with another"
 unfoldable pub pagesApart : Segment → Segment → Bool

@@ -85,7 +85,7 @@ pub fn check_headers(file: &[u8], host: bool) -> Placed
 }
 
 // Writes the runs of an object whose headers were checked at the start of `part`, and no other byte.
-pub fn place_runs(part: &mut [u8], file: &[u8], host: bool, l: Loads)
+fn place_runs(part: &mut [u8], file: &[u8], host: bool, l: Loads)
     requires { ⌜ (fileRefusal host (now file) ≡ 0) × (segmentsIn l ≡ segmentsOf host (now file)) × (l .count ≤ 16) ⌝ }
     ensures { λ _. ⌜ now (part .exit) ≡ writeRuns (now (file .entry)) (runsOf host (now (file .entry))) (now (part .entry)) ⌝ }
 {
