@@ -18,7 +18,7 @@ use Rattle.sheet.specs.Sheet.{Input, noInput, sheetOk}
 use Rattle.sheet.specs.Steps.Parts.{inputsIn, Tabled}
 use Rattle.sheet.specs.declared.sheet.Parts.{Parts}
 use Rattle.sheet.proofs.PartLaws.{handed-in}
-use Rattle.binder.specs.Instance.{File, objectAt}
+use Rattle.binder.specs.Instance.{File, objectFrom}
 use Rattle.binder.specs.Verdict.{Verdict, noFile, passed, refused, orderVerdict}
 use Rattle.binder.specs.Report.{orderWords, firstUndefined}
 use Rattle.binder.specs.SetOrder.{setOrder}
@@ -98,7 +98,7 @@ filled n ws l = fits-in n n ws l (omega arith)
 
 module _ (address size : ℕ) (table : List ℕ) (hf pf : File) (fs : List File) (policy : Policy) (order : List ℕ) (words : ℕ) where
   abbrev S : objects.Objs
-  S = objsOf (objectAt address) hf pf fs
+  S = objsOf (objectFrom address) hf pf fs
 
   abbrev files : List File
   files = hf ∷ (pf ∷ fs)
@@ -165,7 +165,7 @@ module _
     fs = map fileOf ls
 
     abbrev made-set : objects.Objs
-    made-set = objsOf (objectAt address) (hostFile h) (fileOf p) fs
+    made-set = objsOf (objectFrom address) (hostFile h) (fileOf p) fs
 
     many : objects.count made-set ≡ length ls + 2
     many =

@@ -26,7 +26,7 @@ use Rattle.object.specs.Loaded as loading
 use Rattle.object.specs.Loaded.{objectRefusal}
 use Rattle.object.proofs.RefusalLaws.{required, after-zero}
 use Rattle.sheet.specs.Sheet.{Input, noInput}
-use Rattle.binder.specs.Instance.{File, fileImage, fileRecord, objectAt}
+use Rattle.binder.specs.Instance.{File, fileImage, fileRecord, objectFrom, offsetOf}
 use Rattle.binder.specs.Verdict.{passed, verdict, noFile}
 use Rattle.binder.specs.Steps.Prepared.{loadFrom}
 use Rattle.binder.specs.Bind.{filesOf, namesOf}
@@ -51,15 +51,17 @@ abbrev ReadFrom : File → Type 0
 ReadFrom f = readRefusal (f .host) (fileImage f) (segmentsOf (f .host) (f .bytes)) (dynamicOf (f .bytes)) ≡ 0
 
 read-passed :
-    (size : ℕ) (files : List File) (n off k : ℕ) → loadFrom size n off files ≡ passed → k < length files → ReadFrom (getD files k noFile)
+    (address size : ℕ) (files : List File) (n off k : ℕ) → loadFrom address size n off files ≡ passed → k < length files
+    → ReadFrom (getD files k noFile)
 unfolding loadFrom loading.objectRefusal
-read-passed size [] n off k v h = absurd (omega arith)
-read-passed size (f ∷ fs) n off zero v h =
-    let a = first-passed (verdict (objectRefusal (f .host) (size - off) (f .bytes)) n) _ v in
-    after-zero (placeRefusal (f .host) (size - off) (f .bytes)) _ (verdict-passed (objectRefusal (f .host) (size - off) (f .bytes)) n (a .0)) .1
-read-passed size (f ∷ fs) n off (suc k) v h =
-    let a = first-passed (verdict (objectRefusal (f .host) (size - off) (f .bytes)) n) _ v in
-    read-passed size fs (n + 1) (off + objectSpan (f .host) (f .bytes)) k (a .1) (omega arith)
+read-passed address size [] n off k v h = absurd (omega arith)
+read-passed address size (f ∷ fs) n off zero v h =
+    let a = first-passed (verdict (objectRefusal (f .host) (size - offsetOf address f off) (f .bytes)) n) _ v in
+    let z = verdict-passed (objectRefusal (f .host) (size - offsetOf address f off) (f .bytes)) n (a .0) in
+    after-zero (placeRefusal (f .host) (size - offsetOf address f off) (f .bytes)) _ z .1
+read-passed address size (f ∷ fs) n off (suc k) v h =
+    let a = first-passed (verdict (objectRefusal (f .host) (size - offsetOf address f off) (f .bytes)) n) _ v in
+    read-passed address size fs (n + 1) (offsetOf address f off + objectSpan (f .host) (f .bytes)) k (a .1) (omega arith)
 
 module _ (host : Bool) (image : List ℕ) (segments : List Segment) where
   -- refusal 11: "over 64 needs"
@@ -88,7 +90,7 @@ numbers-are os f image strings d ei es ed read =
 -- ---- a loaded set
 
 module _
-    (size : ℕ) (table arena : List ℕ) (os : List Input) (loads : loadFrom size 0 0 (filesOf os) ≡ passed)
+    (address size : ℕ) (table arena : List ℕ) (os : List Input) (loads : loadFrom address size 0 0 (filesOf os) ≡ passed)
     (views : (k : ℕ) → 2 ≤ k → k < length os → seatAt table k .view ≡ viewOf (fileRecord (getD (filesOf os) k noFile)))
     (images : (k : ℕ) → 2 ≤ k → k < length os → imageAt arena (seatAt table k) ≡ fileImage (getD (filesOf os) k noFile))
   where
@@ -96,7 +98,7 @@ module _
     file k = getD (filesOf os) k noFile
 
     read : (k : ℕ) → k < length os → ReadFrom (file k)
-    read k h = read-passed size (filesOf os) 0 0 k loads (omega (arith, files-length os))
+    read k h = read-passed address size (filesOf os) 0 0 k loads (omega (arith, files-length os))
 
     dynamic : (k : ℕ) → k < length os → dynamicOf (getD os k noInput .file) ≡ dynamicOf (file k .bytes)
     dynamic k h = ap (λ (f : File). dynamicOf (f .bytes)) (sym (file-at os k h))
@@ -127,7 +129,7 @@ module _
 -- in the words of Steady: every object lies at its seat, and its bytes are as they were placed
 module _ (address size : ℕ) (table arena : List ℕ) (h p : Input) (ls : List Input) where
   abbrev objects : ℕ
-  objects = count (objsOf (objectAt address) (hostFile h) (fileOf p) (map fileOf ls))
+  objects = count (objsOf (objectFrom address) (hostFile h) (fileOf p) (map fileOf ls))
 
   pub order-loaded :
       LoadedSet address size table (hostFile h) (fileOf p) (map fileOf ls)
@@ -137,7 +139,7 @@ module _ (address size : ℕ) (table arena : List ℕ) (h p : Input) (ls : List 
       → take (r .count) (r .list) ≡ setOrder (filesOf (h ∷ (p ∷ ls))) (namesOf (h ∷ (p ∷ ls)))
   unfolding filesOf
   order-loaded s lies bytes =
-      order-read size table arena (h ∷ (p ∷ ls)) (s .loads) (λ k a b. ap (λ (x : Seat). x .view) (lies k (many k b) .seat))
+      order-read address size table arena (h ∷ (p ∷ ls)) (s .loads) (λ k a b. ap (λ (x : Seat). x .view) (lies k (many k b) .seat))
       (λ k a b. bytes k (many k b))
     where
       many : (k : ℕ) → k < length (h ∷ (p ∷ ls)) → k < objects

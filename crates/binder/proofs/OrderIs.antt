@@ -9,7 +9,7 @@ use Rattle.model.specs.Order.{OnceEach}
 use Rattle.model.specs.Layout.{objsOf}
 use Rattle.model.proofs.OrderLaws.{once-each}
 use Rattle.sheet.specs.Sheet.{Input}
-use Rattle.binder.specs.Instance.{File, objectAt}
+use Rattle.binder.specs.Instance.{File, objectFrom}
 use Rattle.binder.specs.Verdict.{noFile}
 use Rattle.binder.specs.SetOrder.{neededObjects, setOrder}
 use Rattle.binder.specs.Bind.{namesOf}
@@ -28,7 +28,7 @@ names-length h p ls = length-map ls (λ o. o .name)
 -- of a set: its objects are as many as the names and two
 pub order-is :
     (address : ℕ) (h p : File) (fs : List File) (names : List (List ℕ)) → length names ≡ length fs
-    → OnceEach (count (objsOf (objectAt address) h p fs)) (setOrder (h ∷ (p ∷ fs)) names)
+    → OnceEach (count (objsOf (objectFrom address) h p fs)) (setOrder (h ∷ (p ∷ fs)) names)
 order-is address h p fs names e =
-    let n : length names + 2 ≡ count (objsOf (objectAt address) h p fs) = omega (arith, count-is address 0 h p fs) in
+    let n : length names + 2 ≡ count (objsOf (objectFrom address) h p fs) = omega (arith, count-is address 0 h p fs) in
     subst (λ (n : ℕ). OnceEach n (setOrder (h ∷ (p ∷ fs)) names)) n (set-order (h ∷ (p ∷ fs)) names)

@@ -63,7 +63,7 @@ pub record Passed (sheet bytes : List ℕ) (size address : ℕ) (words : ℕ) (a
   pub sheet-ok : sheetOk sheet (length bytes) ≡ true
   pub arena-ok : arenaOk size address ≡ true
   pub no-twin : twinOf (setOf sheet bytes) ≡ 0
-  pub loads : loadFrom size 0 0 (filesOf (setOf sheet bytes)) ≡ passed
+  pub loads : loadFrom address size 0 0 (filesOf (setOf sheet bytes)) ≡ passed
   pub relocates : orderVerdict (objectsIn address (setOf sheet bytes)) (filesOf (setOf sheet bytes)) (orderIn (setOf sheet bytes)) ≡ passed
   pub arena-is : arena ≡ tab size (bound (objectsIn address (setOf sheet bytes)) (orderIn (setOf sheet bytes)))
   pub report-is :

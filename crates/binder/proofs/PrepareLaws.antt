@@ -16,27 +16,29 @@ use Rattle.words.specs.Choice.{pick}
 use Rattle.words.specs.Memory.{Mem, In, mem, write, patch}
 use Rattle.words.proofs.Memory.{Out, in-or-out, write-in, write-out}
 use Rattle.words.proofs.Choice.{both-true}
-use Rattle.words.proofs.Slices.{put-tail, mem-past, mem-patch, length-tab}
+use Rattle.words.proofs.Slices.{put-tail, mem-past, mem-patch, length-patch, length-tab}
 use Rattle.object.specs.declared.dynamic_fields.Read.{Read}
 use Rattle.object.specs.declared.hash_tables.View.{View}
 use Rattle.object.specs.declared.program_header.Dynamic.{Dynamic}
 use Rattle.object.specs.declared.program_header.Dynamic.the-variants.{Missing, At}
 use Rattle.object.specs.ProgramHeader.{dynamicOf}
-use Rattle.object.specs.Placed.{segmentsOf, objectSpan, objectBytes, objectImage}
+use Rattle.object.specs.Placed.{segmentsOf, objectSpan, objectAlign, objectBytes, objectImage, fileRefusal, CheckedBy}
+use Rattle.object.specs.declared.object_data.Placed.{Placed}
 use Rattle.object.specs.Record as recordIs
 use Rattle.object.specs.Record.{Record, heldBy, viewOf}
 use Rattle.object.specs.Loaded.{objectRecord, objectRefusal, LoadedBy}
-use Rattle.object.proofs.LoadedLaws.{loaded-part}
+use Rattle.object.proofs.PlaceLaws.{object-align, file-span}
+use Rattle.object.proofs.LoadedLaws.{load-headers, load-eight, loaded-part}
 use Rattle.sheet.specs.Sheet as sheets
 use Rattle.sheet.specs.Sheet.{Input, noInput, sheetOk, setOf, arenaOk, twinOf}
 use Rattle.sheet.specs.Steps.Parts.{inputsIn, Tabled}
 use Rattle.sheet.specs.declared.sheet.Parts.{Parts}
 use Rattle.sheet.proofs.PartLaws.{handed-in, two-parts}
-use Rattle.binder.specs.Instance.{File, fileRecord}
+use Rattle.binder.specs.Instance.{File, fileRecord, nextOffset, offsetOf}
 use Rattle.binder.specs.Verdict.{passed, refused, first, verdict, noFile}
 use Rattle.binder.specs.Bind.{filesOf, unless, prepareVerdict}
 use Rattle.scope.specs.Steps.Seats.{seatAt, Filtered}
-use Rattle.binder.specs.Steps.Prepared.{loadFrom, metBy, seatOf, placeFiles, Seated, SeatedAt, LoadedAt, LoadedFiles, setVerdict, Prepared}
+use Rattle.binder.specs.Steps.Prepared.{loadFrom, metBy, seatOf, placeFiles, Seated, SeatedAt, LoadedAt, gapped, LoadedNext, LoadedFiles, setVerdict, Prepared}
 use Rattle.scope.specs.declared.seats.Seat.{Seat}
 use Rattle.binder.specs.declared.prepare.Met.{Met}
 use Rattle.binder.specs.declared.prepare.Met.the-variants.{Passed, Refused}
@@ -44,6 +46,7 @@ use Rattle.binder.specs.declared.prepare.Loaded.{Loaded}
 use Rattle.binder.specs.declared.prepare.Loaded as loads
 use Rattle.binder.proofs.OutcomeLaws.{refused-not, first-passed, unless-passed}
 use Rattle.binder.proofs.LoadsSame.{loads-same}
+use Rattle.binder.proofs.OffsetLaws.{aligned-some, next-after, offset-after, seat-fits}
 
 -- ---- one object
 
@@ -112,6 +115,54 @@ module _
             let w : v ≡ viewOf (objectRecord host file) = e ∙ ap viewOf q in
             rw (s, w)
 
+-- an object loaded where it goes
+pub gapped-length : (a : List ℕ) (free off : ℕ) → length (gapped a free off) ≡ length a
+gapped-length a free off = length-patch a free (off - free) (λ _. 0)
+
+module _ (address : ℕ) (f : File) (free : ℕ) (a : List ℕ) (c : Placed) (k : CheckedBy (f .host) (f .bytes) c) where
+  -- a refusal by the headers
+  pub next-headers : (after : List ℕ) → (c .refusal ≡ 0 → ⊥) → LoadedNext address f free a after (loads.the-variants.Refused (c .refusal))
+  next-headers after ne =
+      (k .refusal ∙ sym (load-headers (f .host) (f .bytes) (length a - offsetOf address f free) (λ z. ne (k .refusal ∙ z))), ne)
+
+  module _ (z : c .refusal ≡ 0) where
+    checked : fileRefusal (f .host) (f .bytes) ≡ 0
+    checked = sym (k .refusal) ∙ z
+
+    -- the alignment that was found
+    pub next-align : (1 ≤ c .align) × (c .align ≤ 2 ^ 21)
+    next-align =
+        let b = object-align (f .host) (f .bytes) checked in
+        (omega (arith, b .0, k .align z), omega (arith, b .1, k .align z))
+
+    pub next-is : {off : ℕ} → off ≡ nextOffset (f .host) (c .align) address free → off ≡ offsetOf address f free
+    next-is e = e ∙ ap (λ (n : ℕ). nextOffset (f .host) n address free) (k .align z)
+
+    -- the offset passes the arena's end
+    pub next-eight :
+        (off : ℕ) → off ≡ offsetOf address f free → free ≤ length a → length a < off → (after : List ℕ)
+        → LoadedNext address f free a after (loads.the-variants.Refused 8)
+    unfolding nextOffset
+    next-eight off e l h after = (sym (go (f .host) (f .bytes) (objectAlign (f .host) (f .bytes)) e checked), λ (x : 8 ≡ 0). omega arith)
+      where
+        go :
+            (host : Bool) (bytes : List ℕ) (align : ℕ) → off ≡ nextOffset host align address free → fileRefusal host bytes ≡ 0
+            → objectRefusal host (length a - nextOffset host align address free) bytes ≡ 8
+        go true bytes align g y = absurd (omega (arith, g, l, h))
+        go false bytes align g y =
+            let s : length a - nextOffset false align address free < objectSpan false bytes = omega (arith, g, h, file-span bytes y) in
+            load-eight false bytes (length a - nextOffset false align address free) y s
+
+    -- loaded after the gap
+    pub next-loaded :
+        (off : ℕ) → off ≡ offsetOf address f free → (b after : List ℕ) → b ≡ gapped a free off → (r : Loaded)
+        → LoadedAt (f .host) (f .bytes) off b after r
+        → LoadedNext address f free a after r
+    next-loaded off e b after g (loads.the-variants.Refused n) q =
+        let s : length b ≡ length a = ap length g ∙ gapped-length a free off in
+        (q .0 ∙ rw (s, e), q .1)
+    next-loaded off e b after g (loads.the-variants.At s) q = rw (g, e) at q
+
 -- ---- the memory below an offset, and zeros from there on
 
 unfoldable pub below : ℕ → Mem → Mem
@@ -142,6 +193,25 @@ below-more m off n f = fun-ext (λ i. go i (in-or-out off n i))
     go i (inr (inr l)) =
         write-out (below off m) off n f i (inr l) ∙ below-past off m i (omega arith) ∙ sym (below-past (off + n) (write m off n f) i l)
 
+-- zeros written from the offset to a later one
+below-gap :
+    (a : List ℕ) (free off : ℕ) → free ≤ off → off ≤ length a → below free (mem a) ≡ below off (mem (gapped a free off))
+below-gap a free off l h = fun-ext (λ i. go i (in-or-out free (off - free) i))
+  where
+    is : mem (gapped a free off) ≡ write (mem a) free (off - free) (λ _. 0)
+    is = mem-patch a free (off - free) (λ _. 0) (omega arith)
+
+    go : (i : ℕ) → In free (off - free) i ⊎ Out free (off - free) i → below free (mem a) i ≡ below off (mem (gapped a free off)) i
+    go i (inl w) =
+        below-past free (mem a) i (w .0)
+        ∙ sym (below-in off (mem (gapped a free off)) i (omega arith)
+        ∙ (ap (λ (m : Mem). m i) is ∙ write-in (mem a) free (off - free) (λ _. 0) i w))
+    go i (inr (inl o)) =
+        below-in free (mem a) i o
+        ∙ sym (below-in off (mem (gapped a free off)) i (omega arith)
+        ∙ (ap (λ (m : Mem). m i) is ∙ write-out (mem a) free (off - free) (λ _. 0) i (inl o)))
+    go i (inr (inr o)) = below-past free (mem a) i (omega arith) ∙ sym (below-past off (mem (gapped a free off)) i (omega arith))
+
 -- zeros written from the offset to the end
 below-end : (a : List ℕ) (off : ℕ) → off ≤ length a → mem (patch a off (length a - off) (λ _. 0)) ≡ below off (mem a)
 below-end a off h =
@@ -155,35 +225,36 @@ below-end a off h =
 
 -- ---- the loop: what is left to load gives, after what was loaded, the whole
 
-pub record Loading (os : List Input) (a₀ a table : List ℕ) (off k : ℕ) : Type 0 where
+pub record Loading (os : List Input) (address : ℕ) (a₀ a table : List ℕ) (off k : ℕ) : Type 0 where
   pub same : length a ≡ length a₀
   pub offset : off ≤ length a
   pub number : k ≤ length os
-  pub met : loadFrom (length a₀) 0 0 (filesOf os) ≡ loadFrom (length a₀) k off (drop k (filesOf os))
-  pub placed : placeFiles (filesOf os) 0 (λ _. 0) ≡ placeFiles (drop k (filesOf os)) off (below off (mem a))
+  pub met : loadFrom address (length a₀) 0 0 (filesOf os) ≡ loadFrom address (length a₀) k off (drop k (filesOf os))
+  pub placed : placeFiles address (filesOf os) 0 (λ _. 0) ≡ placeFiles address (drop k (filesOf os)) off (below off (mem a))
   pub seated :
-      (t : List ℕ) → ((j : ℕ) → j < k → seatAt t j ≡ seatAt table j) → Seated t k off (drop k (filesOf os)) → Seated t 0 0 (filesOf os)
+      (t : List ℕ) → ((j : ℕ) → j < k → seatAt t j ≡ seatAt table j) → Seated address t k off (drop k (filesOf os)) → Seated address t 0 0 (filesOf os)
   pub filtered : Filtered table k
 
-pub load-begin : (os : List Input) (a table : List ℕ) → Loading os a a table 0 0
-load-begin os a table =
+pub load-begin : (os : List Input) (address : ℕ) (a table : List ℕ) → Loading os address a a table 0 0
+load-begin os address a table =
     record {
       same = refl;
       offset = omega arith;
       number = omega arith;
       met = refl;
-      placed = ap (placeFiles (filesOf os) 0) (below-none (mem a));
+      placed = ap (placeFiles address (filesOf os) 0) (below-none (mem a));
       seated = λ t h s. s;
       filtered = λ k l. absurd (omega arith);
     }
 
-module _ (os : List Input) (a₀ a table : List ℕ) (off k : ℕ) (h : Loading os a₀ a table off k) where
+module _ (os : List Input) (address : ℕ) (a₀ a table : List ℕ) (off k : ℕ) (h : Loading os address a₀ a table off k) where
   module _ (l : k < length os) where
-    host : Bool
-    host = eqb k 0
+    abbrev file : File
+    file = record { host = eqb k 0; bytes = getD os k noInput .file }
 
-    file : List ℕ
-    file = getD os k noInput .file
+    -- where the object goes
+    abbrev next : ℕ
+    next = offsetOf address file off
 
     -- the object at `k` is the first of what is left
     left : drop k (filesOf os) ≡ record { host = eqb k 0; bytes = getD os k noInput .file } ∷ drop (suc k) (filesOf os)
@@ -191,12 +262,12 @@ module _ (os : List Input) (a₀ a table : List ℕ) (off k : ℕ) (h : Loading 
         drop-cons (filesOf os) k noFile (omega (arith, files-length os))
         ∙ ap (λ (f : File). f ∷ drop (suc k) (filesOf os)) (file-at os k l)
 
-    module _ (a′ : List ℕ) (p : Loaded) (r : LoadedAt (eqb k 0) (getD os k noInput .file) off a a′ p) where
-      pub load-fail : (n : ℕ) → p ≡ loads.the-variants.Refused n → (t : List ℕ) → LoadedFiles (filesOf os) a₀ a′ t (Refused n k)
+    module _ (a′ : List ℕ) (p : Loaded) (r : LoadedNext address file off a a′ p) where
+      pub load-fail : (n : ℕ) → p ≡ loads.the-variants.Refused n → (t : List ℕ) → LoadedFiles address (filesOf os) a₀ a′ t (Refused n k)
       unfolding loadFrom verdict
       load-fail n e t =
-          let g : (n ≡ objectRefusal (eqb k 0) (length a - off) (getD os k noInput .file)) × (n ≡ 0 → ⊥) =
-          subst (λ (x : Loaded). LoadedAt (eqb k 0) (getD os k noInput .file) off a a′ x) e r in
+          let g : (n ≡ objectRefusal (eqb k 0) (length a - next) (getD os k noInput .file)) × (n ≡ 0 → ⊥) =
+          subst (λ (x : Loaded). LoadedNext address file off a a′ x) e r in
           record {
             met = sym (h .met ∙ rw (left, ← h .same, ← g .0, ne-eqb n 0 (g .1)));
             arena = λ z. refused-not n k (ap metBy z);
@@ -204,40 +275,55 @@ module _ (os : List Input) (a₀ a table : List ℕ) (off k : ℕ) (h : Loading 
             filtered = λ z. refused-not n k (ap metBy z);
           }
 
-      seated : (s : Seat) → p ≡ loads.the-variants.At s → SeatedAt (eqb k 0) (getD os k noInput .file) off a a′ s
-      seated s e = subst (λ (x : Loaded). LoadedAt (eqb k 0) (getD os k noInput .file) off a a′ x) e r
+      seated : (s : Seat) → p ≡ loads.the-variants.At s → SeatedAt (eqb k 0) (getD os k noInput .file) next (gapped a off next) a′ s
+      seated s e = subst (λ (x : Loaded). LoadedNext address file off a a′ x) e r
 
       -- its span fits
-      pub load-fits : (s : Seat) → p ≡ loads.the-variants.At s → off + s .span ≤ length a
-      load-fits s e = let g = seated s e in omega (arith, g .fits, ap (λ (x : Seat). x .span) (g .seat))
+      pub load-fits : (s : Seat) → p ≡ loads.the-variants.At s → s .offset + s .span ≤ length a
+      load-fits s e =
+          let g = seated s e in
+          omega (
+            arith,
+            g .fits,
+            gapped-length a off next,
+            ap (λ (x : Seat). x .offset) (g .seat),
+            ap (λ (x : Seat). x .span) (g .seat),
+          )
 
       pub load-turn :
           (s : Seat) → p ≡ loads.the-variants.At s → length a′ ≡ length a → (t : List ℕ) → seatAt t k ≡ s
           → ((j : ℕ) → (j ≡ k → ⊥) → seatAt t j ≡ seatAt table j) → (Filtered table k → Filtered t (k + 1))
-          → Loading os a₀ a′ t (off + s .span) (k + 1)
+          → Loading os address a₀ a′ t (s .offset + s .span) (k + 1)
       unfolding loadFrom verdict placeFiles Seated
       load-turn s e len t here others filters =
           let g = seated s e in
+          let at : s .offset ≡ next = ap (λ (x : Seat). x .offset) (g .seat) in
           let span : s .span ≡ objectSpan (eqb k 0) (getD os k noInput .file) = ap (λ (x : Seat). x .span) (g .seat) in
+          let long : length (gapped a off next) ≡ length a = gapped-length a off next in
+          let later : off ≤ next = offset-after address file off in
+          let b : List ℕ = gapped a off next in
           let rest : drop (k + 1) (filesOf os) ≡ drop (suc k) (filesOf os) = ap (λ (n : ℕ). drop n (filesOf os)) (add-one k) in
           let n : ℕ = objectSpan (eqb k 0) (getD os k noInput .file) in
           let f : Mem = objectBytes (eqb k 0) (getD os k noInput .file) in
-          let step : placeFiles (drop k (filesOf os)) off (below off (mem a))
-          ≡ placeFiles (drop (suc k) (filesOf os)) (off + n) (below (off + n) (write (mem a) off n f)) =
-          rw left (ap (placeFiles (drop (suc k) (filesOf os)) (off + n)) (below-more (mem a) off n f)) in
+          let step : placeFiles address (drop k (filesOf os)) off (below off (mem a))
+          ≡ placeFiles address (drop (suc k) (filesOf os)) (next + n) (below (next + n) (write (mem b) next n f)) =
+          rw left
+          (ap (placeFiles address (drop (suc k) (filesOf os)) (next + n))
+          (ap (λ (m : Mem). write m next n f) (below-gap a off next later (omega (arith, g .fits, long))) ∙ below-more (mem b) next n f)) in
           record {
             same = len ∙ h .same;
-            offset = omega (arith, g .fits);
+            offset = omega (arith, g .fits, long, len, at, span);
             number = omega arith;
-            met = h .met ∙ rw (left, ← h .same, g .refusal, ← span, add-one k);
-            placed = h .placed ∙ (step ∙ rw (g .arena, span, add-one k));
+            met = h .met ∙ rw (left, ← h .same, ← long, g .refusal, ← span, ← at, add-one k);
+            placed = h .placed ∙ (step ∙ rw (g .arena, span, at, add-one k));
             seated = λ u same q.
                 h .seated u (λ j i. same j (omega arith) ∙ others j (λ e. omega arith))
-                (rw left (same k (omega arith) ∙ (here ∙ g .seat), rw (rest, span) at q));
+                (rw left (same k (omega arith) ∙ (here ∙ g .seat), rw (rest, span, at) at q));
             filtered = filters (h .filtered);
           }
 
-  pub load-finish : k ≡ length os → (a′ : List ℕ) → a′ ≡ patch a off (length a - off) (λ _. 0) → LoadedFiles (filesOf os) a₀ a′ table Passed
+  pub load-finish : k ≡ length os → (a′ : List ℕ) → a′ ≡ patch a off (length a - off) (λ _. 0)
+      → LoadedFiles address (filesOf os) a₀ a′ table Passed
   unfolding loadFrom placeFiles Seated
   load-finish e a′ zeros =
       let n : drop k (filesOf os) ≡ [] = rw (e, ← files-length os) (drop-length (filesOf os)) in
@@ -249,6 +335,14 @@ module _ (os : List Input) (a₀ a table : List ℕ) (off k : ℕ) (h : Loading 
       }
 
 -- ---- preparing: refusals 1 to 3, then loading
+
+-- what refusal 2 lets through
+pub arena-bounds : (size address : ℕ) → arenaOk size address ≡ true → (size ≤ 2 ^ 28) × (address + size ≤ 2 ^ 63)
+unfolding sheets.arenaOk
+arena-bounds size address e =
+    let p = both-true (eqb (address % 4096) 0) _ e in
+    let q = both-true (leb size (2 ^ 28)) _ (p .1) in
+    (leb-true size (2 ^ 28) (q .0), leb-true (address + size) (2 ^ 63) (q .1))
 
 module _ (os : List Input) (address : ℕ) (arena : List ℕ) where
   -- a refusal before anything is loaded
@@ -277,7 +371,7 @@ module _ (os : List Input) (address : ℕ) (arena : List ℕ) where
       prepare-three t e ne = refuses 3 t (rw (le-leb 2 (length os) two, ok, ← e, ne-eqb t 0 ne))
 
       pub prepare-loads :
-          twinOf os ≡ 0 → (arena′ table : List ℕ) (r : Met) → LoadedFiles (filesOf os) arena arena′ table r
+          twinOf os ≡ 0 → (arena′ table : List ℕ) (r : Met) → LoadedFiles address (filesOf os) arena arena′ table r
           → Prepared os address arena arena′ table r
       unfolding setVerdict unless
       prepare-loads none arena′ table r h =
@@ -292,24 +386,23 @@ module _ (os : List Input) (address : ℕ) (arena : List ℕ) where
 pub record Ready (os : List Input) (size address : ℕ) : Type 0 where
   pub verdict-is : setVerdict os size address ≡ passed
   pub two : 2 ≤ length os
-  pub loads : loadFrom size 0 0 (filesOf os) ≡ passed
+  pub loads : loadFrom address size 0 0 (filesOf os) ≡ passed
   pub end : address + size ≤ 2 ^ 63
   pub small : size ≤ 2 ^ 28
 
 pub ready : (os : List Input) (size address : ℕ) → setVerdict os size address ≡ passed → Ready os size address
-unfolding setVerdict sheets.arenaOk
+unfolding setVerdict
 ready os size address e =
     let a = first-passed (unless (leb 2 (length os)) 1 0) _ e in
     let b = first-passed (unless (arenaOk size address) 2 0) _ (a .1) in
-    let c = first-passed (unless (eqb (twinOf os) 0) 3 (twinOf os)) (loadFrom size 0 0 (filesOf os)) (b .1) in
-    let p = both-true (eqb (address % 4096) 0) _ (unless-passed (arenaOk size address) 2 0 (b .0)) in
-    let q = both-true (leb size (2 ^ 28)) _ (p .1) in
+    let c = first-passed (unless (eqb (twinOf os) 0) 3 (twinOf os)) (loadFrom address size 0 0 (filesOf os)) (b .1) in
+    let p = arena-bounds size address (unless-passed (arenaOk size address) 2 0 (b .0)) in
     record {
       verdict-is = e;
       two = leb-true 2 (length os) (unless-passed (leb 2 (length os)) 1 0 (a .0));
       loads = c .1;
-      end = leb-true (address + size) (2 ^ 63) (q .1);
-      small = leb-true size (2 ^ 28) (q .0);
+      end = p .1;
+      small = p .0;
     }
 
 pub passes :

@@ -20,7 +20,7 @@ use Rattle.sheet.specs.Sheet.{Input, sheetOk}
 use Rattle.sheet.specs.Steps.Parts.{inputsIn, Tabled}
 use Rattle.sheet.specs.declared.sheet.Parts.{Parts}
 use Rattle.sheet.proofs.PartLaws.{handed-in}
-use Rattle.binder.specs.Instance.{File, objectAt}
+use Rattle.binder.specs.Instance.{File, objectFrom}
 use Rattle.binder.specs.Bind.{filesOf, objectsOf, unless, replied, replyOf, repliedOf, queryOf}
 use Rattle.scope.specs.Steps.ScopeCode.{resolveSeats}
 use Rattle.binder.specs.Steps.ScopeModel.{scopedOf}
@@ -85,7 +85,7 @@ asked (h ∷ (p ∷ ls)) count arena arena′ table address requester name r man
     fs = map (λ (o : Input). record { host = false; bytes = o .file }) ls
 
     S : objects.Objs
-    S = objsOf (objectAt address) hf pf fs
+    S = objsOf (objectFrom address) hf pf fs
 
     same :
         replied (replyOf (resolve (objectsOf address (filesOf (h ∷ (p ∷ ls)))) requester name))

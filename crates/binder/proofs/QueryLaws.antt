@@ -18,7 +18,7 @@ use Rattle.object.specs.Placed.{objectSpan, objectBytes}
 use Rattle.object.specs.Record.{viewOf}
 use Rattle.object.specs.Loaded.{objectRefusal}
 use Rattle.object.specs.HashTable.{answerIn}
-use Rattle.binder.specs.Instance.{File, fileImage, fileRecord, definitionFound, objectAt}
+use Rattle.binder.specs.Instance.{File, fileImage, fileRecord, definitionFound, objectAt, objectFrom, offsetOf}
 use Rattle.binder.specs.Verdict.{passed, verdict, noFile}
 use Rattle.scope.specs.Steps.Seats.{seatAt}
 use Rattle.binder.specs.Steps.Prepared.{loadFrom, seatOf, placeFiles, Seated}
@@ -27,25 +27,27 @@ use Rattle.scope.specs.Steps.ScopeCode.{imageAt}
 use Rattle.binder.specs.Steps.ScopeModel.{SeatOf, SeatedFor}
 use Rattle.scope.specs.declared.seats.Seat.{Seat}
 use Rattle.binder.proofs.OutcomeLaws.{first-passed, verdict-passed}
-use Rattle.binder.proofs.SoundLaws.{load-fits, count-is}
+use Rattle.binder.proofs.OffsetLaws.{offset-after, seat-fits}
+use Rattle.binder.proofs.SoundLaws.{count-is}
 
 -- ---- placing
 
 -- files placed from `off` on leave what lies before
-before : (fs : List File) (off : ℕ) (m : Mem) (i : ℕ) → i < off → placeFiles fs off m i ≡ m i
+before : (address : ℕ) (fs : List File) (off : ℕ) (m : Mem) (i : ℕ) → i < off → placeFiles address fs off m i ≡ m i
 unfolding placeFiles
-before [] off m i h = refl
-before (f ∷ fs) off m i h =
-    before fs (off + objectSpan (f .host) (f .bytes)) _ i (omega arith)
-    ∙ write-out m off (objectSpan (f .host) (f .bytes)) (objectBytes (f .host) (f .bytes)) i (inl h)
+before address [] off m i h = refl
+before address (f ∷ fs) off m i h =
+    let l = offset-after address f off in
+    before address fs (offsetOf address f off + objectSpan (f .host) (f .bytes)) _ i (omega arith)
+    ∙ write-out m (offsetOf address f off) (objectSpan (f .host) (f .bytes)) (objectBytes (f .host) (f .bytes)) i (inl (omega arith))
 
 -- they are the model's objects, one after another
-pub place-is : (address : ℕ) (fs : List File) (off : ℕ) (m : Mem) → place (layout (objectAt address) fs off) m ≡ placeFiles fs off m
-unfolding placeFiles relocation.place layouts.layout objectAt
+pub place-is : (address : ℕ) (fs : List File) (off : ℕ) (m : Mem) → place (layout (objectFrom address) fs off) m ≡ placeFiles address fs off m
+unfolding placeFiles relocation.place layouts.layout objectFrom objectAt
 place-is address [] off m = refl
-place-is address (f ∷ fs) off m = place-is address fs (off + objectSpan (f .host) (f .bytes)) _
+place-is address (f ∷ fs) off m = place-is address fs (offsetOf address f off + objectSpan (f .host) (f .bytes)) _
 
-pub placed-is : (address : ℕ) (h p : File) (fs : List File) → placed (objsOf (objectAt address) h p fs) ≡ placeFiles (h ∷ (p ∷ fs)) 0 (λ _. 0)
+pub placed-is : (address : ℕ) (h p : File) (fs : List File) → placed (objsOf (objectFrom address) h p fs) ≡ placeFiles address (h ∷ (p ∷ fs)) 0 (λ _. 0)
 unfolding relocation.placed layouts.objsOf layouts.layout
 placed-is address h p fs = place-is address (h ∷ (p ∷ fs)) 0 (λ _. 0)
 
@@ -73,50 +75,50 @@ same n off m arena fits bytes =
 
 module _ (address size : ℕ) (table : List ℕ) where
   sits :
-      (files : List File) (n off j : ℕ) (d : Obj) (m : Mem) → off ≤ size → loadFrom size n off files ≡ passed → Seated table n off files
+      (files : List File) (n off j : ℕ) (d : Obj) (m : Mem) → off ≤ size → loadFrom address size n off files ≡ passed → Seated address table n off files
       → j < length files
-      → Sits address size table (placeFiles files off m) (n + j) (getD files j noFile) (getD (layout (objectAt address) files off) j d)
-  unfolding loadFrom layouts.layout objectAt Seated placeFiles
+      → Sits address size table (placeFiles address files off m) (n + j) (getD files j noFile) (getD (layout (objectFrom address) files off) j d)
+  unfolding loadFrom layouts.layout objectFrom objectAt Seated placeFiles
   sits [] n off j d m l v s h = absurd (omega arith)
   sits (f ∷ fs) n off zero d m l v s h =
-      let a = first-passed (verdict (objectRefusal (f .host) (size - off) (f .bytes)) n) _ v in
-      let c = verdict-passed (objectRefusal (f .host) (size - off) (f .bytes)) n (a .0) in
-      let b = load-fits f (size - off) c in
+      let o : ℕ = offsetOf address f off in
+      let a = first-passed (verdict (objectRefusal (f .host) (size - offsetOf address f off) (f .bytes)) n) _ v in
+      let c = verdict-passed (objectRefusal (f .host) (size - offsetOf address f off) (f .bytes)) n (a .0) in
       let e : n + 0 ≡ n = omega arith in
       record {
-        off = off;
+        off = offsetOf address f off;
         is = refl;
-        fits = omega arith;
+        fits = seat-fits f address size off l c;
         seat = ap (seatAt table) e ∙ s .0;
         bytes = λ i g.
-            before fs (off + objectSpan (f .host) (f .bytes)) _ (off + i) (omega arith)
-            ∙ (write-in m off (objectSpan (f .host) (f .bytes)) (objectBytes (f .host) (f .bytes)) (off + i) (omega arith)
+            before address fs (o + objectSpan (f .host) (f .bytes)) _ (o + i) (omega arith)
+            ∙ (write-in m o (objectSpan (f .host) (f .bytes)) (objectBytes (f .host) (f .bytes)) (o + i) (omega arith)
             ∙ ap (objectBytes (f .host) (f .bytes)) (omega arith));
         loads = c;
       }
   sits (f ∷ fs) n off (suc j) d m l v s h =
-      let a = first-passed (verdict (objectRefusal (f .host) (size - off) (f .bytes)) n) _ v in
-      let b = load-fits f (size - off) (verdict-passed (objectRefusal (f .host) (size - off) (f .bytes)) n (a .0)) in
+      let a = first-passed (verdict (objectRefusal (f .host) (size - offsetOf address f off) (f .bytes)) n) _ v in
+      let c = verdict-passed (objectRefusal (f .host) (size - offsetOf address f off) (f .bytes)) n (a .0) in
       let e : n + 1 + j ≡ n + suc j = omega arith in
       subst
-      (λ (k : ℕ). Sits address size table (placeFiles (f ∷ fs) off m) k (getD fs j noFile)
-      (getD (layout (objectAt address) fs (off + objectSpan (f .host) (f .bytes))) j d))
+      (λ (k : ℕ). Sits address size table (placeFiles address (f ∷ fs) off m) k (getD fs j noFile)
+      (getD (layout (objectFrom address) fs (offsetOf address f off + objectSpan (f .host) (f .bytes))) j d))
       e
-      (sits fs (n + 1) (off + objectSpan (f .host) (f .bytes)) j d _ (omega arith) (a .1) (s .1) (omega arith))
+      (sits fs (n + 1) (offsetOf address f off + objectSpan (f .host) (f .bytes)) j d _ (seat-fits f address size off l c) (a .1) (s .1) (omega arith))
 
   -- object `k` of a loaded set
   pub sits-at :
-      (h p : File) (fs : List File) (m : Mem) → loadFrom size 0 0 (h ∷ (p ∷ fs)) ≡ passed → Seated table 0 0 (h ∷ (p ∷ fs))
-      → (k : ℕ) → k < count (objsOf (objectAt address) h p fs)
-      → Sits address size table (placeFiles (h ∷ (p ∷ fs)) 0 m) k (getD (h ∷ (p ∷ fs)) k noFile) (obj (objsOf (objectAt address) h p fs) k)
-  unfolding layouts.objsOf layouts.layout objectAt
+      (h p : File) (fs : List File) (m : Mem) → loadFrom address size 0 0 (h ∷ (p ∷ fs)) ≡ passed → Seated address table 0 0 (h ∷ (p ∷ fs))
+      → (k : ℕ) → k < count (objsOf (objectFrom address) h p fs)
+      → Sits address size table (placeFiles address (h ∷ (p ∷ fs)) 0 m) k (getD (h ∷ (p ∷ fs)) k noFile) (obj (objsOf (objectFrom address) h p fs) k)
+  unfolding layouts.objsOf layouts.layout objectFrom objectAt
   sits-at h p fs m v s k l =
       let e : 0 + k ≡ k = omega arith in
       subst
-      (λ (n : ℕ). Sits address size table (placeFiles (h ∷ (p ∷ fs)) 0 m) n (getD (h ∷ (p ∷ fs)) k noFile)
-      (obj (objsOf (objectAt address) h p fs) k))
+      (λ (n : ℕ). Sits address size table (placeFiles address (h ∷ (p ∷ fs)) 0 m) n (getD (h ∷ (p ∷ fs)) k noFile)
+      (obj (objsOf (objectFrom address) h p fs) k))
       e
-      (sits (h ∷ (p ∷ fs)) 0 0 k (objectAt address h 0) m (omega arith) v s (omega (arith, count-is address size h p fs)))
+      (sits (h ∷ (p ∷ fs)) 0 0 k (objectFrom address h 0) m (omega arith) v s (omega (arith, count-is address size h p fs)))
 
   -- its part of an arena with the placed bytes is its image
   pub image-at :
@@ -148,11 +150,11 @@ module _ (address size : ℕ) (table : List ℕ) where
   -- every object of a loaded set has its seat, and is asked there
   pub seated-for :
       (h p : File) (fs : List File) (arena : List ℕ) (m : Mem) → length arena ≡ size → address + size < 2 ^ 64
-      → loadFrom size 0 0 (h ∷ (p ∷ fs)) ≡ passed → Seated table 0 0 (h ∷ (p ∷ fs)) → mem arena ≡ placeFiles (h ∷ (p ∷ fs)) 0 m
-      → SeatedFor address arena table (objsOf (objectAt address) h p fs)
+      → loadFrom address size 0 0 (h ∷ (p ∷ fs)) ≡ passed → Seated address table 0 0 (h ∷ (p ∷ fs)) → mem arena ≡ placeFiles address (h ∷ (p ∷ fs)) 0 m
+      → SeatedFor address arena table (objsOf (objectFrom address) h p fs)
   seated-for h p fs arena m len small v s e k l =
       let f : File = getD (h ∷ (p ∷ fs)) k noFile in
       let t = sits-at h p fs m v s k l in
-      seat-of k f (obj (objsOf (objectAt address) h p fs) k) (t .off) arena (t .is) (t .seat) (omega (arith, t .fits))
+      seat-of k f (obj (objsOf (objectFrom address) h p fs) k) (t .off) arena (t .is) (t .seat) (omega (arith, t .fits))
       (λ name. ap (λ (image : List ℕ). answerIn image (viewOf (fileRecord f)) name)
-      (image-at k f (obj (objsOf (objectAt address) h p fs) k) (placeFiles (h ∷ (p ∷ fs)) 0 m) t arena len e))
+      (image-at k f (obj (objsOf (objectFrom address) h p fs) k) (placeFiles address (h ∷ (p ∷ fs)) 0 m) t arena len e))

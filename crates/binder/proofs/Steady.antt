@@ -13,7 +13,7 @@ use Rattle.object.specs.Record.{isTableOf}
 use Rattle.object.specs.Invariant.{SameReadings}
 use Rattle.object.specs.Placed.{objectSpan}
 use Rattle.object.specs.declared.hash_tables.Definition.{Definition}
-use Rattle.binder.specs.Instance.{File, fileImage, fileRecord, symOf, objectAt}
+use Rattle.binder.specs.Instance.{File, fileImage, fileRecord, symOf, objectAt, objectFrom}
 use Rattle.binder.specs.Verdict.{passed, noFile, copyOk}
 use Rattle.scope.specs.Steps.Seats.{seatAt}
 use Rattle.binder.specs.Steps.Prepared.{loadFrom, seatOf, placeFiles, Seated}
@@ -29,13 +29,13 @@ module _ (address size : ℕ) (table : List ℕ) (h p : File) (fs : List File) w
   fileAt k = getD files k noFile
 
   abbrev pub set : Objs
-  set = objsOf (objectAt address) h p fs
+  set = objsOf (objectFrom address) h p fs
 
   -- refusals 2 and 4 to 12 were passed, and the table has the seats
   pub record LoadedSet : Type 0 where
     pub others : (k : ℕ) → 1 ≤ k → k < count set → fileAt k .host ≡ false
-    pub loads : loadFrom size 0 0 files ≡ passed
-    pub seats : Seated table 0 0 files
+    pub loads : loadFrom address size 0 0 files ≡ passed
+    pub seats : Seated address table 0 0 files
     pub end : address + size ≤ 2 ^ 63
     pub small : size ≤ 2 ^ 28
 
@@ -68,7 +68,7 @@ module _ (address size : ℕ) (table : List ℕ) (h p : File) (fs : List File) w
 
   -- the placed arena
   abbrev pub Starts : Type 0
-  Starts = LoadedSet → (a : List ℕ) (m : Mem) → length a ≡ size → mem a ≡ placeFiles files 0 m → (k : ℕ) → k < count set → PlacedAt a k
+  Starts = LoadedSet → (a : List ℕ) (m : Mem) → length a ≡ size → mem a ≡ placeFiles address files 0 m → (k : ℕ) → k < count set → PlacedAt a k
 
   abbrev pub PlacedSteady : Type 0
   PlacedSteady = LoadedSet → (a : List ℕ) → length a ≡ size → ((k : ℕ) → k < count set → PlacedAt a k) → Steady a

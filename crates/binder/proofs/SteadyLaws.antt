@@ -40,7 +40,7 @@ use Rattle.object.specs.declared.program_header.Dynamic.the-variants.{Missing, 
 use Rattle.object.proofs.Ranges.{spares, seg-in, below-at, table-inside}
 use Rattle.object.proofs.RefusalLaws.{required, after-zero}
 use Rattle.object.proofs.ReadingsSame.{invariance}
-use Rattle.binder.specs.Instance.{File, fileImage, fileRecord, objectAt}
+use Rattle.binder.specs.Instance.{File, fileImage, fileRecord, objectAt, objectFrom}
 use Rattle.binder.specs.Verdict.{noFile, copyOk}
 use Rattle.scope.specs.Steps.Seats.{seatAt}
 use Rattle.binder.specs.Steps.Prepared.{seatOf, placeFiles}
@@ -48,6 +48,7 @@ use Rattle.scope.specs.Steps.ScopeCode.{imageAt}
 use Rattle.binder.specs.Steps.ScopeModel.{SeatedFor}
 use Rattle.binder.specs.Steps.Relocating.{copyFits, againRefusal}
 use Rattle.scope.specs.declared.seats.Seat.{Seat}
+use Rattle.binder.proofs.OffsetLaws.{made-after}
 use Rattle.binder.proofs.InsideLaws as inside
 use Rattle.binder.proofs.ScopeIs.{resolve-is, resolve-copy-is}
 use Rattle.binder.proofs.QueryLaws.{Sits, sits-at, image-at, seat-of}
@@ -168,7 +169,7 @@ copy-same a t size off place start value n span fits ends = ap (both a) (go (leb
 
 module _ (address size : ℕ) (table : List ℕ) (h p : File) (fs : List File) where
   abbrev set : Objs
-  set = objsOf (objectAt address) h p fs
+  set = objsOf (objectFrom address) h p fs
 
   abbrev fileAt : ℕ → File
   fileAt k = getD (h ∷ (p ∷ fs)) k noFile
@@ -184,7 +185,7 @@ module _ (address size : ℕ) (table : List ℕ) (h p : File) (fs : List File) w
 
   -- ---- where an object lies
 
-  sits : LoadedSet → (m : Mem) (k : ℕ) → k < count set → Sits address size table (placeFiles (h ∷ (p ∷ fs)) 0 m) k (fileAt k) (obj set k)
+  sits : LoadedSet → (m : Mem) (k : ℕ) → k < count set → Sits address size table (placeFiles address (h ∷ (p ∷ fs)) 0 m) k (fileAt k) (obj set k)
   sits s m k l = sits-at address size table h p fs m (s .loads) (s .seats) k l
 
   pub lies : steady.Lies address size table h p fs
@@ -199,7 +200,7 @@ module _ (address size : ℕ) (table : List ℕ) (h p : File) (fs : List File) w
             ∙ (mod-eq-of-lt (omega (arith, t .fits, s .end)) ∙ sym (ap (λ (o : Obj). o .base) (t .is)));
       }
     where
-      t : Sits address size table (placeFiles (h ∷ (p ∷ fs)) 0 (λ _. 0)) k (fileAt k) (obj set k)
+      t : Sits address size table (placeFiles address (h ∷ (p ∷ fs)) 0 (λ _. 0)) k (fileAt k) (obj set k)
       t = sits s (λ _. 0) k l
 
       off : (obj set k) .offset ≡ t .off
@@ -214,7 +215,7 @@ module _ (address size : ℕ) (table : List ℕ) (h p : File) (fs : List File) w
   -- ---- an arena with the placed bytes
 
   pub starts : steady.Starts address size table h p fs
-  starts s a m len e k l = image-at address size table k (fileAt k) (obj set k) (placeFiles (h ∷ (p ∷ fs)) 0 m) (sits s m k l) a len e
+  starts s a m len e k l = image-at address size table k (fileAt k) (obj set k) (placeFiles address (h ∷ (p ∷ fs)) 0 m) (sits s m k l) a len e
 
   pub placed-steady : steady.PlacedSteady address size table h p fs
   placed-steady s a len placed =
@@ -262,8 +263,8 @@ module _ (address size : ℕ) (table : List ℕ) (h p : File) (fs : List File) w
       span i x = ap (λ (o : Obj). o .span) (lies s i x .is)
 
       go : Dec (j < k) → ((obj set j) .offset + spanAt j ≤ (obj set k) .offset) ⊎ ((obj set k) .offset + spanAt k ≤ (obj set j) .offset)
-      go (yes x) = inl (omega (arith, span j l, objs-apart (objectAt address) (λ f off. omega arith) h p fs j k x g))
-      go (no x) = inr (omega (arith, span k g, objs-apart (objectAt address) (λ f off. omega arith) h p fs k j (omega arith) l))
+      go (yes x) = inl (omega (arith, span j l, objs-apart (objectFrom address) (made-after address) h p fs j k x g))
+      go (no x) = inr (omega (arith, span k g, objs-apart (objectFrom address) (made-after address) h p fs k j (omega arith) l))
 
   -- a byte of object `j`, in an arena
   byte-at :

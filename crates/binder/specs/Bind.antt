@@ -21,7 +21,7 @@ use Rattle.binder.specs.declared.Answer as answers
 use Rattle.binder.specs.declared.Reply.{Reply}
 use Rattle.binder.specs.declared.Reply as replies
 use Rattle.sheet.specs.Sheet.{Input, sheetOk, setOf, arenaOk, twinOf}
-use Rattle.binder.specs.Instance.{File, objectAt}
+use Rattle.binder.specs.Instance.{File, objectFrom}
 use Rattle.binder.specs.Verdict.{Verdict, passed, refused, first, noFile, loadVerdict, orderVerdict}
 use Rattle.binder.specs.Report.{orderWords, firstUndefined}
 use Rattle.binder.specs.SetOrder.{setOrder}
@@ -36,9 +36,9 @@ unfoldable pub namesOf : List Input → List (List ℕ)
 namesOf os = map (λ o. o .name) (drop 2 os)
 
 unfoldable pub objectsOf : ℕ → List File → Objs
-objectsOf address [] = objsOf (objectAt address) noFile noFile []
-objectsOf address (h ∷ []) = objsOf (objectAt address) h noFile []
-objectsOf address (h ∷ (p ∷ fs)) = objsOf (objectAt address) h p fs
+objectsOf address [] = objsOf (objectFrom address) noFile noFile []
+objectsOf address (h ∷ []) = objsOf (objectFrom address) h noFile []
+objectsOf address (h ∷ (p ∷ fs)) = objsOf (objectFrom address) h p fs
 
 -- ---- the refusals, in checking order
 
@@ -46,7 +46,7 @@ objectsOf address (h ∷ (p ∷ fs)) = objsOf (objectAt address) h p fs
 unfoldable pub unless : Bool → ℕ → ℕ → Verdict
 unless t n k = pick t passed (refused n k)
 
--- 1 to 12, which a query meets too
+-- 1 to 12 and 21, which a query meets too
 unfoldable pub prepareVerdict : List ℕ → List ℕ → ℕ → ℕ → Verdict
 prepareVerdict sheet bytes size address =
     first (unless (sheetOk sheet (length bytes)) 1 0)
@@ -104,7 +104,7 @@ unfoldable pub repliedOf : ℕ → Verdict → Reply → List ℕ → Replied
 repliedOf size (refused n k) reply arena = replied (replies.the-variants.Refused n k) (replicate size 0)
 repliedOf size passed reply arena = replied reply arena
 
--- what `query` answers: it "meets only refusals 1 to 13"
+-- what `query` answers: it "meets only refusals 1 to 13", and 21
 unfoldable pub queryOf : List ℕ → List ℕ → ℕ → ℕ → ℕ → List ℕ → Replied
 queryOf sheet bytes size address requester name =
     repliedOf size

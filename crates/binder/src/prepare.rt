@@ -1,10 +1,12 @@
-// What every call does first: refusals 1 to 3 of a set, then its objects into the arena, refusals 4 to 12, object by object.
+// What every call does first: refusals 1 to 3 of a set, then its objects into the arena, refusals 4 to 12 and 21, object by object.
 ghost use mathlib.Core.Path.{_≡_};
-ghost use Prim.Native.Nat.{_≤_};
+ghost use Prim.Native.Nat.{_+_, _^_, _≤_};
 ghost use lib.ListN.{length};
 ghost use Rattle.sheet.specs.Steps.Parts.{inputsIn};
 ghost use Rattle.binder.specs.Bind.{filesOf};
-ghost use Rattle.binder.specs.Steps.Prepared.{LoadedAt, LoadedFiles, Prepared};
+ghost use Rattle.object.specs.Placed.{CheckedBy};
+ghost use Rattle.binder.specs.Instance.{nextOffset};
+ghost use Rattle.binder.specs.Steps.Prepared.{LoadedAt, LoadedNext, LoadedFiles, Prepared};
 use object::object_data::Placed;
 use scope::seats::Seat;
 use sheet::sheet::Parts;
@@ -57,7 +59,7 @@ fn load_at(arena: &mut [u8], off: usize, file: &[u8], host: bool, checked: Place
     Loaded::At(seat)
 }
 
-// Loads an object where it goes, `free` being the next free offset, and writes zeros before it: refusals 4 to 12.
+// Loads an object where it goes, `free` being the next free offset, and writes zeros before it: refusals 4 to 12 and 21.
 fn load_next(arena: &mut [u8], address: u64, free: usize, file: &[u8], host: bool) -> Loaded
     requires { ⌜ (free ≤ length (now arena)) × (length (now arena) ≤ 2 ^ 28) × (address + length (now arena) ≤ 2 ^ 63) ⌝ }
     ensures { λ r. ⌜ LoadedNext address (record { host = host; bytes = now (file .entry) }) free (now (arena .entry)) (now (arena .exit)) r ⌝ }
@@ -78,8 +80,8 @@ fn load_next(arena: &mut [u8], address: u64, free: usize, file: &[u8], host: boo
 // Loads the objects that the table of parts names, one after another, writes zeros between them and behind the last, and fills the table of
 // seats.
 fn load_all(bytes: &[u8], parts: Parts, arena: &mut [u8], address: u64, table: &mut [u64]) -> Met
-    requires { ⌜ (parts .count ≤ 64) × (length (inputsIn (now bytes) parts) ≡ parts .count) × (1024 ≤ length (now table)) ⌝ }
-    ensures { λ r. ⌜ LoadedFiles (filesOf (inputsIn (now (bytes .entry)) parts)) (now (arena .entry)) (now (arena .exit)) (now (table .exit)) r ⌝ }
+    requires { ⌜ (parts .count ≤ 64) × (length (inputsIn (now bytes) parts) ≡ parts .count) × (1024 ≤ length (now table)) × (length (now arena) ≤ 2 ^ 28) × (address + length (now arena) ≤ 2 ^ 63) ⌝ }
+    ensures { λ r. ⌜ LoadedFiles address (filesOf (inputsIn (now (bytes .entry)) parts)) (now (arena .entry)) (now (arena .exit)) (now (table .exit)) r ⌝ }
 {
     let count = parts.count;
     let mut free = 0;
@@ -105,7 +107,7 @@ fn load_all(bytes: &[u8], parts: Parts, arena: &mut [u8], address: u64, table: &
     Met::Passed
 }
 
-// Refusals 1 to 12 of the objects that the table of parts names; what passes is loaded, whatever the arena holds before, and its seats are
+// Refusals 1 to 12 and 21 of the objects that the table of parts names; what passes is loaded, whatever the arena holds before, and its seats are
 // in the table. A refused sheet's table of parts names no object.
 pub(crate) fn prepare(
     bytes: &[u8],

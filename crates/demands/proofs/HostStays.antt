@@ -21,7 +21,7 @@ use Rattle.sheet.proofs.SheetLonger.{Shape, sheet-shape}
 use Rattle.binder.specs.declared.Policy.{Policy}
 use Rattle.binder.specs.declared.Reply as replies
 use Rattle.binder.specs.declared.Reply.{Reply}
-use Rattle.binder.specs.Instance.{File, objectAt}
+use Rattle.binder.specs.Instance.{File, objectAt, objectFrom}
 use Rattle.binder.specs.Verdict.{Verdict, passed, refused, orderVerdict}
 use Rattle.binder.specs.SetOrder.{setOrder}
 use Rattle.binder.specs.Steps.Prepared.{loadFrom, placeFiles}
@@ -37,7 +37,7 @@ use Rattle.demands.specs.Refusals.{HostIn, HostKept}
 
 -- ---- placing and binding leave the bytes of the first object
 
-place-below : (fs : List File) (off : ℕ) (m : Mem) (i : ℕ) → i < off → placeFiles fs off m i ≡ m i
+place-below : (fs : List File) (off : ℕ) (m : Mem) (i : ℕ) → i < off → placeFiles address fs off m i ≡ m i
 unfolding placeFiles
 place-below [] off m i h = refl
 place-below (f ∷ fs) off m i h =
@@ -46,7 +46,7 @@ place-below (f ∷ fs) off m i h =
 
 placed-first :
     (address : ℕ) (h p : File) (fs : List File) (i : ℕ) → i < objectSpan (h .host) (h .bytes)
-    → placed (objsOf (objectAt address) h p fs) i ≡ objectBytes (h .host) (h .bytes) i
+    → placed (objsOf (objectFrom address) h p fs) i ≡ objectBytes (h .host) (h .bytes) i
 unfolding placeFiles
 placed-first address h p fs i l =
     let start : i - 0 ≡ i = omega arith in
@@ -78,11 +78,11 @@ first-bytes file size m l same =
     many : length (take (length file) (tab size m)) ≡ length file
     many = simp (length-take, length-tab) (omega arith)
 
-module _ (address size : ℕ) (h p : Input) (ls : List Input) (v : loadFrom size 0 0 (filesOf (h ∷ (p ∷ ls))) ≡ passed) where
+module _ (address size : ℕ) (h p : Input) (ls : List Input) (v : loadFrom address size 0 0 (filesOf (h ∷ (p ∷ ls))) ≡ passed) where
   abbrev fs : List File
   fs = map fileOf ls
 
-  loads : loadFrom size 0 0 (hostFile h ∷ (fileOf p ∷ fs)) ≡ passed
+  loads : loadFrom address size 0 0 (hostFile h ∷ (fileOf p ∷ fs)) ≡ passed
   loads = rw (files-are h p ls) at v
 
   fits : length (h .file) ≤ size
@@ -103,11 +103,11 @@ module _ (address size : ℕ) (h p : Input) (ls : List Input) (v : loadFrom size
       let o = order-is address (hostFile h) (fileOf p) fs (namesOf (h ∷ (p ∷ ls))) (names-length h p ls ∙ sym (length-map ls fileOf)) in
       let sound = set-sound address size (hostFile h) (fileOf p) fs loads order o (rw (files-are h p ls) at w) in
       rw (files-are h p ls)
-      (bound-first (objsOf (objectAt address) (hostFile h) (fileOf p) fs) sound order o i l refl) ∙ placed-host i l
+      (bound-first (objsOf (objectFrom address) (hostFile h) (fileOf p) fs) sound order o i l refl) ∙ placed-host i l
 
 -- ---- of a set
 
-module _ (address size : ℕ) (os : List Input) (s : Shape os) (v : loadFrom size 0 0 (filesOf os) ≡ passed) where
+module _ (address size : ℕ) (os : List Input) (s : Shape os) (v : loadFrom address size 0 0 (filesOf os) ≡ passed) where
   -- an arena whose first bytes are the host's
   host-in : (m : Mem) → ((i : ℕ) → i < length (s .host .file) → m i ≡ mem (s .host .file) i) → HostIn os (tab size m)
   host-in m same =

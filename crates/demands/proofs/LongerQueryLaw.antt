@@ -19,7 +19,7 @@ use Rattle.sheet.proofs.SheetLonger.{Longer, sheet-longer}
 use Rattle.binder.specs.declared.Policy.{Policy}
 use Rattle.binder.specs.declared.Reply.{Reply}
 use Rattle.binder.specs.declared.Reply.the-variants.{Found}
-use Rattle.binder.specs.Instance.{File, objectAt}
+use Rattle.binder.specs.Instance.{File, objectFrom}
 use Rattle.binder.specs.Verdict.{Verdict, passed, refused, first}
 use Rattle.binder.specs.Bind.{filesOf, objectsOf, unless, prepareVerdict, replied, replyOf, repliedOf, queryOf}
 use Rattle.demands.proofs.PassedSet.{prepared}
@@ -58,7 +58,7 @@ kept address os os′ l r small name k s a e pos =
     let n : length os ≡ length fs + 2 = ap length (l .is) ∙ omega (arith, length-map (l .libs) fileOf) in
     let n′ : length os′ ≡ length fs + 3 =
     ap length (l .longer) ∙ omega (arith, length-map (l .libs) fileOf, length-append (l .libs) (l .added ∷ [])) in (
-      rw (files′, objs-longer (objectAt address) (hostFile (l .host)) (fileOf (l .program)) fs (fileOf (l .added)))
+      rw (files′, objs-longer (objectFrom address) (hostFile (l .host)) (fileOf (l .program)) fs (fileOf (l .added)))
           (resolve-kept _ _ r (omega (arith, count-is address 0 (hostFile (l .host)) (fileOf (l .program)) fs)) name k s a (rw files at e) pos),
       omega arith,
     )

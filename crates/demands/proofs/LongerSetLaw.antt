@@ -9,7 +9,7 @@ use Rattle.model.specs.Relocation.{bound}
 use Rattle.model.specs.Longer.{OnlyProgramCopies, Kept}
 use Rattle.model.proofs.Files.{longer-files}
 use Rattle.sheet.specs.Sheet.{Input, setOf}
-use Rattle.binder.specs.Instance.{File, objectAt}
+use Rattle.binder.specs.Instance.{File, objectFrom}
 use Rattle.binder.specs.Verdict.{passed, orderVerdict}
 use Rattle.binder.specs.Steps.Prepared.{loadFrom}
 use Rattle.binder.specs.SetOrder.{setOrder}
@@ -23,7 +23,7 @@ use Rattle.binder.proofs.OrderIs.{names-length, order-is}
 
 -- the two stages that a set passed, of its files and its libraries' names
 abbrev Loads : ℕ → List File → Type 0
-Loads size files = loadFrom size 0 0 files ≡ passed
+Loads size files = loadFrom address size 0 0 files ≡ passed
 
 abbrev Relocates : ℕ → List File → List (List ℕ) → Type 0
 Relocates address files names = orderVerdict (objectsOf address files) files (setOrder files names) ≡ passed
@@ -51,7 +51,7 @@ keeps address size size′ h p fs f names names′ n n′ v w only v′ w′ =
     let order′ : List ℕ = setOrder (h ∷ (p ∷ (fs ++ (f ∷ [])))) names′ in
     let o = order-is address h p fs names n in
     let o′ = order-is address h p (fs ++ (f ∷ [])) names′ n′ in
-    longer-files (objectAt address) h p fs order size (set-sound address size h p fs v order o w) o (set-fits address size h p fs v) only
+    longer-files (objectFrom address) h p fs order size (set-sound address size h p fs v order o w) o (set-fits address size h p fs v) only
     f order′ size′ (set-sound address size′ h p (fs ++ (f ∷ [])) v′ order′ o′ w′) o′ (set-fits address size′ h p (fs ++ (f ∷ [])) v′)
 
 -- of any two sets of which the second is the first and one object more

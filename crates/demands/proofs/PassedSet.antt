@@ -26,7 +26,7 @@ module _ (sheet bytes : List ℕ) where
 
   pub record Loads (size : ℕ) : Type 0 where
     pub sheet-ok : sheetOk sheet (length bytes) ≡ true
-    pub loads : loadFrom size 0 0 (filesOf os) ≡ passed
+    pub loads : loadFrom address size 0 0 (filesOf os) ≡ passed
 
   pub prepared : (size address : ℕ) → prepareVerdict sheet bytes size address ≡ passed → Loads size
   unfolding prepareVerdict

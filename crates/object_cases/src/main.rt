@@ -112,6 +112,7 @@ fn show_entries(o: ObjectData) {
     size(o.plts);
     size(o.relr);
     size(o.relrs);
+    size(o.align);
 }
 
 // A definition, and its address in an object at 0x10000000.
@@ -221,6 +222,7 @@ fn show_segment(o: ObjectData, i: usize) {
         size(s.filesz);
         size(s.memsz);
         small(s.flags);
+        size(s.align);
     }
 }
 
