@@ -143,7 +143,7 @@ module _ (address : ℕ) (f : File) (free : ℕ) (a : List ℕ) (c : Placed) (k 
         (off : ℕ) → off ≡ offsetOf address f free → free ≤ length a → length a < off → (after : List ℕ)
         → LoadedNext address f free a after (loads.the-variants.Refused 8)
     unfolding nextOffset
-    next-eight off e l h after = (sym (go (f .host) (f .bytes) (objectAlign (f .host) (f .bytes)) e checked), λ (x : 8 ≡ 0). omega arith)
+    next-eight off e l h after = (sym (go (f .host) (f .bytes) (objectAlign (f .host) (f .bytes)) e checked), λ (x : _≡_ {A = ℕ} 8 0). omega arith)
       where
         go :
             (host : Bool) (bytes : List ℕ) (align : ℕ) → off ≡ nextOffset host align address free → fileRefusal host bytes ≡ 0

@@ -165,7 +165,7 @@ module _ (address size : ℕ) (table : List ℕ) (h pr : File) (fs : List File) 
   unfolding bound
   relocated-is L os inputs order once n a report at len zeros p′ a′ report′ e =
       let small : count S ≤ 2 ^ 28 =
-      omega (arith, count-is address size h pr fs, few-files size fl 0 0 (omega arith) (L .loads), L .small) in
+      omega (arith, count-is address size h pr fs, few-files address size fl 0 0 (omega arith) (L .loads), L .small) in
       let placed-at = starts address size table h pr fs L a (λ _. 0) len (at ∙ placed-is address h pr fs) in
       let turns = turns-of (count S) order (omega arith) once in
       let begins : Going [] 0 n started report =

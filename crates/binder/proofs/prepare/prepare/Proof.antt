@@ -4,7 +4,7 @@ use native.Mathlib.Omega.{arith}
 use borrow.Author.Tests.{not-true, not-false}
 use denote.Ref.{now}
 use Rattle.sheet.specs.Steps.Parts.{inputsIn}
-use Rattle.binder.proofs.PrepareLaws.{prepare-one, prepare-two, prepare-three, prepare-loads}
+use Rattle.binder.proofs.PrepareLaws.{arena-bounds, prepare-one, prepare-two, prepare-three, prepare-loads}
 use borrow.Author.Needs.{needs}
 use Rattle.binder.proofs.prepare.prepare.Statement.{statement}
 use Rattle.binder.proofs.prepare.prepare.Tie as tie
@@ -26,6 +26,12 @@ returns-3 c =
     prepare-three (inputsIn (now (a .bytes)) (a .parts)) (a .address) (now (a .arena)) (omega (arith, c .before .before .before .before .before .before .before .before .before .pre .1, c .before .before .before .before .if1 .left))
     (sym (c .before .before .before .arena-ok .ensures) ∙ not-false _ (c .before .before .if2 .left)) (c .before .twin .result) (c .before .twin .ensures .0) (c .if3 .taken) _ _
 
+load-all-requires : tie.Need-load-all-requires
+load-all-requires c κs =
+    let a = c .before .before .before .before .before .before .before .before .before .before .before .args in
+    let b = arena-bounds _ (a .address) (sym (c .before .before .before .before .before .arena-ok .ensures) ∙ not-false _ (c .before .before .before .before .if2 .left)) in
+    (c .before .before .before .before .before .before .before .before .before .before .before .pre .0, c .before .before .before .before .before .before .before .before .before .before .before .pre .1, c .before .before .before .before .before .before .before .before .before .before .before .pre .2, b .0, b .1)
+
 returns-4 : tie.Need-returns-4
 returns-4 c =
     let a = c .before .before .before .before .before .before .before .before .before .before .before .before .before .before .before .before .args in
@@ -42,7 +48,7 @@ prepare-spec =
     (λ c κs. search needs)
     (λ c. search needs)
     returns-3
-    (λ c κs. search needs)
+    load-all-requires
     (λ c. search needs)
     (λ c. search needs)
     returns-4)
