@@ -21,12 +21,13 @@ use Rattle.sheet.proofs.SheetLonger.{Shape, sheet-shape}
 use Rattle.binder.specs.declared.Policy.{Policy}
 use Rattle.binder.specs.declared.Reply as replies
 use Rattle.binder.specs.declared.Reply.{Reply}
-use Rattle.binder.specs.Instance.{File, objectAt, objectFrom}
+use Rattle.binder.specs.Instance.{File, objectAt, nextOffset, offsetOf, objectFrom}
 use Rattle.binder.specs.Verdict.{Verdict, passed, refused, orderVerdict}
 use Rattle.binder.specs.SetOrder.{setOrder}
 use Rattle.binder.specs.Steps.Prepared.{loadFrom, placeFiles}
 use Rattle.binder.specs.Bind.{filesOf, namesOf, objectsOf, prepareVerdict, replied, repliedOf, queryOf}
 use Rattle.binder.proofs.FileLaws.{hostFile, fileOf, files-are}
+use Rattle.binder.proofs.OffsetLaws.{offset-after}
 use Rattle.binder.proofs.OutcomeLaws.{objectsIn, orderIn, bound-passed, first-passed}
 use Rattle.binder.proofs.OrderIs.{names-length, order-is}
 use Rattle.binder.proofs.QueryLaws.{placed-is}
@@ -37,23 +38,24 @@ use Rattle.demands.specs.Refusals.{HostIn, HostKept}
 
 -- ---- placing and binding leave the bytes of the first object
 
-place-below : (fs : List File) (off : ℕ) (m : Mem) (i : ℕ) → i < off → placeFiles address fs off m i ≡ m i
+place-below : (address : ℕ) (fs : List File) (off : ℕ) (m : Mem) (i : ℕ) → i < off → placeFiles address fs off m i ≡ m i
 unfolding placeFiles
-place-below [] off m i h = refl
-place-below (f ∷ fs) off m i h =
-    place-below fs (off + objectSpan (f .host) (f .bytes)) _ i (omega arith)
-    ∙ write-out m off (objectSpan (f .host) (f .bytes)) (objectBytes (f .host) (f .bytes)) i (inl h)
+place-below address [] off m i h = refl
+place-below address (f ∷ fs) off m i h =
+    let l = offset-after address f off in
+    place-below address fs (offsetOf address f off + objectSpan (f .host) (f .bytes)) _ i (omega arith)
+    ∙ write-out m (offsetOf address f off) (objectSpan (f .host) (f .bytes)) (objectBytes (f .host) (f .bytes)) i (inl (omega arith))
 
 placed-first :
-    (address : ℕ) (h p : File) (fs : List File) (i : ℕ) → i < objectSpan (h .host) (h .bytes)
-    → placed (objsOf (objectFrom address) h p fs) i ≡ objectBytes (h .host) (h .bytes) i
-unfolding placeFiles
+    (address : ℕ) (h : Input) (p : File) (fs : List File) (i : ℕ) → i < objectSpan true (h .file)
+    → placed (objsOf (objectFrom address) (hostFile h) p fs) i ≡ objectBytes true (h .file) i
+unfolding placeFiles nextOffset
 placed-first address h p fs i l =
     let start : i - 0 ≡ i = omega arith in
-    ap (λ (m : Mem). m i) (placed-is address h p fs)
-    ∙ (place-below (p ∷ fs) (0 + objectSpan (h .host) (h .bytes)) _ i (omega arith)
-    ∙ (write-in (λ _. 0) 0 (objectSpan (h .host) (h .bytes)) (objectBytes (h .host) (h .bytes)) i (omega arith)
-    ∙ ap (objectBytes (h .host) (h .bytes)) start))
+    ap (λ (m : Mem). m i) (placed-is address (hostFile h) p fs)
+    ∙ (place-below address (p ∷ fs) (0 + objectSpan true (h .file)) _ i (omega arith)
+    ∙ (write-in (λ _. 0) 0 (objectSpan true (h .file)) (objectBytes true (h .file)) i (omega arith)
+    ∙ ap (objectBytes true (h .file)) start))
 
 -- no library is the host, and neither is the program
 bound-first : (S : Objs) → Sound S → (order : List ℕ) → Order S order → (i : ℕ) → i < (obj S 0) .span → (obj S 0) .offset ≡ 0 → bound S order i ≡ placed S i
@@ -86,18 +88,18 @@ module _ (address size : ℕ) (h p : Input) (ls : List Input) (v : loadFrom addr
   loads = rw (files-are h p ls) at v
 
   fits : length (h .file) ≤ size
-  unfolding layouts.objsOf objectAt objectSpan
+  unfolding layouts.objsOf objectFrom objectAt nextOffset objectSpan
   fits = omega (arith, set-fits address size (hostFile h) (fileOf p) fs loads 0 (omega arith))
 
   placed-host : (i : ℕ) → i < length (h .file) → placed (objectsOf address (filesOf (h ∷ (p ∷ ls)))) i ≡ mem (h .file) i
   unfolding objectsOf objectSpan objectBytes
-  placed-host i l = rw (files-are h p ls) (placed-first address (hostFile h) (fileOf p) fs i l)
+  placed-host i l = rw (files-are h p ls) (placed-first address h (fileOf p) fs i l)
 
   bound-host :
       orderVerdict (objectsIn address (h ∷ (p ∷ ls))) (filesOf (h ∷ (p ∷ ls))) (orderIn (h ∷ (p ∷ ls))) ≡ passed
       → (i : ℕ) → i < length (h .file)
       → bound (objectsIn address (h ∷ (p ∷ ls))) (orderIn (h ∷ (p ∷ ls))) i ≡ mem (h .file) i
-  unfolding objectsOf objectSpan objectAt layouts.objsOf
+  unfolding objectsOf objectSpan objectFrom objectAt nextOffset layouts.objsOf
   bound-host w i l =
       let order : List ℕ = setOrder (hostFile h ∷ (fileOf p ∷ fs)) (namesOf (h ∷ (p ∷ ls))) in
       let o = order-is address (hostFile h) (fileOf p) fs (namesOf (h ∷ (p ∷ ls))) (names-length h p ls ∙ sym (length-map ls fileOf)) in

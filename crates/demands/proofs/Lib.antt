@@ -7,5 +7,6 @@ pub mod OrderReported
 pub mod RefusalNumbers
 pub mod RefusalsHold
 pub mod HostStays
+pub mod LargePagesHold
 pub mod PairFiles
 pub mod PairHolds

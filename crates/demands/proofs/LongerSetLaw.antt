@@ -22,8 +22,8 @@ use Rattle.binder.proofs.SoundLaws.{set-sound, set-fits}
 use Rattle.binder.proofs.OrderIs.{names-length, order-is}
 
 -- the two stages that a set passed, of its files and its libraries' names
-abbrev Loads : ℕ → List File → Type 0
-Loads size files = loadFrom address size 0 0 files ≡ passed
+abbrev Loads : ℕ → ℕ → List File → Type 0
+Loads address size files = loadFrom address size 0 0 files ≡ passed
 
 abbrev Relocates : ℕ → List File → List (List ℕ) → Type 0
 Relocates address files names = orderVerdict (objectsOf address files) files (setOrder files names) ≡ passed
@@ -39,10 +39,10 @@ Keeps address size files names size′ files′ names′ =
 keeps :
     (address size size′ : ℕ) (h p : File) (fs : List File) (f : File) (names names′ : List (List ℕ)) → length names ≡ length fs
     → length names′ ≡ length (fs ++ (f ∷ []))
-    → Loads size (h ∷ (p ∷ fs))
+    → Loads address size (h ∷ (p ∷ fs))
     → Relocates address (h ∷ (p ∷ fs)) names
     → OnlyProgramCopies (objectsOf address (h ∷ (p ∷ fs)))
-    → Loads size′ (h ∷ (p ∷ (fs ++ (f ∷ []))))
+    → Loads address size′ (h ∷ (p ∷ (fs ++ (f ∷ []))))
     → Relocates address (h ∷ (p ∷ (fs ++ (f ∷ [])))) names′
     → Keeps address size (h ∷ (p ∷ fs)) names size′ (h ∷ (p ∷ (fs ++ (f ∷ [])))) names′
 unfolding objectsOf
@@ -56,10 +56,10 @@ keeps address size size′ h p fs f names names′ n n′ v w only v′ w′ =
 
 -- of any two sets of which the second is the first and one object more
 keeps-any :
-    (address size size′ : ℕ) (os os′ : List Input) → Longer os os′ → Loads size (filesOf os)
+    (address size size′ : ℕ) (os os′ : List Input) → Longer os os′ → Loads address size (filesOf os)
     → Relocates address (filesOf os) (namesOf os)
     → OnlyProgramCopies (objectsIn address os)
-    → Loads size′ (filesOf os′)
+    → Loads address size′ (filesOf os′)
     → Relocates address (filesOf os′) (namesOf os′)
     → Keeps address size (filesOf os) (namesOf os) size′ (filesOf os′) (namesOf os′)
 keeps-any address size size′ os os′ l v w only v′ w′ =

@@ -1,4 +1,4 @@
--- A set that meets none of refusals 1 to 12: its sheet, its counts, and the objects of its order. Assumes nothing.
+-- A set that meets none of refusals 1 to 12 and 21: its sheet, its counts, and the objects of its order. Assumes nothing.
 use mathlib.Core.Path.{_≡_, sym, ap, _∙_}
 use mathlib.Core.Bool.{true}
 use mathlib.Core.Logic.{⊎-elim}
@@ -24,11 +24,11 @@ module _ (sheet bytes : List ℕ) where
   abbrev os : List Input
   os = setOf sheet bytes
 
-  pub record Loads (size : ℕ) : Type 0 where
+  pub record Loads (size address : ℕ) : Type 0 where
     pub sheet-ok : sheetOk sheet (length bytes) ≡ true
     pub loads : loadFrom address size 0 0 (filesOf os) ≡ passed
 
-  pub prepared : (size address : ℕ) → prepareVerdict sheet bytes size address ≡ passed → Loads size
+  pub prepared : (size address : ℕ) → prepareVerdict sheet bytes size address ≡ passed → Loads size address
   unfolding prepareVerdict
   prepared size address v =
       let a = first-passed (unless (sheetOk sheet (length bytes)) 1 0) _ v in

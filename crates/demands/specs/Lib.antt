@@ -3,4 +3,5 @@ pub mod LongerSet
 pub mod OrderReport
 pub mod Cases
 pub mod Refusals
+pub mod LargePages
 pub mod PairOfSheets

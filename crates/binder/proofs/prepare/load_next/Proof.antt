@@ -16,7 +16,7 @@ returns : tie.Need-returns
 returns c =
     let a = c .before .before .before .before .args in
     let f : File = record { host = a .host; bytes = now (a .file) } in
-    next-headers (a .address) f (a .free) (now (a .arena)) (c .before .check-headers .result) (c .before .check-headers .ensures) _ (c .if1 .taken)
+    next-headers (a .address) f (a .free) (now (a .arena)) (c .before .check-headers .result) (c .before .check-headers .ensures) (now (a .arena)) (c .if1 .taken)
 
 offset-of-requires : tie.Need-offset-of-requires
 offset-of-requires c κs =
@@ -31,7 +31,7 @@ returns-2 c =
     let f : File = record { host = a .host; bytes = now (a .file) } in
     let k = c .before .before .before .check-headers in
     let e = next-is (a .address) f (a .free) (now (a .arena)) (k .result) (k .ensures) (c .before .before .if1 .left) (c .before .offset-of .ensures) in
-    next-eight (a .address) f (a .free) (now (a .arena)) (k .result) (k .ensures) (c .before .before .if1 .left) _ e (c .before .before .before .before .before .before .pre .0) (c .if2 .taken) _
+    next-eight (a .address) f (a .free) (now (a .arena)) (k .result) (k .ensures) (c .before .before .if1 .left) _ e (c .before .before .before .before .before .before .pre .0) (c .if2 .taken) (now (a .arena))
 
 sub-zero : tie.Need-sub-zero
 sub-zero c =
