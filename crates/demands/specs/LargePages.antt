@@ -1,6 +1,7 @@
 -- Where the objects of a set stand. Document 02, (a): "Each object after the host goes to the next free offset where arena address plus offset
 -- is a multiple of" the largest p_align of its PT_LOAD headers; "Adding a library at the end still moves no earlier object" is part of
 -- demand 3 (LongerSet). Assumes nothing.
+use mathlib.Core.Bool.{false}
 use mathlib.Core.List.{List}
 use mathlib.Core.Path.{_≡_}
 use Prim.Native.Nat.{ℕ, suc, _+_, _%_, _≤_, _<_}
