@@ -24,7 +24,7 @@ use Rattle.binder.specs.Report.{orderWords, firstUndefined}
 use Rattle.binder.specs.SetOrder.{setOrder}
 use Rattle.binder.specs.Bind.{filesOf, namesOf, objectsOf, unless, allows, relocateVerdict, outcomeOf, bindIn, bindOf}
 use Rattle.binder.specs.Steps.Prepared.{metBy, setVerdict, Prepared}
-use Rattle.binder.specs.Steps.Settled.{endsBy, settledOf, Relocated, bindSet, BoundSet}
+use Rattle.binder.specs.Steps.Finished.{endsBy, finishedOf, Relocated, bindSet, BoundSet}
 use Rattle.binder.specs.Steps.Needed.{Arranged}
 use Rattle.binder.specs.Steps.Relocating.{left, started, runOrder}
 use Rattle.model.specs.Order.{OnceEach}
@@ -49,24 +49,24 @@ use Rattle.binder.proofs.NeedsIs.{order-loaded}
 -- ---- settling
 
 -- the refusal that was met leaves zeros; none leaves the arena and the report
-pub settled :
+pub finished :
     (size words : ℕ) (m : Met) (arena report arena′ report′ : List ℕ) → length arena′ ≡ size → length report′ ≡ words
     → (metBy m ≡ passed → (arena′ ≡ arena) × (report′ ≡ report ++ replicate (words - length report) 0))
-    → settledOf m arena′ report′ ≡ outcomeOf size words (metBy m) arena report
-unfolding settledOf outcomeOf
-settled size words Passed arena report arena′ report′ la lr same = let s = same refl in rw (s .0, s .1)
-settled size words (Refused n k) arena report arena′ report′ la lr same = cc
+    → finishedOf m arena′ report′ ≡ outcomeOf size words (metBy m) arena report
+unfolding finishedOf outcomeOf
+finished size words Passed arena report arena′ report′ la lr same = let s = same refl in rw (s .0, s .1)
+finished size words (Refused n k) arena report arena′ report′ la lr same = cc
 
 -- the same where the refusal is known
-pub settled-by :
+pub finished-by :
     (size words : ℕ) (m : Met) (v : Verdict) (arena report arena′ report′ : List ℕ) → metBy m ≡ v → length arena′ ≡ size → length report′ ≡ words
     → (v ≡ passed → (arena′ ≡ arena) × (report′ ≡ report ++ replicate (words - length report) 0))
-    → settledOf m arena′ report′ ≡ outcomeOf size words v arena report
-settled-by size words m v arena report arena′ report′ e la lr same =
+    → finishedOf m arena′ report′ ≡ outcomeOf size words v arena report
+finished-by size words m v arena report arena′ report′ e la lr same =
     subst
-    (λ (w : Verdict). settledOf m arena′ report′ ≡ outcomeOf size words w arena report)
+    (λ (w : Verdict). finishedOf m arena′ report′ ≡ outcomeOf size words w arena report)
     e
-    (settled size words m arena report arena′ report′ la lr (λ z. same (sym e ∙ z)))
+    (finished size words m arena report arena′ report′ la lr (λ z. same (sym e ∙ z)))
 
 -- ---- 14 to 20
 
@@ -122,10 +122,10 @@ module _ (address size : ℕ) (table : List ℕ) (hf pf : File) (fs : List File)
         (a .0, leb-true _ _ (unless-passed (leb (length (orderWords S files order)) words) 20 0 (b .1)))
 
     pub relocated-set :
-        (m : Met) → metBy m ≡ endsBy policy p → settledOf m a report
+        (m : Met) → metBy m ≡ endsBy policy p → finishedOf m a report
         ≡ outcomeOf size words (relocateVerdict S files order policy words) (tab size (bound S order)) (orderWords S files order)
     relocated-set m e =
-        settled-by size words m _ _ _ a report (e ∙ ends) (ended .lengths .0) (ended .lengths .1)
+        finished-by size words m _ _ _ a report (e ∙ ends) (ended .lengths .0) (ended .lengths .1)
         (λ z.
         let q = room z in
         let g = ended .bound-is (q .0) in
@@ -151,7 +151,7 @@ pub prepare-refused :
     → (n k : ℕ) → m ≡ Refused n k → length a ≡ size → length report ≡ words → BoundSet os size address policy words a report m
 unfolding bindSet bindIn
 prepare-refused os size address policy words m a report e n k z la lr =
-    rw (sym e ∙ ap metBy z) (settled-by size words m (refused n k) _ _ a report (ap metBy z) la lr (λ q. refused-not n k q))
+    rw (sym e ∙ ap metBy z) (finished-by size words m (refused n k) _ _ a report (ap metBy z) la lr (λ q. refused-not n k q))
 
 -- a set that was loaded
 module _
@@ -189,7 +189,7 @@ module _
         record {
           others = λ k l g. not-host k l (omega (arith, many));
           loads = passed-it .loads;
-          seats = made .table z;
+          links = made .table z;
           end = passed-it .end;
           small = passed-it .small;
         }
@@ -214,7 +214,7 @@ module _
     pub bound-in :
         (policy : Policy) (words : ℕ) (order : List ℕ) → OnceEach (objects.count made-set) order → (report : List ℕ) → report ≡ replicate words 0
         → (a′ report′ : List ℕ) (m : Met) → Relocated (h ∷ (p ∷ ls)) (length ls + 2) table order a address policy report a′ report′ m
-        → settledOf m a′ report′ ≡ bindIn (setVerdict (h ∷ (p ∷ ls)) size address) (filesOf (h ∷ (p ∷ ls))) order size address policy words
+        → finishedOf m a′ report′ ≡ bindIn (setVerdict (h ∷ (p ∷ ls)) size address) (filesOf (h ∷ (p ∷ ls))) order size address policy words
     unfolding filesOf bindIn objectsOf
     bound-in policy words order once report zeros a′ report′ m g =
         let n : length a ≡ size = kept ∙ len in

@@ -11,7 +11,8 @@ use lib.ListN.{length}
 use Rattle.words.specs.Choice.{pick}
 use Rattle.words.specs.Memory.{Mem, mem, from, write, patch}
 use Rattle.words.proofs.Memory.{write-none}
-use Rattle.model.specs.Symbols.{Sym, Answer, absent, answer}
+use Rattle.model.specs.Symbols.{absent, answer}
+use Rattle.model.specs.Symbols as model
 use Rattle.model.specs.Objects.{Objs, count, obj}
 use Rattle.model.specs.Scope.{resolve, resolveCopy}
 use Rattle.model.specs.Relocation.{addressOr0, copied, effect}
@@ -28,16 +29,16 @@ use Rattle.object.specs.RelocationTypes.{Calculation, Row, noSearch, inScope, i
 use Rattle.object.specs.declared.entry_symbol.CheckedSymbol.{CheckedSymbol}
 use Rattle.object.specs.declared.entry_symbol.CheckedSymbol.the-variants.{Refused, Checked}
 use Rattle.object.specs.declared.hash_tables.Definition.{Definition}
-use Rattle.binder.specs.Instance.{File, fileImage, fileRecord, symOf, entryBy}
+use Rattle.binder.specs.Instance.{File, fileImage, fileRecord, definitionOf, entryBy}
 use Rattle.binder.specs.Verdict.{Verdict, passed, verdict, writtenRefusal, copyOk, copyRefusal, symbolThen, refusalBy}
 use Rattle.binder.specs.Report.{reportWord, unresolved, undefinedBy, isPassed}
-use Rattle.scope.specs.Steps.Seats.{seatAt}
+use Rattle.scope.specs.Steps.Links.{linkAt}
 use Rattle.binder.specs.Steps.ScopeModel.{scopedOf}
 use Rattle.binder.specs.Steps.Relocating.{Left, left, wrote, Noted, noted, withArena, withReport, refusedBy, imageIn, reportSum, noteOf, markUndefined, unresolvedOf, writtenBytes, fixedOf, writeFound, copyFits, copyBytes, copyOf, turnOf, soughtFor, soughtForCopy, keeps, answeredOf, symbolicOf, copyingOf, runAction, keepsWeak}
-use Rattle.scope.specs.declared.seats.Seat.{Seat}
+use Rattle.scope.specs.declared.links.Link.{Link}
 use Rattle.binder.specs.declared.turn.Turn.{Turn}
-use Rattle.scope.specs.declared.scope.Scoped.{Scoped}
-use Rattle.scope.specs.declared.scope.Scoped.the-variants.{Absent, Found}
+use Rattle.scope.specs.declared.scope.Resolved.{Resolved}
+use Rattle.scope.specs.declared.scope.Resolved.the-variants.{Absent, Found}
 use Rattle.binder.specs.declared.report.Progress.{Progress}
 use Rattle.binder.proofs.InsideLaws.{name-is}
 use Rattle.binder.proofs.Steady.{set, fileAt, LoadedSet, Steady, Written}
@@ -119,7 +120,7 @@ module _ (address size : ℕ) (table : List ℕ) (h pr : File) (fs : List File) 
     abbrev pub RightlyKept : Progress → Type 0
     RightlyKept p =
         (index : ℕ) → p .last ≡ index + 1
-        → ((o : ℕ) × (z : Sym) × (resolve S k (symbolName image (r .symbols) (r .strings) index) ≡ answer o z (p .address)))
+        → ((o : ℕ) × (z : model.Definition) × (resolve S k (symbolName image (r .symbols) (r .strings) index) ≡ answer o z (p .address)))
         ⊎ ((resolve S k (symbolName image (r .symbols) (r .strings) index) ≡ absent)
         × (eqb (bindingOf (symbolAt image (r .symbols) index)) 2 ≡ true)
         × (p .address ≡ 0))
@@ -141,8 +142,8 @@ module _ (address size : ℕ) (table : List ℕ) (h pr : File) (fs : List File) 
       pub written : Written address size table h pr fs a₀ a k
       pub kept : RightlyKept p
 
-    seat-offset : (d : ℕ) → d < count S → seatAt table d .offset ≡ (obj S d) .offset
-    seat-offset d l = ap (λ (s : Seat). s .offset) ((lies address size table h pr fs L d l) .seat)
+    link-offset : (d : ℕ) → d < count S → linkAt table d .offset ≡ (obj S d) .offset
+    link-offset d l = ap (λ (s : Link). s .offset) ((lies address size table h pr fs L d l) .link)
 
     base-is : t .base ≡ (obj S k) .base
     base-is = (lies address size table h pr fs L k hi) .base
@@ -158,7 +159,7 @@ module _ (address size : ℕ) (table : List ℕ) (h pr : File) (fs : List File) 
           × (mem (patch a (t .offset + q) w g) ≡ write m ((obj S k) .offset + q) w g)
       wrote-to q w g e =
           let x = write-steady address size table h pr fs L a steady k hi q w e g in
-          rw (seat-offset k hi) (
+          rw (link-offset k hi) (
             written-then a₀ a (patch a ((obj S k) .offset + q) w g) k (d .written) (x .0),
             x .1 ∙ ap (λ (m : Mem). write m ((obj S k) .offset + q) w g) (d .memory),
           )
@@ -277,11 +278,11 @@ module _ (address size : ℕ) (table : List ℕ) (h pr : File) (fs : List File) 
         name = symbolName image (r .symbols) (r .strings) (e .symbol)
 
         -- the words and the mark of an entry whose search has the answer
-        abbrev After : Answer → Mem → Progress → List ℕ → List ℕ → Type 0
+        abbrev After : model.Resolved → Mem → Progress → List ℕ → List ℕ → Type 0
         After x m′ =
             Doing (ws ++ pick (unresolved image r e x) (reportWord 6 i ∷ []) []) (earlier u (pick (unresolved image r e x) k 0)) m′
 
-        kept-now : (o : ℕ) (z : Sym) (v : ℕ) → answer o z v ≡ resolve S k name → RightlyKept (keeps (e .symbol + 1) v p)
+        kept-now : (o : ℕ) (z : model.Definition) (v : ℕ) → answer o z v ≡ resolve S k name → RightlyKept (keeps (e .symbol + 1) v p)
         kept-now o z v is index f =
             let same : e .symbol ≡ index = omega arith in
             inl (o, z, sym (ap (λ (s : ℕ). resolve S k (symbolName image (r .symbols) (r .strings) s)) same) ∙ sym is)
@@ -297,7 +298,7 @@ module _ (address size : ℕ) (table : List ℕ) (h pr : File) (fs : List File) 
 
         module _ (f : Calculation) where
           -- what such an entry leaves
-          abbrev Written6 : Answer → Left → Type 0
+          abbrev Written6 : model.Resolved → Left → Type 0
           Written6 x st = Ran size n (verdict 0 k) (After x (write m ((obj S k) .offset + e .place) (f .width) (writtenBytes t e f (addressOr0 x)))) st
 
           -- found nowhere: a weak symbol's absence is kept
@@ -323,17 +324,17 @@ module _ (address size : ℕ) (table : List ℕ) (h pr : File) (fs : List File) 
               (write m ((obj S k) .offset + e .place) (f .width) (writtenBytes t e f 0)) (patch a (t .offset + e .place) (f .width) (writtenBytes t e f 0)) (unresolvedOf y k i p report)
               (verdict-none 0 k refl) (unresolved-going i l y) (unresolved-kept y k i p report) (z .0) (z .1))
 
-          found-ran : (s : Scoped) → scopedOf s ≡ resolve S k name → inWritable (r .segments) (e .place) (f .width) ≡ true → Written6 (resolve S k name) (writeFound t e f i y s p a report)
+          found-ran : (s : Resolved) → scopedOf s ≡ resolve S k name → inWritable (r .segments) (e .place) (f .width) ≡ true → Written6 (resolve S k name) (writeFound t e f i y s p a report)
           unfolding scopedOf writeFound addressOr0
           found-ran Absent eq w =
-              subst (λ (x : Answer). Written6 x (writeFound t e f i y Absent p a report)) eq (nowhere-ran eq w (eqb (bindingOf y) 2) refl)
+              subst (λ (x : model.Resolved). Written6 x (writeFound t e f i y Absent p a report)) eq (nowhere-ran eq w (eqb (bindingOf y) 2) refl)
           found-ran (Found d s v) eq w =
               let z = wrote-to (e .place) (f .width) (writtenBytes t e f v) w in
               subst
-              (λ (x : Answer). Written6 x (writeFound t e f i y (Found d s v) p a report))
+              (λ (x : model.Resolved). Written6 x (writeFound t e f i y (Found d s v) p a report))
               eq
               (with-answer (verdict 0 k) (e .symbol + 1) v (write m ((obj S k) .offset + e .place) (f .width) (writtenBytes t e f v)) (patch a (t .offset + e .place) (f .width) (writtenBytes t e f v))
-              (verdict-none 0 k refl) (kept-now d (symOf s) v eq) (z .0) (z .1))
+              (verdict-none 0 k refl) (kept-now d (definitionOf s) v eq) (z .0) (z .1))
 
           kept-ran :
               p .last ≡ e .symbol + 1 → inWritable (r .segments) (e .place) (f .width) ≡ true
@@ -344,13 +345,13 @@ module _ (address size : ℕ) (table : List ℕ) (h pr : File) (fs : List File) 
               ⊎-elim
               (λ x.
               subst
-              (λ (x : Answer). Written6 x (left p (patch a (t .offset + e .place) (f .width) (writtenBytes t e f (p .address))) report))
+              (λ (x : model.Resolved). Written6 x (left p (patch a (t .offset + e .place) (f .width) (writtenBytes t e f (p .address))) report))
               (sym (x .2))
               (plain (verdict 0 k) (write m ((obj S k) .offset + e .place) (f .width) (writtenBytes t e f (p .address))) (patch a (t .offset + e .place) (f .width) (writtenBytes t e f (p .address)))
               (verdict-none 0 k refl) (z .0) (z .1)))
               (λ x.
               subst
-              (λ (x : Answer). Written6 x (left p (patch a (t .offset + e .place) (f .width) (writtenBytes t e f (p .address))) report))
+              (λ (x : model.Resolved). Written6 x (left p (patch a (t .offset + e .place) (f .width) (writtenBytes t e f (p .address))) report))
               (sym (x .0))
               (rw (x .1)
               (plain (verdict 0 k) (write m ((obj S k) .offset + e .place) (f .width) (writtenBytes t e f 0)) (patch a (t .offset + e .place) (f .width) (writtenBytes t e f (p .address)))
@@ -358,14 +359,14 @@ module _ (address size : ℕ) (table : List ℕ) (h pr : File) (fs : List File) 
               (d .kept (e .symbol) same)
 
           answered-ran :
-              (s : Scoped) → scopedOf s ≡ resolve S k name → inWritable (r .segments) (e .place) (f .width) ≡ true → (b : Bool) → eqb (p .last) (e .symbol + 1) ≡ b
+              (s : Resolved) → scopedOf s ≡ resolve S k name → inWritable (r .segments) (e .place) (f .width) ≡ true → (b : Bool) → eqb (p .last) (e .symbol + 1) ≡ b
               → Written6 (resolve S k name)
               (pick b (left p (patch a (t .offset + e .place) (f .width) (writtenBytes t e f (p .address))) report) (writeFound t e f i y s p a report))
           answered-ran s eq w true same = kept-ran (eqb-true (p .last) (e .symbol + 1) same) w
           answered-ran s eq w false same = found-ran s eq w
 
           symbolic-by :
-              (s : Scoped) → scopedOf s ≡ resolve S k name → (b : Bool) → inWritable (r .segments) (e .place) (f .width) ≡ b
+              (s : Resolved) → scopedOf s ≡ resolve S k name → (b : Bool) → inWritable (r .segments) (e .place) (f .width) ≡ b
               → Ran size n (verdict (require b 17 0) k)
               (After (resolve S k name) (write m ((obj S k) .offset + e .place) (f .width) (writtenBytes t e f (addressOr0 (resolve S k name)))))
               (pick b
@@ -406,38 +407,38 @@ module _ (address size : ℕ) (table : List ℕ) (h pr : File) (fs : List File) 
               (b : Bool) → inWritable (r .segments) (e .place) many ≡ true
               → Ran size n (verdict (require b 18 0) k) (Doing (ws ++ []) (earlier u 0) (write m to many (source m)))
               (withReport report
-              (pick b (wrote p (patch a (t .offset + e .place) many (from (seatAt table o .offset + x .value) (mem a))))
+              (pick b (wrote p (patch a (t .offset + e .place) many (from (linkAt table o .offset + x .value) (mem a))))
               (wrote (refusedBy t 18 p) a)))
           unfolding require
           copy-fits true w =
-              let z = wrote-to (e .place) many (from (seatAt table o .offset + x .value) (mem a)) w in
+              let z = wrote-to (e .place) many (from (linkAt table o .offset + x .value) (mem a)) w in
               plain (verdict 0 k) (write m to many (source m))
-              (patch a (t .offset + e .place) many (from (seatAt table o .offset + x .value) (mem a))) (verdict-none 0 k refl) (z .0)
+              (patch a (t .offset + e .place) many (from (linkAt table o .offset + x .value) (mem a))) (verdict-none 0 k refl) (z .0)
               (z .1
-              ∙ (ap (λ (s : ℕ). write m to many (from (s + x .value) (mem a))) (seat-offset o ol)
+              ∙ (ap (λ (s : ℕ). write m to many (from (s + x .value) (mem a))) (link-offset o ol)
               ∙ ap (λ (q : Mem). write m to many (source q)) (d .memory)))
           copy-fits false w = stopped 18 _ (λ e. omega arith)
 
           fits-is :
               inWritable (r .segments) (e .place) many ≡ true
-              → copyFits (length a) t (e .place) (seatAt table o) x many ≡ copyOk S k (e .place) o (symOf x) many
+              → copyFits (length a) t (e .place) (linkAt table o) x many ≡ copyOk S k (e .place) o (definitionOf x) many
           fits-is w =
-              ap (λ (s : ℕ). copyFits s t (e .place) (seatAt table o) x many) (steady .size-is)
+              ap (λ (s : ℕ). copyFits s t (e .place) (linkAt table o) x many) (steady .size-is)
               ∙ copy-tests address size table h pr fs L k o hi ol (e .place) many
               (writable-inside address size table h pr fs k (e .place) many w) x
 
           copy-writable :
               (b : Bool) → inWritable (r .segments) (e .place) many ≡ b
-              → Ran size n (verdict (require b 17 (require (copyOk S k (e .place) o (symOf x) many) 18 0)) k)
+              → Ran size n (verdict (require b 17 (require (copyOk S k (e .place) o (definitionOf x) many) 18 0)) k)
               (Doing (ws ++ []) (earlier u 0) (write m to many (source m)))
               (withReport report
               (pick b
-              (pick (copyFits (length a) t (e .place) (seatAt table o) x many)
-              (wrote p (patch a (t .offset + e .place) many (from (seatAt table o .offset + x .value) (mem a))))
+              (pick (copyFits (length a) t (e .place) (linkAt table o) x many)
+              (wrote p (patch a (t .offset + e .place) many (from (linkAt table o .offset + x .value) (mem a))))
               (wrote (refusedBy t 18 p) a))
               (wrote (refusedBy t 17 p) a)))
           unfolding require
-          copy-writable true w = rw (fits-is w) (copy-fits (copyOk S k (e .place) o (symOf x) many) w)
+          copy-writable true w = rw (fits-is w) (copy-fits (copyOk S k (e .place) o (definitionOf x) many) w)
           copy-writable false w = stopped 17 _ (λ e. omega arith)
 
           copy-some :
@@ -445,13 +446,13 @@ module _ (address size : ℕ) (table : List ℕ) (h pr : File) (fs : List File) 
               → Ran size n
               (verdict
               (pick b 0
-              (require (inWritable (r .segments) (e .place) many) 17 (require (copyOk S k (e .place) o (symOf x) many) 18 0))) k)
+              (require (inWritable (r .segments) (e .place) many) 17 (require (copyOk S k (e .place) o (definitionOf x) many) 18 0))) k)
               (Doing (ws ++ []) (earlier u 0) (write m to many (source m)))
               (withReport report
               (pick b (wrote p a)
               (pick (inWritable (r .segments) (e .place) many)
-              (pick (copyFits (length a) t (e .place) (seatAt table o) x many)
-              (wrote p (patch a (t .offset + e .place) many (from (seatAt table o .offset + x .value) (mem a))))
+              (pick (copyFits (length a) t (e .place) (linkAt table o) x many)
+              (wrote p (patch a (t .offset + e .place) many (from (linkAt table o .offset + x .value) (mem a))))
               (wrote (refusedBy t 18 p) a))
               (wrote (refusedBy t 17 p) a))))
           copy-some true z =
@@ -460,13 +461,13 @@ module _ (address size : ℕ) (table : List ℕ) (h pr : File) (fs : List File) 
           copy-some false z = copy-writable (inWritable (r .segments) (e .place) many) refl
 
         copy-by :
-            (x : Answer) (s : Scoped) → scopedOf s ≡ x → ((o : ℕ) (z : Sym) (v : ℕ) → x ≡ answer o z v → o < count S)
+            (x : model.Resolved) (s : Resolved) → scopedOf s ≡ x → ((o : ℕ) (z : model.Definition) (v : ℕ) → x ≡ answer o z v → o < count S)
             → Ran size n (verdict (copyRefusal S k r (e .place) (y .size) x) k)
             (After x (copied S ((obj S k) .offset + e .place) (y .size) x m)) (copyOf table t (r .segments) e i y s p a report)
         unfolding scopedOf copyOf copyRefusal copied copyBytes
         copy-by x Absent eq range =
             subst
-            (λ (x : Answer).
+            (λ (x : model.Resolved).
             Ran size n (verdict (copyRefusal S k r (e .place) (y .size) x) k)
             (After x (copied S ((obj S k) .offset + e .place) (y .size) x m)) (copyOf table t (r .segments) e i y Absent p a report))
             eq
@@ -475,11 +476,11 @@ module _ (address size : ℕ) (table : List ℕ) (h pr : File) (fs : List File) 
             (d .memory))
         copy-by x (Found o z v) eq range =
             subst
-            (λ (x : Answer).
+            (λ (x : model.Resolved).
             Ran size n (verdict (copyRefusal S k r (e .place) (y .size) x) k)
             (After x (copied S ((obj S k) .offset + e .place) (y .size) x m)) (copyOf table t (r .segments) e i y (Found o z v) p a report))
             eq
-            (copy-some o (range o (symOf z) v (sym eq)) z v (eqb (min (y .size) (z .size)) 0) refl)
+            (copy-some o (range o (definitionOf z) v (sym eq)) z v (eqb (min (y .size) (z .size)) 0) refl)
 
         copy-ran :
             Ran size n

@@ -14,7 +14,7 @@ use Rattle.words.specs.Words.{leAt}
 use Rattle.words.specs.Names.{nameAt}
 use Rattle.words.proofs.Choice.{both-true, either-true}
 use Rattle.words.proofs.Page.{end-near}
-use Rattle.model.specs.Symbols.{Answer, absent, answer}
+use Rattle.model.specs.Symbols.{Resolved, absent, answer}
 use Rattle.model.specs.Objects.{Entry, Objs, obj}
 use Rattle.model.specs.Scope.{resolveCopy}
 use Rattle.model.specs.Sound.{InsideCopy, Inside}
@@ -114,7 +114,7 @@ module _ (S : Objs) (k : ℕ) (image : List ℕ) (r : Record) (base : ℕ)
   written : (p n : ℕ) → writtenRefusal r p n ≡ 0 → p + n ≤ (obj S k) .span
   written p n e = inner p n (required (inWritable (r .segments) p n) 16 0 e .0)
 
-  copy-inside : (p size : ℕ) (a : Answer) → copyRefusal S k r p size a ≡ 0 → InsideCopy S k p size a
+  copy-inside : (p size : ℕ) (a : Resolved) → copyRefusal S k r p size a ≡ 0 → InsideCopy S k p size a
   unfolding copyRefusal copyOk
   copy-inside p size absent e = tt
   copy-inside p size (answer d s a) e = λ pos.

@@ -21,10 +21,10 @@ use Rattle.object.specs.declared.relocate.Rela.{Rela}
 use Rattle.object.specs.RelocationTypes.{Calculation, Row, noSearch, inScope, ignored, passedOver, turnedAway, copies, writes}
 use Rattle.object.specs.declared.entry_symbol.CheckedSymbol.{CheckedSymbol}
 use Rattle.object.specs.declared.entry_symbol.CheckedSymbol.the-variants.{Refused, Checked}
-use Rattle.scope.specs.Steps.Seats.{seatAt}
-use Rattle.scope.specs.declared.seats.Seat.{Seat}
-use Rattle.scope.specs.declared.scope.Scoped.{Scoped}
-use Rattle.scope.specs.declared.scope.Scoped.the-variants.{Absent, Found}
+use Rattle.scope.specs.Steps.Links.{linkAt}
+use Rattle.scope.specs.declared.links.Link.{Link}
+use Rattle.scope.specs.declared.scope.Resolved.{Resolved}
+use Rattle.scope.specs.declared.scope.Resolved.the-variants.{Absent, Found}
 use Rattle.binder.specs.declared.report.Progress.{Progress}
 use Rattle.binder.specs.declared.turn.Turn.{Turn}
 use Rattle.binder.specs.declared.relocate.Symbols.{Symbols}
@@ -99,7 +99,7 @@ module _ (t : Turn) (r : Record) where
           go true w = kept-write a (e .place) (f .width) (writtenBytes t e f 0) w
           go false w = kept-none a
 
-      found-keeps : (y : Symbol) (s : Scoped) → inWritable (r .segments) (e .place) (f .width) ≡ true → Keeps a (writeFound t e f i y s p a report)
+      found-keeps : (y : Symbol) (s : Resolved) → inWritable (r .segments) (e .place) (f .width) ≡ true → Keeps a (writeFound t e f i y s p a report)
       unfolding writeFound
       found-keeps y Absent w =
           noted-keeps a (patch a (t .offset + e .place) (f .width) (writtenBytes t e f 0))
@@ -121,7 +121,7 @@ module _ (t : Turn) (r : Record) where
           go true w false = found-keeps y (soughtFor address table count t a (nameOf (imageIn a t) r y)) w
           go false w c = kept-none a
 
-    copied-keeps : (s : Seat) (d : Definition) (n : ℕ) → Keeps a (withReport report (copyBytes t (r .segments) (e .place) s d n p a))
+    copied-keeps : (s : Link) (d : Definition) (n : ℕ) → Keeps a (withReport report (copyBytes t (r .segments) (e .place) s d n p a))
     unfolding copyBytes
     copied-keeps s d n = go (eqb n 0) (inWritable (r .segments) (e .place) n) refl (copyFits (length a) t (e .place) s d n)
       where
@@ -137,10 +137,10 @@ module _ (t : Turn) (r : Record) where
         go false true w false = kept-none a
         go false false w c = kept-none a
 
-    copy-keeps : (y : Symbol) (s : Scoped) → Keeps a (copyOf table t (r .segments) e i y s p a report)
+    copy-keeps : (y : Symbol) (s : Resolved) → Keeps a (copyOf table t (r .segments) e i y s p a report)
     unfolding copyOf
     copy-keeps y Absent = noted-keeps a a (unresolvedOf y (t .number) i p report) (kept-none a)
-    copy-keeps y (Found k d x) = copied-keeps (seatAt table k) d (min (y .size) (d .size))
+    copy-keeps y (Found k d x) = copied-keeps (linkAt table k) d (min (y .size) (d .size))
 
     copying-keeps : (c : CheckedSymbol) → Keeps a (copyingOf address table count t r e i c p a report)
     unfolding copyingOf

@@ -32,11 +32,11 @@ use Rattle.binder.specs.Steps.Prepared.{loadFrom}
 use Rattle.binder.specs.Bind.{filesOf, namesOf}
 use Rattle.binder.specs.SetOrder as sets
 use Rattle.binder.specs.SetOrder.{setOrder}
-use Rattle.scope.specs.Steps.Seats.{seatAt}
+use Rattle.scope.specs.Steps.Links.{linkAt}
 use Rattle.scope.specs.Steps.ScopeCode.{imageAt}
 use Rattle.binder.specs.Steps.Needed.{neededAt, numbersAt, needsAt, FewNeeds, Arranged}
 use Rattle.binder.specs.declared.order.Order.{Order}
-use Rattle.scope.specs.declared.seats.Seat.{Seat}
+use Rattle.scope.specs.declared.links.Link.{Link}
 use Rattle.binder.proofs.OutcomeLaws.{first-passed, verdict-passed}
 use Rattle.binder.proofs.PrepareLaws.{file-at, files-length}
 use Rattle.binder.proofs.FileLaws.{hostFile, fileOf}
@@ -91,8 +91,8 @@ numbers-are os f image strings d ei es ed read =
 
 module _
     (address size : ℕ) (table arena : List ℕ) (os : List Input) (loads : loadFrom address size 0 0 (filesOf os) ≡ passed)
-    (views : (k : ℕ) → 2 ≤ k → k < length os → seatAt table k .view ≡ viewOf (fileRecord (getD (filesOf os) k noFile)))
-    (images : (k : ℕ) → 2 ≤ k → k < length os → imageAt arena (seatAt table k) ≡ fileImage (getD (filesOf os) k noFile))
+    (views : (k : ℕ) → 2 ≤ k → k < length os → linkAt table k .view ≡ viewOf (fileRecord (getD (filesOf os) k noFile)))
+    (images : (k : ℕ) → 2 ≤ k → k < length os → imageAt arena (linkAt table k) ≡ fileImage (getD (filesOf os) k noFile))
   where
     abbrev file : ℕ → File
     file k = getD (filesOf os) k noFile
@@ -126,7 +126,7 @@ module _
     pub order-read : (r : Order) → Arranged os (length os) arena table r → take (r .count) (r .list) ≡ setOrder (filesOf os) (namesOf os)
     order-read r made = made .order few-needs ∙ order-are
 
--- in the words of Steady: every object lies at its seat, and its bytes are as they were placed
+-- in the words of Steady: every object lies at its link, and its bytes are as they were placed
 module _ (address size : ℕ) (table arena : List ℕ) (h p : Input) (ls : List Input) where
   abbrev objects : ℕ
   objects = count (objsOf (objectFrom address) (hostFile h) (fileOf p) (map fileOf ls))
@@ -139,7 +139,7 @@ module _ (address size : ℕ) (table arena : List ℕ) (h p : Input) (ls : List 
       → take (r .count) (r .list) ≡ setOrder (filesOf (h ∷ (p ∷ ls))) (namesOf (h ∷ (p ∷ ls)))
   unfolding filesOf
   order-loaded s lies bytes =
-      order-read address size table arena (h ∷ (p ∷ ls)) (s .loads) (λ k a b. ap (λ (x : Seat). x .view) (lies k (many k b) .seat))
+      order-read address size table arena (h ∷ (p ∷ ls)) (s .loads) (λ k a b. ap (λ (x : Link). x .view) (lies k (many k b) .link))
       (λ k a b. bytes k (many k b))
     where
       many : (k : ℕ) → k < length (h ∷ (p ∷ ls)) → k < objects

@@ -29,9 +29,9 @@ use Rattle.sheet.specs.Steps.Parts as parts
 use Rattle.sheet.specs.Steps.Parts.{noPart, inputIn, inputsIn}
 use Rattle.sheet.proofs.SheetLaws.{drop-next}
 use Rattle.sheet.proofs.PartLaws.{take-short, input-at, inputs-length}
-use Rattle.scope.specs.declared.seats.Seat.{Seat}
+use Rattle.scope.specs.declared.links.Link.{Link}
 use Rattle.binder.specs.declared.order.Order.{Order}
-use Rattle.scope.specs.Steps.Seats.{seatAt}
+use Rattle.scope.specs.Steps.Links.{linkAt}
 use Rattle.binder.specs.Steps.Table as rows
 use Rattle.binder.specs.Steps.Table.{Ordered}
 use Rattle.binder.specs.SetOrder.{numberOf}
@@ -171,18 +171,18 @@ module _
     )
 
 -- one turn of the loop
-module _ (os : List Input) (count : ℕ) (arena table : List ℕ) (k : ℕ) (before after : List ℕ) (s : Seat) (image file : List ℕ) where
+module _ (os : List Input) (count : ℕ) (arena table : List ℕ) (k : ℕ) (before after : List ℕ) (s : Link) (image file : List ℕ) where
   pub fill-next :
-      2 ≤ k → k < count → count ≤ 64 → length before ≡ 4096 → s ≡ seatAt table k → image ≡ imageAt arena s → file ≡ getD os k noInput .file
+      2 ≤ k → k < count → count ≤ 64 → length before ≡ 4096 → s ≡ linkAt table k → image ≡ imageAt arena s → file ≡ getD os k noInput .file
       → NeedsPut os image (s .view .strings) file k before after → FewNeeds os count arena table
       → FilledTo (needsAt os arena table) k before → FilledTo (needsAt os arena table) (k + 1) after
   fill-next low h room len es ei ef put few f =
-      let at-seat : NeedsPut os (imageAt arena (seatAt table k)) (seatAt table k .view .strings) (getD os k noInput .file) k before after =
-      subst (λ (x : Seat). NeedsPut os (imageAt arena x) (x .view .strings) (getD os k noInput .file) k before after) es
+      let at-link : NeedsPut os (imageAt arena (linkAt table k)) (linkAt table k .view .strings) (getD os k noInput .file) k before after =
+      subst (λ (x : Link). NeedsPut os (imageAt arena x) (x .view .strings) (getD os k noInput .file) k before after) es
       (subst (λ (x : List ℕ). NeedsPut os x (s .view .strings) (getD os k noInput .file) k before after) ei
       (subst (λ (x : List ℕ). NeedsPut os image (s .view .strings) x k before after) ef put)) in
-      let many = numbers-length os (imageAt arena (seatAt table k)) (seatAt table k .view .strings) (dynamicOf (getD os k noInput .file)) in
-      rw (at-seat (few k low h)) (filled-next (needsAt os arena table) k _ before (omega arith) len many (few k low h) f)
+      let many = numbers-length os (imageAt arena (linkAt table k)) (linkAt table k .view .strings) (dynamicOf (getD os k noInput .file)) in
+      rw (at-link (few k low h)) (filled-next (needsAt os arena table) k _ before (omega arith) len many (few k low h) f)
 
 -- ---- the order
 
@@ -195,7 +195,7 @@ unfolding memory.mem
 filled-order os count arena table filled low few holds =
     table-order (needsAt os arena table) filled (count - 2)
     (λ k a b.
-    let many = numbers-length os (imageAt arena (seatAt table k)) (seatAt table k .view .strings) (dynamicOf (getD os k noInput .file)) in
+    let many = numbers-length os (imageAt arena (linkAt table k)) (linkAt table k .view .strings) (dynamicOf (getD os k noInput .file)) in
     omega (arith, few k a (omega arith)))
     (λ k a b i h. let e : k * 64 + i ≡ 64 * k + i = omega arith in ap (mem filled) e ∙ holds k a (omega arith) i h)
 

@@ -23,7 +23,7 @@ use Rattle.binder.specs.Instance.{File, offsetOf}
 use Rattle.binder.specs.Verdict.{passed, verdict}
 use Rattle.binder.specs.Steps.Prepared.{loadFrom}
 use Rattle.binder.proofs.OutcomeLaws.{first-passed, verdict-passed}
-use Rattle.binder.proofs.OffsetLaws.{offset-after, seat-fits}
+use Rattle.binder.proofs.OffsetLaws.{offset-after, link-fits}
 
 -- the entry of tag 0 is inside the span
 end-room : (n : ℕ) (image : List ℕ) (at : ℕ) → endIn n image at ≡ true → 0 < n
@@ -61,5 +61,5 @@ few-files address size (f ∷ fs) n off l v =
     let c = span-some f (size - offsetOf address f off) z in
     omega (
       arith,
-      few-files address size fs (n + 1) (offsetOf address f off + objectSpan (f .host) (f .bytes)) (seat-fits f address size off l z) (a .1),
+      few-files address size fs (n + 1) (offsetOf address f off + objectSpan (f .host) (f .bytes)) (link-fits f address size off l z) (a .1),
     )

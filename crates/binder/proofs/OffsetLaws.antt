@@ -104,11 +104,11 @@ unfolding loading.objectRefusal
 load-fits f room e = place-fits (f .host) (f .bytes) room (after-zero (placeRefusal (f .host) room (f .bytes)) _ e .0)
 
 -- what is loaded ends within the arena, though its offset may pass the arena's end: no span is empty
-pub seat-fits :
+pub link-fits :
     (f : File) (address size free : ℕ) → free ≤ size → objectRefusal (f .host) (size - offsetOf address f free) (f .bytes) ≡ 0
     → offsetOf address f free + objectSpan (f .host) (f .bytes) ≤ size
 unfolding nextOffset
-seat-fits f address size free l e =
+link-fits f address size free l e =
     go (f .host) (f .bytes) (objectAlign (f .host) (f .bytes)) (load-fits f (size - offsetOf address f free) e)
     (load-checked (f .host) (f .bytes) (size - offsetOf address f free) e)
   where

@@ -13,7 +13,7 @@ use Rattle.model.specs.Objects.{Objs}
 use Rattle.model.specs.Relocation.{bound}
 use Rattle.binder.specs.declared.Policy.{Policy}
 use Rattle.binder.specs.declared.Answer.the-variants.{Bound}
-use Rattle.sheet.specs.Sheet.{Input, sheetOk, setOf, arenaOk, twinOf}
+use Rattle.sheet.specs.Sheet.{Input, sheetOk, setOf, arenaOk, duplicateOf}
 use Rattle.binder.specs.Verdict.{Verdict, passed, refused, first, verdict, loadVerdict, orderVerdict}
 use Rattle.binder.specs.Steps.Prepared.{loadFrom}
 use Rattle.binder.specs.Report.{orderWords}
@@ -62,7 +62,7 @@ objectsIn address os = objectsOf address (filesOf os)
 pub record Passed (sheet bytes : List ℕ) (size address : ℕ) (words : ℕ) (arena report : List ℕ) : Type 0 where
   pub sheet-ok : sheetOk sheet (length bytes) ≡ true
   pub arena-ok : arenaOk size address ≡ true
-  pub no-twin : twinOf (setOf sheet bytes) ≡ 0
+  pub no-duplicate : duplicateOf (setOf sheet bytes) ≡ 0
   pub loads : loadFrom address size 0 0 (filesOf (setOf sheet bytes)) ≡ passed
   pub relocates : orderVerdict (objectsIn address (setOf sheet bytes)) (filesOf (setOf sheet bytes)) (orderIn (setOf sheet bytes)) ≡ passed
   pub arena-is : arena ≡ tab size (bound (objectsIn address (setOf sheet bytes)) (orderIn (setOf sheet bytes)))
@@ -83,12 +83,12 @@ bound-passed sheet bytes size address policy words arena report e =
     let p = first-passed (prepareVerdict sheet bytes size address) (relocateVerdict S (filesOf os) (orderIn os) policy words) (o .0) in
     let a = first-passed (unless (sheetOk sheet (length bytes)) 1 0) _ (p .0) in
     let b = first-passed (unless (arenaOk size address) 2 0) _ (a .1) in
-    let c = first-passed (unless (eqb (twinOf os) 0) 3 (twinOf os)) (loadVerdict S size 0 (filesOf os)) (b .1) in
+    let c = first-passed (unless (eqb (duplicateOf os) 0) 3 (duplicateOf os)) (loadVerdict S size 0 (filesOf os)) (b .1) in
     let d = first-passed (orderVerdict S (filesOf os) (orderIn os)) _ (p .1) in
     record {
       sheet-ok = unless-passed (sheetOk sheet (length bytes)) 1 0 (a .0);
       arena-ok = unless-passed (arenaOk size address) 2 0 (b .0);
-      no-twin = eqb-true (twinOf os) 0 (unless-passed (eqb (twinOf os) 0) 3 (twinOf os) (c .0));
+      no-duplicate = eqb-true (duplicateOf os) 0 (unless-passed (eqb (duplicateOf os) 0) 3 (duplicateOf os) (c .0));
       loads = sym (loads-same address size (filesOf os)) ∙ c .1;
       relocates = d .0;
       arena-is = o .1;

@@ -30,23 +30,23 @@ use Rattle.object.specs.Loaded.{objectRecord, objectRefusal, LoadedBy}
 use Rattle.object.proofs.PlaceLaws.{object-align, file-span}
 use Rattle.object.proofs.LoadedLaws.{load-headers, load-eight, loaded-part}
 use Rattle.sheet.specs.Sheet as sheets
-use Rattle.sheet.specs.Sheet.{Input, noInput, sheetOk, setOf, arenaOk, twinOf}
+use Rattle.sheet.specs.Sheet.{Input, noInput, sheetOk, setOf, arenaOk, duplicateOf}
 use Rattle.sheet.specs.Steps.Parts.{inputsIn, Tabled}
 use Rattle.sheet.specs.declared.sheet.Parts.{Parts}
 use Rattle.sheet.proofs.PartLaws.{handed-in, two-parts}
 use Rattle.binder.specs.Instance.{File, fileRecord, nextOffset, offsetOf}
 use Rattle.binder.specs.Verdict.{passed, refused, first, verdict, noFile}
 use Rattle.binder.specs.Bind.{filesOf, unless, prepareVerdict}
-use Rattle.scope.specs.Steps.Seats.{seatAt, Filtered}
-use Rattle.binder.specs.Steps.Prepared.{loadFrom, metBy, seatOf, placeFiles, Seated, SeatedAt, LoadedAt, gapped, LoadedNext, LoadedFiles, setVerdict, Prepared}
-use Rattle.scope.specs.declared.seats.Seat.{Seat}
+use Rattle.scope.specs.Steps.Links.{linkAt, Filtered}
+use Rattle.binder.specs.Steps.Prepared.{loadFrom, metBy, linkOf, placeFiles, Linked, LinkedAt, LoadedAt, gapped, LoadedNext, LoadedFiles, setVerdict, Prepared}
+use Rattle.scope.specs.declared.links.Link.{Link}
 use Rattle.binder.specs.declared.prepare.Met.{Met}
 use Rattle.binder.specs.declared.prepare.Met.the-variants.{Passed, Refused}
 use Rattle.binder.specs.declared.prepare.Loaded.{Loaded}
 use Rattle.binder.specs.declared.prepare.Loaded as loads
 use Rattle.binder.proofs.OutcomeLaws.{refused-not, first-passed, unless-passed}
 use Rattle.binder.proofs.LoadsSame.{loads-same}
-use Rattle.binder.proofs.OffsetLaws.{aligned-some, next-after, offset-after, seat-fits}
+use Rattle.binder.proofs.OffsetLaws.{aligned-some, next-after, offset-after, link-fits}
 
 -- ---- one object
 
@@ -89,14 +89,14 @@ module _
     pub refusal-at : r .refusal ≡ objectRefusal host (length a - off) file
     refusal-at = h .refusal ∙ ap (λ (n : ℕ). objectRefusal host n file) (part-length a off)
 
-    pub seated-at :
+    pub linked-at :
         (v : View) → off ≤ length a → r .refusal ≡ 0 → v ≡ viewOf (heldBy (r .object))
         → LoadedAt host file off a (putMid off (length a - off) a ys)
         (loads.the-variants.At (record { offset = off; span = r .object .span; view = v }))
-    seated-at v l z e =
+    linked-at v l z e =
         record {
           refusal = sym refusal-at ∙ z;
-          seat = seat (h .object z);
+          link = link (h .object z);
           arena =
               ap mem (put-tail a off 0 (objectSpan host file) (objectBytes host file) l (loaded-part host file _ ys r h z))
               ∙ (mem-patch a (off + 0) (objectSpan host file) (objectBytes host file) (omega (arith, room))
@@ -107,10 +107,10 @@ module _
         room : objectSpan host file ≤ length a - off
         room = omega (arith, h .fits z, part-length a off)
 
-        seat :
+        link :
             heldBy (r .object) ≡ objectRecord host file
-            → _≡_ {A = Seat} (record { offset = off; span = r .object .span; view = v }) (seatOf (record { host = host; bytes = file }) off)
-        seat q =
+            → _≡_ {A = Link} (record { offset = off; span = r .object .span; view = v }) (linkOf (record { host = host; bytes = file }) off)
+        link q =
             let s : r .object .span ≡ objectSpan host file = ap (λ (x : Record). x .span) q ∙ record-span host file in
             let w : v ≡ viewOf (objectRecord host file) = e ∙ ap viewOf q in
             rw (s, w)
@@ -231,8 +231,8 @@ pub record Loading (os : List Input) (address : ℕ) (a₀ a table : List ℕ) (
   pub number : k ≤ length os
   pub met : loadFrom address (length a₀) 0 0 (filesOf os) ≡ loadFrom address (length a₀) k off (drop k (filesOf os))
   pub placed : placeFiles address (filesOf os) 0 (λ _. 0) ≡ placeFiles address (drop k (filesOf os)) off (below off (mem a))
-  pub seated :
-      (t : List ℕ) → ((j : ℕ) → j < k → seatAt t j ≡ seatAt table j) → Seated address t k off (drop k (filesOf os)) → Seated address t 0 0 (filesOf os)
+  pub linked :
+      (t : List ℕ) → ((j : ℕ) → j < k → linkAt t j ≡ linkAt table j) → Linked address t k off (drop k (filesOf os)) → Linked address t 0 0 (filesOf os)
   pub filtered : Filtered table k
 
 pub load-begin : (os : List Input) (address : ℕ) (a table : List ℕ) → Loading os address a a table 0 0
@@ -243,7 +243,7 @@ load-begin os address a table =
       number = omega arith;
       met = refl;
       placed = ap (placeFiles address (filesOf os) 0) (below-none (mem a));
-      seated = λ t h s. s;
+      linked = λ t h s. s;
       filtered = λ k l. absurd (omega arith);
     }
 
@@ -275,30 +275,30 @@ module _ (os : List Input) (address : ℕ) (a₀ a table : List ℕ) (off k : �
             filtered = λ z. refused-not n k (ap metBy z);
           }
 
-      seated : (s : Seat) → p ≡ loads.the-variants.At s → SeatedAt (eqb k 0) (getD os k noInput .file) next (gapped a off next) a′ s
-      seated s e = subst (λ (x : Loaded). LoadedNext address file off a a′ x) e r
+      linked : (s : Link) → p ≡ loads.the-variants.At s → LinkedAt (eqb k 0) (getD os k noInput .file) next (gapped a off next) a′ s
+      linked s e = subst (λ (x : Loaded). LoadedNext address file off a a′ x) e r
 
       -- its span fits
-      pub load-fits : (s : Seat) → p ≡ loads.the-variants.At s → s .offset + s .span ≤ length a
+      pub load-fits : (s : Link) → p ≡ loads.the-variants.At s → s .offset + s .span ≤ length a
       load-fits s e =
-          let g = seated s e in
+          let g = linked s e in
           omega (
             arith,
             g .fits,
             gapped-length a off next,
-            ap (λ (x : Seat). x .offset) (g .seat),
-            ap (λ (x : Seat). x .span) (g .seat),
+            ap (λ (x : Link). x .offset) (g .link),
+            ap (λ (x : Link). x .span) (g .link),
           )
 
       pub load-turn :
-          (s : Seat) → p ≡ loads.the-variants.At s → length a′ ≡ length a → (t : List ℕ) → seatAt t k ≡ s
-          → ((j : ℕ) → (j ≡ k → ⊥) → seatAt t j ≡ seatAt table j) → (Filtered table k → Filtered t (k + 1))
+          (s : Link) → p ≡ loads.the-variants.At s → length a′ ≡ length a → (t : List ℕ) → linkAt t k ≡ s
+          → ((j : ℕ) → (j ≡ k → ⊥) → linkAt t j ≡ linkAt table j) → (Filtered table k → Filtered t (k + 1))
           → Loading os address a₀ a′ t (s .offset + s .span) (k + 1)
-      unfolding loadFrom verdict placeFiles Seated
+      unfolding loadFrom verdict placeFiles Linked
       load-turn s e len t here others filters =
-          let g = seated s e in
-          let at : s .offset ≡ next = ap (λ (x : Seat). x .offset) (g .seat) in
-          let span : s .span ≡ objectSpan (eqb k 0) (getD os k noInput .file) = ap (λ (x : Seat). x .span) (g .seat) in
+          let g = linked s e in
+          let at : s .offset ≡ next = ap (λ (x : Link). x .offset) (g .link) in
+          let span : s .span ≡ objectSpan (eqb k 0) (getD os k noInput .file) = ap (λ (x : Link). x .span) (g .link) in
           let long : length (gapped a off next) ≡ length a = gapped-length a off next in
           let later : off ≤ next = offset-after address file off in
           let b : List ℕ = gapped a off next in
@@ -316,21 +316,21 @@ module _ (os : List Input) (address : ℕ) (a₀ a table : List ℕ) (off k : �
             number = omega arith;
             met = h .met ∙ rw (left, ← h .same, ← long, g .refusal, ← span, ← at, add-one k);
             placed = h .placed ∙ (step ∙ rw (g .arena, span, at, add-one k));
-            seated = λ u same q.
-                h .seated u (λ j i. same j (omega arith) ∙ others j (λ e. omega arith))
-                (rw left (same k (omega arith) ∙ (here ∙ g .seat), rw (rest, span, at) at q));
+            linked = λ u same q.
+                h .linked u (λ j i. same j (omega arith) ∙ others j (λ e. omega arith))
+                (rw left (same k (omega arith) ∙ (here ∙ g .link), rw (rest, span, at) at q));
             filtered = filters (h .filtered);
           }
 
   pub load-finish : k ≡ length os → (a′ : List ℕ) → a′ ≡ patch a off (length a - off) (λ _. 0)
       → LoadedFiles address (filesOf os) a₀ a′ table Passed
-  unfolding loadFrom placeFiles Seated
+  unfolding loadFrom placeFiles Linked
   load-finish e a′ zeros =
       let n : drop k (filesOf os) ≡ [] = rw (e, ← files-length os) (drop-length (filesOf os)) in
       record {
         met = sym (h .met ∙ rw n);
         arena = λ z. ap mem zeros ∙ (below-end a off (h .offset) ∙ sym (h .placed ∙ rw n));
-        table = λ z. h .seated table (λ j g. refl) (rw n tt);
+        table = λ z. h .linked table (λ j g. refl) (rw n tt);
         filtered = λ z j l. h .filtered j (omega (arith, files-length os));
       }
 
@@ -366,17 +366,17 @@ module _ (os : List Input) (address : ℕ) (arena : List ℕ) where
     prepare-two e = refuses 2 0 (rw (le-leb 2 (length os) two, e))
 
     module _ (ok : arenaOk (length arena) address ≡ true) where
-      pub prepare-three : (t : ℕ) → t ≡ twinOf os → (t ≡ 0 → ⊥) → (arena′ table : List ℕ) → Prepared os address arena arena′ table (Refused 3 t)
+      pub prepare-three : (t : ℕ) → t ≡ duplicateOf os → (t ≡ 0 → ⊥) → (arena′ table : List ℕ) → Prepared os address arena arena′ table (Refused 3 t)
       unfolding setVerdict unless
       prepare-three t e ne = refuses 3 t (rw (le-leb 2 (length os) two, ok, ← e, ne-eqb t 0 ne))
 
       pub prepare-loads :
-          twinOf os ≡ 0 → (arena′ table : List ℕ) (r : Met) → LoadedFiles address (filesOf os) arena arena′ table r
+          duplicateOf os ≡ 0 → (arena′ table : List ℕ) (r : Met) → LoadedFiles address (filesOf os) arena arena′ table r
           → Prepared os address arena arena′ table r
       unfolding setVerdict unless
       prepare-loads none arena′ table r h =
           record {
-            met = h .met ∙ rw (le-leb 2 (length os) two, ok, eq-eqb (twinOf os) 0 none);
+            met = h .met ∙ rw (le-leb 2 (length os) two, ok, eq-eqb (duplicateOf os) 0 none);
             arena = h .arena;
             table = h .table;
             filtered = λ z k l. h .filtered z k (omega (arith, files-length os));
@@ -395,7 +395,7 @@ unfolding setVerdict
 ready os size address e =
     let a = first-passed (unless (leb 2 (length os)) 1 0) _ e in
     let b = first-passed (unless (arenaOk size address) 2 0) _ (a .1) in
-    let c = first-passed (unless (eqb (twinOf os) 0) 3 (twinOf os)) (loadFrom address size 0 0 (filesOf os)) (b .1) in
+    let c = first-passed (unless (eqb (duplicateOf os) 0) 3 (duplicateOf os)) (loadFrom address size 0 0 (filesOf os)) (b .1) in
     let p = arena-bounds size address (unless-passed (arenaOk size address) 2 0 (b .0)) in
     record {
       verdict-is = e;

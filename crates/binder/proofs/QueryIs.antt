@@ -22,20 +22,20 @@ use Rattle.sheet.specs.declared.sheet.Parts.{Parts}
 use Rattle.sheet.proofs.PartLaws.{handed-in}
 use Rattle.binder.specs.Instance.{File, objectFrom}
 use Rattle.binder.specs.Bind.{filesOf, objectsOf, unless, replied, replyOf, repliedOf, queryOf}
-use Rattle.scope.specs.Steps.ScopeCode.{resolveSeats}
+use Rattle.scope.specs.Steps.ScopeCode.{resolveLinks}
 use Rattle.binder.specs.Steps.ScopeModel.{scopedOf}
 use Rattle.binder.specs.Steps.Prepared.{metBy, setVerdict, Prepared}
 use Rattle.binder.specs.Steps.Asked.{askOf}
 use Rattle.binder.specs.declared.Reply.{Reply}
 use Rattle.binder.specs.declared.Reply.the-variants.{Refused}
-use Rattle.scope.specs.declared.scope.Scoped.{Scoped}
+use Rattle.scope.specs.declared.scope.Resolved.{Resolved}
 use Rattle.binder.specs.declared.prepare.Met as mets
 use Rattle.binder.specs.declared.prepare.Met.{Met}
 use Rattle.binder.specs.declared.prepare.Met.the-variants.{Passed}
 use Rattle.binder.proofs.PrepareLaws.{Ready, passes, not-handed, refused-sheet, handed}
 use Rattle.binder.proofs.SoundLaws.{count-is}
 use Rattle.binder.proofs.ScopeIs.{resolve-is}
-use Rattle.binder.proofs.QueryLaws.{placed-is, seated-for}
+use Rattle.binder.proofs.QueryLaws.{placed-is, linked-for}
 
 -- ---- 1 to 13
 
@@ -64,7 +64,7 @@ pub asked :
     (os : List Input) (count : ℕ) (arena arena′ table : List ℕ) (address requester : ℕ) (name : List ℕ) (r : Met)
     → length os ≡ count → Prepared os address arena arena′ table r → r ≡ Passed → requester < count
     → length arena′ ≡ length arena
-    → (x : Reply) → x ≡ replyOf (scopedOf (resolveSeats address arena′ table count requester name (gnuHash name) (elfHash name)))
+    → (x : Reply) → x ≡ replyOf (scopedOf (resolveLinks address arena′ table count requester name (gnuHash name) (elfHash name)))
     → replied x arena′ ≡ askOf os (length arena) address requester name
 unfolding filesOf objectsOf
 asked [] count arena arena′ table address requester name r many made z l len x e =
@@ -102,12 +102,12 @@ asked (h ∷ (p ∷ ls)) count arena arena′ table address requester name r man
         ∙ (ap (λ (n : ℕ). tab n (mem arena′)) len
         ∙ ap (tab (length arena)) (made .arena z ∙ sym (placed-is address hf pf fs)))
 
-    answer : scopedOf (resolveSeats address arena′ table count requester name (gnuHash name) (elfHash name)) ≡ resolve S requester name
+    answer : scopedOf (resolveLinks address arena′ table count requester name (gnuHash name) (elfHash name)) ≡ resolve S requester name
     answer =
         let n : length fs ≡ length ls = length-map ls (λ (o : Input). record { host = false; bytes = o .file }) in
         let c : count ≡ objects.count S = omega (arith, count-is address (length arena) hf pf fs, many) in
         resolve-is address arena′ table name S count c
-        (seated-for address (length arena) table hf pf fs arena′ (λ _. 0) len (omega (arith, passed-it .end)) (passed-it .loads) (made .table z)
+        (linked-for address (length arena) table hf pf fs arena′ (λ _. 0) len (omega (arith, passed-it .end)) (passed-it .loads) (made .table z)
         (made .arena z))
         requester l
 

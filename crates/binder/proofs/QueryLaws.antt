@@ -1,4 +1,4 @@
--- A set that was loaded: the arena holds its placed bytes, and the table of seats has the model's objects. Assumes nothing.
+-- A set that was loaded: the arena holds its placed bytes, and the table of links has the model's objects. Assumes nothing.
 use mathlib.Core.Path.{_≡_, refl, sym, ap, _∙_, subst}
 use mathlib.Core.Bool.{Bool, true, false}
 use mathlib.Core.Logic.{inl, inr}
@@ -18,16 +18,16 @@ use Rattle.object.specs.Placed.{objectSpan, objectBytes}
 use Rattle.object.specs.Record.{viewOf}
 use Rattle.object.specs.Loaded.{objectRefusal}
 use Rattle.object.specs.HashTable.{answerIn}
-use Rattle.binder.specs.Instance.{File, fileImage, fileRecord, definitionFound, objectAt, objectFrom, offsetOf}
+use Rattle.binder.specs.Instance.{File, fileImage, fileRecord, exportedOf, objectAt, objectFrom, offsetOf}
 use Rattle.binder.specs.Verdict.{passed, verdict, noFile}
-use Rattle.scope.specs.Steps.Seats.{seatAt}
-use Rattle.binder.specs.Steps.Prepared.{loadFrom, seatOf, placeFiles, Seated}
+use Rattle.scope.specs.Steps.Links.{linkAt}
+use Rattle.binder.specs.Steps.Prepared.{loadFrom, linkOf, placeFiles, Linked}
 use Rattle.scope.specs.Steps.ScopeCode as searches
 use Rattle.scope.specs.Steps.ScopeCode.{imageAt}
-use Rattle.binder.specs.Steps.ScopeModel.{SeatOf, SeatedFor}
-use Rattle.scope.specs.declared.seats.Seat.{Seat}
+use Rattle.binder.specs.Steps.ScopeModel.{LinkOf, LinkedFor}
+use Rattle.scope.specs.declared.links.Link.{Link}
 use Rattle.binder.proofs.OutcomeLaws.{first-passed, verdict-passed}
-use Rattle.binder.proofs.OffsetLaws.{offset-after, seat-fits}
+use Rattle.binder.proofs.OffsetLaws.{offset-after, link-fits}
 use Rattle.binder.proofs.SoundLaws.{count-is}
 
 -- ---- placing
@@ -51,13 +51,13 @@ pub placed-is : (address : ℕ) (h p : File) (fs : List File) → placed (objsOf
 unfolding relocation.placed layouts.objsOf layouts.layout
 placed-is address h p fs = place-is address (h ∷ (p ∷ fs)) 0 (λ _. 0)
 
--- ---- an object, its seat and its part of the arena
+-- ---- an object, its link and its part of the arena
 
 pub record Sits (address size : ℕ) (table : List ℕ) (m : Mem) (k : ℕ) (f : File) (o : Obj) : Type 0 where
   pub off : ℕ
   pub is : o ≡ objectAt address f off
   pub fits : off + objectSpan (f .host) (f .bytes) ≤ size
-  pub seat : seatAt table k ≡ seatOf f off
+  pub link : linkAt table k ≡ linkOf f off
   pub bytes : (i : ℕ) → i < objectSpan (f .host) (f .bytes) → m (off + i) ≡ objectBytes (f .host) (f .bytes) i
   -- refusals 4 to 12 were passed
   pub loads : objectRefusal (f .host) (size - off) (f .bytes) ≡ 0
@@ -75,10 +75,10 @@ same n off m arena fits bytes =
 
 module _ (address size : ℕ) (table : List ℕ) where
   sits :
-      (files : List File) (n off j : ℕ) (d : Obj) (m : Mem) → off ≤ size → loadFrom address size n off files ≡ passed → Seated address table n off files
+      (files : List File) (n off j : ℕ) (d : Obj) (m : Mem) → off ≤ size → loadFrom address size n off files ≡ passed → Linked address table n off files
       → j < length files
       → Sits address size table (placeFiles address files off m) (n + j) (getD files j noFile) (getD (layout (objectFrom address) files off) j d)
-  unfolding loadFrom layouts.layout objectFrom objectAt Seated placeFiles
+  unfolding loadFrom layouts.layout objectFrom objectAt Linked placeFiles
   sits [] n off j d m l v s h = absurd (omega arith)
   sits (f ∷ fs) n off zero d m l v s h =
       let o : ℕ = offsetOf address f off in
@@ -88,8 +88,8 @@ module _ (address size : ℕ) (table : List ℕ) where
       record {
         off = offsetOf address f off;
         is = refl;
-        fits = seat-fits f address size off l c;
-        seat = ap (seatAt table) e ∙ s .0;
+        fits = link-fits f address size off l c;
+        link = ap (linkAt table) e ∙ s .0;
         bytes = λ i g.
             before address fs (o + objectSpan (f .host) (f .bytes)) _ (o + i) (omega arith)
             ∙ (write-in m o (objectSpan (f .host) (f .bytes)) (objectBytes (f .host) (f .bytes)) (o + i) (omega arith)
@@ -104,11 +104,11 @@ module _ (address size : ℕ) (table : List ℕ) where
       (λ (k : ℕ). Sits address size table (placeFiles address (f ∷ fs) off m) k (getD fs j noFile)
       (getD (layout (objectFrom address) fs (offsetOf address f off + objectSpan (f .host) (f .bytes))) j d))
       e
-      (sits fs (n + 1) (offsetOf address f off + objectSpan (f .host) (f .bytes)) j d _ (seat-fits f address size off l c) (a .1) (s .1) (omega arith))
+      (sits fs (n + 1) (offsetOf address f off + objectSpan (f .host) (f .bytes)) j d _ (link-fits f address size off l c) (a .1) (s .1) (omega arith))
 
   -- object `k` of a loaded set
   pub sits-at :
-      (h p : File) (fs : List File) (m : Mem) → loadFrom address size 0 0 (h ∷ (p ∷ fs)) ≡ passed → Seated address table 0 0 (h ∷ (p ∷ fs))
+      (h p : File) (fs : List File) (m : Mem) → loadFrom address size 0 0 (h ∷ (p ∷ fs)) ≡ passed → Linked address table 0 0 (h ∷ (p ∷ fs))
       → (k : ℕ) → k < count (objsOf (objectFrom address) h p fs)
       → Sits address size table (placeFiles address (h ∷ (p ∷ fs)) 0 m) k (getD (h ∷ (p ∷ fs)) k noFile) (obj (objsOf (objectFrom address) h p fs) k)
   unfolding layouts.objsOf layouts.layout objectFrom objectAt
@@ -123,38 +123,38 @@ module _ (address size : ℕ) (table : List ℕ) where
   -- its part of an arena with the placed bytes is its image
   pub image-at :
       (k : ℕ) (f : File) (o : Obj) (m : Mem) → Sits address size table m k f o → (arena : List ℕ) → length arena ≡ size → mem arena ≡ m
-      → imageAt arena (seatAt table k) ≡ fileImage f
+      → imageAt arena (linkAt table k) ≡ fileImage f
   image-at k f o m t arena len e =
-      ap (imageAt arena) (t .seat)
+      ap (imageAt arena) (t .link)
       ∙ same (objectSpan (f .host) (f .bytes)) (t .off) (objectBytes (f .host) (f .bytes)) arena (omega (arith, t .fits))
       (λ j g. ap (λ (x : Mem). x (t .off + j)) e ∙ t .bytes j g)
 
-  -- it is asked at its seat, in an arena where its answers are those of its image
-  pub seat-of :
-      (k : ℕ) (f : File) (o : Obj) (off : ℕ) (arena : List ℕ) → o ≡ objectAt address f off → seatAt table k ≡ seatOf f off
+  -- it is asked at its link, in an arena where its answers are those of its image
+  pub link-of :
+      (k : ℕ) (f : File) (o : Obj) (off : ℕ) (arena : List ℕ) → o ≡ objectAt address f off → linkAt table k ≡ linkOf f off
       → address + off < 2 ^ 64
       → ((name : List ℕ)
-      → answerIn (imageAt arena (seatAt table k)) (viewOf (fileRecord f)) name ≡ answerIn (fileImage f) (viewOf (fileRecord f)) name)
-      → SeatOf address arena o (seatAt table k)
+      → answerIn (imageAt arena (linkAt table k)) (viewOf (fileRecord f)) name ≡ answerIn (fileImage f) (viewOf (fileRecord f)) name)
+      → LinkOf address arena o (linkAt table k)
   unfolding objectAt searches.answerAt
-  seat-of k f o off arena is seat small answers =
+  link-of k f o off arena is link small answers =
       record {
-        base = ap (λ (o : Obj). o .base) is ∙ ap (λ (x : Seat). address + x .offset) (sym seat);
-        small = let e : seatAt table k .offset ≡ off = ap (λ (x : Seat). x .offset) seat in omega arith;
+        base = ap (λ (o : Obj). o .base) is ∙ ap (λ (x : Link). address + x .offset) (sym link);
+        small = let e : linkAt table k .offset ≡ off = ap (λ (x : Link). x .offset) link in omega arith;
         find = λ name.
             ap (λ (o : Obj). o .find name) is
-            ∙ ap definitionFound
-            (sym (ap (λ (x : Seat). answerIn (imageAt arena (seatAt table k)) (x .view) name) seat ∙ answers name));
+            ∙ ap exportedOf
+            (sym (ap (λ (x : Link). answerIn (imageAt arena (linkAt table k)) (x .view) name) link ∙ answers name));
       }
 
-  -- every object of a loaded set has its seat, and is asked there
-  pub seated-for :
+  -- every object of a loaded set has its link, and is asked there
+  pub linked-for :
       (h p : File) (fs : List File) (arena : List ℕ) (m : Mem) → length arena ≡ size → address + size < 2 ^ 64
-      → loadFrom address size 0 0 (h ∷ (p ∷ fs)) ≡ passed → Seated address table 0 0 (h ∷ (p ∷ fs)) → mem arena ≡ placeFiles address (h ∷ (p ∷ fs)) 0 m
-      → SeatedFor address arena table (objsOf (objectFrom address) h p fs)
-  seated-for h p fs arena m len small v s e k l =
+      → loadFrom address size 0 0 (h ∷ (p ∷ fs)) ≡ passed → Linked address table 0 0 (h ∷ (p ∷ fs)) → mem arena ≡ placeFiles address (h ∷ (p ∷ fs)) 0 m
+      → LinkedFor address arena table (objsOf (objectFrom address) h p fs)
+  linked-for h p fs arena m len small v s e k l =
       let f : File = getD (h ∷ (p ∷ fs)) k noFile in
       let t = sits-at h p fs m v s k l in
-      seat-of k f (obj (objsOf (objectFrom address) h p fs) k) (t .off) arena (t .is) (t .seat) (omega (arith, t .fits))
+      link-of k f (obj (objsOf (objectFrom address) h p fs) k) (t .off) arena (t .is) (t .link) (omega (arith, t .fits))
       (λ name. ap (λ (image : List ℕ). answerIn image (viewOf (fileRecord f)) name)
       (image-at k f (obj (objsOf (objectFrom address) h p fs) k) (placeFiles address (h ∷ (p ∷ fs)) 0 m) t arena len e))

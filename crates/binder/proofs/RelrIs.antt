@@ -22,7 +22,7 @@ use Rattle.object.specs.Entries.{relrAt, relrsFrom, relrOf, Location, none, wor
 use Rattle.object.specs.Record.{Record}
 use Rattle.object.specs.declared.relocate.Relr.{Relr}
 use Rattle.object.specs.declared.relocate.Relr.the-variants.{Address, Bitmap}
-use Rattle.scope.specs.declared.seats.Seat.{Seat}
+use Rattle.scope.specs.declared.links.Link.{Link}
 use Rattle.binder.specs.declared.turn.Turn.{Turn}
 use Rattle.binder.specs.declared.relr.Moved.{Moved}
 use Rattle.binder.specs.Instance.{File, fileImage, fileRecord, placesOf, namedWords}
@@ -198,7 +198,7 @@ module _ (address size : ℕ) (table : List ℕ) (h p : File) (fs : List File) w
     unfolding wordAdded addWord
     added-is q a s e =
         let at = laws.lies address size table h p fs L k member in
-        let offset-is : t .offset ≡ (obj S k) .offset = ap (λ (x : Seat). x .offset) (at .seat) in
+        let offset-is : t .offset ≡ (obj S k) .offset = ap (λ (x : Link). x .offset) (at .link) in
         let g : ℕ → ℕ = byteOf (sum64 (leAt 8 (mem a) ((obj S k) .offset + q)) ((obj S k) .base)) in
         rw (at .base, offset-is) (laws.write-steady address size table h p fs L a s k member q 8 e g)
 

@@ -26,7 +26,7 @@ use Rattle.object.specs.declared.dynamic_fields.Read.{Read}
 use Rattle.object.specs.declared.relocate.Rela.{Rela}
 use Rattle.sheet.specs.Sheet.{Input, noInput}
 use Rattle.binder.specs.declared.report.Progress.{Progress}
-use Rattle.scope.specs.declared.scope.Scoped.{Scoped}
+use Rattle.scope.specs.declared.scope.Resolved.{Resolved}
 use Rattle.binder.specs.declared.turn.Turn.{Turn}
 use Rattle.binder.specs.Steps.Relocating.{Left, left, noted, summed, unlessRefused, refusedBy, imageIn, turnOf, againRefusal, againRecord, symbolRefusal, soughtFor, soughtForCopy, keeps, writtenBytes, writeFound, copyOf, answeredOf, symbolicOf, copyingOf, runAction, runTable, far, cutTo32, reportSum, noteOf, addRelrs, runTables, runObject, runAt, runOrder}
 
@@ -54,11 +54,11 @@ module _ (address : ℕ) (table : List ℕ) (count : ℕ) (t : Turn) (r : Record
     unfolding symbolicOf answeredOf
     symbolic-kept f hb so same run = rw (← hx, hy, ← hs, ← hb, so, eq-eqb _ _ same) run
 
-    pub symbolic-inside : (f : Calculation) {b : Bool} {s : Scoped} {out : Left} → b ≡ inWritable segments (e .place) (f .width) → b ≡ true → (p .last ≡ e .symbol + 1 → ⊥) → s ≡ soughtFor address table count t a (nameOf (imageIn a t) r y) → out ≡ writeFound t e f i y s p a report → out ≡ symbolicOf address table count t r e f i (checkedSymbol (imageIn a t) r (e .symbol)) p a report
+    pub symbolic-inside : (f : Calculation) {b : Bool} {s : Resolved} {out : Left} → b ≡ inWritable segments (e .place) (f .width) → b ≡ true → (p .last ≡ e .symbol + 1 → ⊥) → s ≡ soughtFor address table count t a (nameOf (imageIn a t) r y) → out ≡ writeFound t e f i y s p a report → out ≡ symbolicOf address table count t r e f i (checkedSymbol (imageIn a t) r (e .symbol)) p a report
     unfolding symbolicOf answeredOf
     symbolic-inside f hb so other hf run = rw (← hx, hy, ← hs, ← hb, so, ne-eqb _ _ other, ← hf) run
 
-    pub copying-sought : {s : Scoped} {out : Left} → s ≡ soughtForCopy address table count a (nameOf (imageIn a t) r y) → out ≡ copyOf table t segments e i y s p a report → out ≡ copyingOf address table count t r e i (checkedSymbol (imageIn a t) r (e .symbol)) p a report
+    pub copying-sought : {s : Resolved} {out : Left} → s ≡ soughtForCopy address table count a (nameOf (imageIn a t) r y) → out ≡ copyOf table t segments e i y s p a report → out ≡ copyingOf address table count t r e i (checkedSymbol (imageIn a t) r (e .symbol)) p a report
     unfolding copyingOf
     copying-sought hf run = rw (← hx, hy, ← hs, ← hf) run
 

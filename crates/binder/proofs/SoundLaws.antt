@@ -24,7 +24,7 @@ use Rattle.binder.specs.Instance.{File, fileImage, fileRecord, placesOf,
 use Rattle.binder.specs.Verdict.{passed, verdict, noFile, wordsVerdict, entriesVerdict, objectVerdict, orderVerdict}
 use Rattle.binder.specs.Steps.Prepared.{loadFrom}
 use Rattle.binder.proofs.OutcomeLaws.{first-passed, verdict-passed}
-use Rattle.binder.proofs.OffsetLaws.{made-after, seat-fits}
+use Rattle.binder.proofs.OffsetLaws.{made-after, link-fits}
 use Rattle.binder.proofs.InsideLaws.{writable-inside, words-inside, entries-inside}
 
 -- ---- where an object stands
@@ -44,11 +44,11 @@ module _ (address size : ℕ) where
   stands (f ∷ fs) n off zero d l v h =
       let a = first-passed (verdict (objectRefusal (f .host) (size - offsetOf address f off) (f .bytes)) n) _ v in
       let z = verdict-passed (objectRefusal (f .host) (size - offsetOf address f off) (f .bytes)) n (a .0) in
-      record { off = offsetOf address f off; is = refl; fits = seat-fits f address size off l z }
+      record { off = offsetOf address f off; is = refl; fits = link-fits f address size off l z }
   stands (f ∷ fs) n off (suc k) d l v h =
       let a = first-passed (verdict (objectRefusal (f .host) (size - offsetOf address f off) (f .bytes)) n) _ v in
       let z = verdict-passed (objectRefusal (f .host) (size - offsetOf address f off) (f .bytes)) n (a .0) in
-      stands fs (n + 1) (offsetOf address f off + objectSpan (f .host) (f .bytes)) k d (seat-fits f address size off l z) (a .1) (omega arith)
+      stands fs (n + 1) (offsetOf address f off + objectSpan (f .host) (f .bytes)) k d (link-fits f address size off l z) (a .1) (omega arith)
 
   layout-length : (files : List File) (off : ℕ) → length (layout (objectFrom address) files off) ≡ length files
   unfolding layouts.layout

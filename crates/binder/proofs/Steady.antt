@@ -13,10 +13,10 @@ use Rattle.object.specs.Record.{isTableOf}
 use Rattle.object.specs.Invariant.{SameReadings}
 use Rattle.object.specs.Placed.{objectSpan}
 use Rattle.object.specs.declared.hash_tables.Definition.{Definition}
-use Rattle.binder.specs.Instance.{File, fileImage, fileRecord, symOf, objectAt, objectFrom}
+use Rattle.binder.specs.Instance.{File, fileImage, fileRecord, definitionOf, objectAt, objectFrom}
 use Rattle.binder.specs.Verdict.{passed, noFile, copyOk}
-use Rattle.scope.specs.Steps.Seats.{seatAt}
-use Rattle.binder.specs.Steps.Prepared.{loadFrom, seatOf, placeFiles, Seated}
+use Rattle.scope.specs.Steps.Links.{linkAt}
+use Rattle.binder.specs.Steps.Prepared.{loadFrom, linkOf, placeFiles, Linked}
 use Rattle.scope.specs.Steps.ScopeCode.{imageAt}
 use Rattle.binder.specs.Steps.ScopeModel.{scopedOf}
 use Rattle.binder.specs.Steps.Relocating.{turnOf, imageIn, soughtFor, soughtForCopy, againRefusal, againRecord, copyFits}
@@ -31,35 +31,35 @@ module _ (address size : ℕ) (table : List ℕ) (h p : File) (fs : List File) w
   abbrev pub set : Objs
   set = objsOf (objectFrom address) h p fs
 
-  -- refusals 2 and 4 to 12 were passed, and the table has the seats
+  -- refusals 2 and 4 to 12 were passed, and the table has the links
   pub record LoadedSet : Type 0 where
     pub others : (k : ℕ) → 1 ≤ k → k < count set → fileAt k .host ≡ false
     pub loads : loadFrom address size 0 0 files ≡ passed
-    pub seats : Seated address table 0 0 files
+    pub links : Linked address table 0 0 files
     pub end : address + size ≤ 2 ^ 63
     pub small : size ≤ 2 ^ 28
 
   -- the bytes of object `k` are as they were placed
   abbrev pub PlacedAt : List ℕ → ℕ → Type 0
-  PlacedAt a k = imageAt a (seatAt table k) ≡ fileImage (fileAt k)
+  PlacedAt a k = imageAt a (linkAt table k) ≡ fileImage (fileAt k)
 
   -- the table bytes of every object are
   pub record Steady (a : List ℕ) : Type 0 where
     pub size-is : length a ≡ size
-    pub tables : (k : ℕ) → k < count set → Agree (isTableOf (fileRecord (fileAt k))) (fileImage (fileAt k)) (imageAt a (seatAt table k))
+    pub tables : (k : ℕ) → k < count set → Agree (isTableOf (fileRecord (fileAt k))) (fileImage (fileAt k)) (imageAt a (linkAt table k))
 
   -- where object `k` lies
   pub record At (k : ℕ) : Type 0 where
     pub is : obj set k ≡ objectAt address (fileAt k) ((obj set k) .offset)
     pub fits : (obj set k) .offset + objectSpan (fileAt k .host) (fileAt k .bytes) ≤ size
-    pub seat : seatAt table k ≡ seatOf (fileAt k) ((obj set k) .offset)
+    pub link : linkAt table k ≡ linkOf (fileAt k) ((obj set k) .offset)
     -- base = address + offset, without wrapping
     pub base : turnOf address table k .base ≡ (obj set k) .base
 
   -- a write to object `k` left the other objects' bytes
   pub record Written (a a′ : List ℕ) (k : ℕ) : Type 0 where
     pub steady : Steady a′
-    pub others : (j : ℕ) → j < count set → (j ≡ k → ⊥) → imageAt a′ (seatAt table j) ≡ imageAt a (seatAt table j)
+    pub others : (j : ℕ) → j < count set → (j ≡ k → ⊥) → imageAt a′ (linkAt table j) ≡ imageAt a (linkAt table j)
 
   -- ---- the laws, as SteadyLaws proves them
 
@@ -77,7 +77,7 @@ module _ (address size : ℕ) (table : List ℕ) (h p : File) (fs : List File) w
   abbrev pub Readings : Type 0
   Readings =
       LoadedSet → (a : List ℕ) → Steady a → (k : ℕ) → k < count set
-      → SameReadings (fileAt k .host) (fileRecord (fileAt k)) (fileImage (fileAt k)) (imageAt a (seatAt table k))
+      → SameReadings (fileAt k .host) (fileRecord (fileAt k)) (fileImage (fileAt k)) (imageAt a (linkAt table k))
 
   abbrev pub Searches : Type 0
   Searches =
@@ -105,7 +105,7 @@ module _ (address size : ℕ) (table : List ℕ) (h p : File) (fs : List File) w
   abbrev pub CopyTests : Type 0
   CopyTests =
       LoadedSet → (k d : ℕ) → k < count set → d < count set → (q n : ℕ) → q + n ≤ objectSpan (fileAt k .host) (fileAt k .bytes)
-      → (x : Definition) → copyFits size (turnOf address table k) q (seatAt table d) x n ≡ copyOk set k q d (symOf x) n
+      → (x : Definition) → copyFits size (turnOf address table k) q (linkAt table d) x n ≡ copyOk set k q d (definitionOf x) n
 
   -- the counted relocation entries of program and libraries are in the span
   abbrev pub Counts : Type 0

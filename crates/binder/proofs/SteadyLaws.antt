@@ -42,16 +42,16 @@ use Rattle.object.proofs.RefusalLaws.{required, after-zero}
 use Rattle.object.proofs.ReadingsSame.{invariance}
 use Rattle.binder.specs.Instance.{File, fileImage, fileRecord, objectAt, objectFrom}
 use Rattle.binder.specs.Verdict.{noFile, copyOk}
-use Rattle.scope.specs.Steps.Seats.{seatAt}
-use Rattle.binder.specs.Steps.Prepared.{seatOf, placeFiles}
+use Rattle.scope.specs.Steps.Links.{linkAt}
+use Rattle.binder.specs.Steps.Prepared.{linkOf, placeFiles}
 use Rattle.scope.specs.Steps.ScopeCode.{imageAt}
-use Rattle.binder.specs.Steps.ScopeModel.{SeatedFor}
+use Rattle.binder.specs.Steps.ScopeModel.{LinkedFor}
 use Rattle.binder.specs.Steps.Relocating.{copyFits, againRefusal}
-use Rattle.scope.specs.declared.seats.Seat.{Seat}
+use Rattle.scope.specs.declared.links.Link.{Link}
 use Rattle.binder.proofs.OffsetLaws.{made-after}
 use Rattle.binder.proofs.InsideLaws as inside
 use Rattle.binder.proofs.ScopeIs.{resolve-is, resolve-copy-is}
-use Rattle.binder.proofs.QueryLaws.{Sits, sits-at, image-at, seat-of}
+use Rattle.binder.proofs.QueryLaws.{Sits, sits-at, image-at, link-of}
 use Rattle.binder.proofs.Steady as steady
 
 -- ---- table bytes
@@ -186,7 +186,7 @@ module _ (address size : ℕ) (table : List ℕ) (h p : File) (fs : List File) w
   -- ---- where an object lies
 
   sits : LoadedSet → (m : Mem) (k : ℕ) → k < count set → Sits address size table (placeFiles address (h ∷ (p ∷ fs)) 0 m) k (fileAt k) (obj set k)
-  sits s m k l = sits-at address size table h p fs m (s .loads) (s .seats) k l
+  sits s m k l = sits-at address size table h p fs m (s .loads) (s .links) k l
 
   pub lies : steady.Lies address size table h p fs
   unfolding objectAt
@@ -194,9 +194,9 @@ module _ (address size : ℕ) (table : List ℕ) (h p : File) (fs : List File) w
       record {
         is = t .is ∙ ap (objectAt address (fileAt k)) (sym off);
         fits = omega (arith, off, t .fits);
-        seat = t .seat ∙ ap (seatOf (fileAt k)) (sym off);
+        link = t .link ∙ ap (linkOf (fileAt k)) (sym off);
         base =
-            ap (λ (x : Seat). (address + x .offset) % 2 ^ 64) (t .seat)
+            ap (λ (x : Link). (address + x .offset) % 2 ^ 64) (t .link)
             ∙ (mod-eq-of-lt (omega (arith, t .fits, s .end)) ∙ sym (ap (λ (o : Obj). o .base) (t .is)));
       }
     where
@@ -224,28 +224,28 @@ module _ (address size : ℕ) (table : List ℕ) (h p : File) (fs : List File) w
   -- ---- an arena with the table bytes
 
   -- an object's part of an arena, as long as its span
-  length-at : LoadedSet → (a : List ℕ) → length a ≡ size → (k : ℕ) → k < count set → length (imageAt a (seatAt table k)) ≡ spanAt k
+  length-at : LoadedSet → (a : List ℕ) → length a ≡ size → (k : ℕ) → k < count set → length (imageAt a (linkAt table k)) ≡ spanAt k
   length-at s a len k l =
       let t = lies s k l in
-      ap (λ (x : Seat). length (imageAt a x)) (t .seat) ∙ simp (length-take, length-drop) (omega (arith, t .fits))
+      ap (λ (x : Link). length (imageAt a x)) (t .link) ∙ simp (length-take, length-drop) (omega (arith, t .fits))
 
   pub readings : steady.Readings address size table h p fs
   readings s a st k l =
-      invariance (fileAt k .host) (fileRecord (fileAt k)) (fileImage (fileAt k)) (imageAt a (seatAt table k))
+      invariance (fileAt k .host) (fileRecord (fileAt k)) (fileImage (fileAt k)) (imageAt a (linkAt table k))
       (load-tables (fileAt k) (size - (obj set k) .offset) (loaded-at s k l))
       (length-at s a (st .size-is) k l ∙ sym (length-tab (spanAt k) _)) (st .tables k l)
 
-  seated : LoadedSet → (a : List ℕ) → Steady a → SeatedFor address a table set
-  seated s a st k l =
+  linked : LoadedSet → (a : List ℕ) → Steady a → LinkedFor address a table set
+  linked s a st k l =
       let t = lies s k l in
-      seat-of address size table k (fileAt k) (obj set k) ((obj set k) .offset) a (t .is) (t .seat) (omega (arith, t .fits, s .end))
+      link-of address size table k (fileAt k) (obj set k) ((obj set k) .offset) a (t .is) (t .link) (omega (arith, t .fits, s .end))
       (λ name. readings s a st k l .answers name _ _)
 
   pub searches : steady.Searches address size table h p fs
-  searches s a st k l name = resolve-is address a table name set (count set) refl (seated s a st) k l
+  searches s a st k l name = resolve-is address a table name set (count set) refl (linked s a st) k l
 
   pub copy-searches : steady.CopySearches address size table h p fs
-  copy-searches s a st name = resolve-copy-is address a table name set (count set) refl (seated s a st)
+  copy-searches s a st name = resolve-copy-is address a table name set (count set) refl (linked s a st)
 
   -- ---- a write
 
@@ -269,9 +269,9 @@ module _ (address size : ℕ) (table : List ℕ) (h p : File) (fs : List File) w
   -- a byte of object `j`, in an arena
   byte-at :
       LoadedSet → (a : List ℕ) (j : ℕ) → j < count set → (i : ℕ) → i < spanAt j
-      → mem (imageAt a (seatAt table j)) i ≡ mem a ((obj set j) .offset + i)
+      → mem (imageAt a (linkAt table j)) i ≡ mem a ((obj set j) .offset + i)
   byte-at s a j l i x =
-      ap (λ (y : Seat). mem (imageAt a y) i) (lies s j l .seat) ∙ mem-part (spanAt j) ((obj set j) .offset) a i x
+      ap (λ (y : Link). mem (imageAt a y) i) (lies s j l .link) ∙ mem-part (spanAt j) ((obj set j) .offset) a i x
 
   module _
       (s : LoadedSet)
@@ -298,7 +298,7 @@ module _ (address size : ℕ) (table : List ℕ) (h p : File) (fs : List File) w
       -- a byte of object `j` that the write leaves
       kept :
           (j : ℕ) → j < count set → (i : ℕ) → i < spanAt j → Out to n ((obj set j) .offset + i)
-          → mem (imageAt after (seatAt table j)) i ≡ mem (imageAt a (seatAt table j)) i
+          → mem (imageAt after (linkAt table j)) i ≡ mem (imageAt a (linkAt table j)) i
       kept j x i y out =
           byte-at s after j x i y
           ∙ (ap (λ (m : Mem). m ((obj set j) .offset + i)) written
@@ -309,13 +309,13 @@ module _ (address size : ℕ) (table : List ℕ) (h p : File) (fs : List File) w
 
       others-kept :
           (j : ℕ) → j < count set → (j ≡ k → ⊥)
-          → imageAt after (seatAt table j) ≡ imageAt a (seatAt table j)
+          → imageAt after (linkAt table j) ≡ imageAt a (linkAt table j)
       others-kept j x ne =
-          mem-ext (imageAt after (seatAt table j)) (imageAt a (seatAt table j))
+          mem-ext (imageAt after (linkAt table j)) (imageAt a (linkAt table j))
           (many ∙ sym (length-at s a (st .size-is) j x))
           (λ i y. let z : i < spanAt j = omega (arith, many) in kept j x i z (out i z (apart s j k x l ne)))
         where
-          many : length (imageAt after (seatAt table j)) ≡ spanAt j
+          many : length (imageAt after (linkAt table j)) ≡ spanAt j
           many = length-at s after long j x
 
           out :
@@ -327,7 +327,7 @@ module _ (address size : ℕ) (table : List ℕ) (h p : File) (fs : List File) w
 
       own-kept :
           (i : ℕ) → isTableOf (fileRecord (fileAt k)) i ≡ true
-          → mem (imageAt after (seatAt table k)) i ≡ mem (imageAt a (seatAt table k)) i
+          → mem (imageAt after (linkAt table k)) i ≡ mem (imageAt a (linkAt table k)) i
       own-kept i t =
           kept k l i (omega (arith, table-inside (fileRecord (fileAt k) .span) (fileRecord (fileAt k) .segments) i t, file-span (fileAt k)))
           (⊎-elim
@@ -339,13 +339,13 @@ module _ (address size : ℕ) (table : List ℕ) (h p : File) (fs : List File) w
       -- so the table bytes stay
       tables-kept :
           (j : ℕ) → j < count set → (i : ℕ) → isTableOf (fileRecord (fileAt j)) i ≡ true
-          → mem (imageAt after (seatAt table j)) i ≡ mem (imageAt a (seatAt table j)) i
+          → mem (imageAt after (linkAt table j)) i ≡ mem (imageAt a (linkAt table j)) i
       tables-kept j x i t = go (ℕ-discrete j k)
         where
-          go : Dec (j ≡ k) → mem (imageAt after (seatAt table j)) i ≡ mem (imageAt a (seatAt table j)) i
+          go : Dec (j ≡ k) → mem (imageAt after (linkAt table j)) i ≡ mem (imageAt a (linkAt table j)) i
           go (yes e) =
               subst
-              (λ (c : ℕ). isTableOf (fileRecord (fileAt c)) i ≡ true → mem (imageAt after (seatAt table c)) i ≡ mem (imageAt a (seatAt table c)) i)
+              (λ (c : ℕ). isTableOf (fileRecord (fileAt c)) i ≡ true → mem (imageAt after (linkAt table c)) i ≡ mem (imageAt a (linkAt table c)) i)
               (sym e) (own-kept i) t
           go (no ne) = ap (λ (image : List ℕ). mem image i) (others-kept j x ne)
 
@@ -370,7 +370,7 @@ module _ (address size : ℕ) (table : List ℕ) (h p : File) (fs : List File) w
       let t = lies s k l in
       let u = lies s d m in
       let span : (obj set d) .span ≡ spanAt d = ap (λ (o : Obj). o .span) (u .is) in
-      rw (t .seat, u .seat, span)
+      rw (t .link, u .link, span)
       (copy-same (not (x .absolute))
       (either (leb ((obj set k) .offset + q + n) ((obj set d) .offset + x .value)) (leb ((obj set d) .offset + x .value + n) ((obj set k) .offset + q)))
       size ((obj set k) .offset) q ((obj set d) .offset) (x .value) n (spanAt d) (omega (arith, t .fits)) (u .fits))

@@ -25,8 +25,8 @@ use Rattle.object.specs.declared.relocate.Rela.{Rela}
 use Rattle.object.specs.declared.relocate.Action.the-variants.{Symbolic}
 use Rattle.object.specs.declared.entry_symbol.CheckedSymbol.the-variants.{Checked}
 use Rattle.object.proofs.FineLaws.{fine-checked}
-use Rattle.scope.specs.declared.scope.Scoped.{Scoped}
-use Rattle.scope.specs.declared.scope.Scoped.the-variants.{Absent, Found}
+use Rattle.scope.specs.declared.scope.Resolved.{Resolved}
+use Rattle.scope.specs.declared.scope.Resolved.the-variants.{Absent, Found}
 use Rattle.binder.specs.declared.report.Progress.{Progress}
 use Rattle.binder.specs.declared.turn.Turn.{Turn}
 use Rattle.binder.specs.declared.relocate.Symbols.{Symbols}
@@ -103,12 +103,12 @@ module _
         q = keeps (s .last) (s .address) p
 
         -- the search found it
-        sought : (x : Scoped) → At found ≡ addressIn x → left (keeps (e .symbol + 1) found p) b report ≡ writeFound t e symbolicWord i y-here x q a report
+        sought : (x : Resolved) → At found ≡ addressIn x → left (keeps (e .symbol + 1) found p) b report ≡ writeFound t e symbolicWord i y-here x q a report
         unfolding writeFound
         sought Absent h = at-nowhere found h
         sought (Found o d v) h = rw (written, place-here, at-same found v h)
 
-        answered : (c : Bool) → eqb (s .last) (e .symbol + 1) ≡ c → (x : Scoped) → At found ≡ pick c (At (s .address)) (addressIn x)
+        answered : (c : Bool) → eqb (s .last) (e .symbol + 1) ≡ c → (x : Resolved) → At found ≡ pick c (At (s .address)) (addressIn x)
             → left (keeps (e .symbol + 1) found p) b report
             ≡ pick c (left q (patch a (t .offset + e .place) 8 (byteOf (s .address))) report) (writeFound t e symbolicWord i y-here x q a report)
         answered true h x g = rw (written, place-here, at-same found (s .address) g, eqb-true (s .last) (e .symbol + 1) h)

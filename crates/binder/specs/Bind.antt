@@ -20,7 +20,7 @@ use Rattle.binder.specs.declared.Answer.{Answer}
 use Rattle.binder.specs.declared.Answer as answers
 use Rattle.binder.specs.declared.Reply.{Reply}
 use Rattle.binder.specs.declared.Reply as replies
-use Rattle.sheet.specs.Sheet.{Input, sheetOk, setOf, arenaOk, twinOf}
+use Rattle.sheet.specs.Sheet.{Input, sheetOk, setOf, arenaOk, duplicateOf}
 use Rattle.binder.specs.Instance.{File, objectFrom}
 use Rattle.binder.specs.Verdict.{Verdict, passed, refused, first, noFile, loadVerdict, orderVerdict}
 use Rattle.binder.specs.Report.{orderWords, firstUndefined}
@@ -51,7 +51,7 @@ unfoldable pub prepareVerdict : List ℕ → List ℕ → ℕ → ℕ → Verdic
 prepareVerdict sheet bytes size address =
     first (unless (sheetOk sheet (length bytes)) 1 0)
     (first (unless (arenaOk size address) 2 0)
-    (first (unless (eqb (twinOf (setOf sheet bytes)) 0) 3 (twinOf (setOf sheet bytes)))
+    (first (unless (eqb (duplicateOf (setOf sheet bytes)) 0) 3 (duplicateOf (setOf sheet bytes)))
     (loadVerdict (objectsOf address (filesOf (setOf sheet bytes))) size 0 (filesOf (setOf sheet bytes)))))
 
 -- 19: "Strict policy and an undefined entry"
@@ -95,7 +95,7 @@ pub data Replied : Type 0 where
   replied : (reply : Reply) (arena : List ℕ) → Replied
 
 -- "A lookup yields an object, a symbol index and an address, or absence"
-abbrev pub replyOf : symbols.Answer → Reply
+abbrev pub replyOf : symbols.Resolved → Reply
 replyOf absent = replies.the-variants.Absent
 replyOf (answer k s a) = replies.the-variants.Found k (s .index) a
 

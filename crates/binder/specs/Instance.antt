@@ -6,12 +6,13 @@ use mathlib.Core.List.{List, [], _∷_, _++_, map}
 use Prim.Native.Nat.{ℕ, _+_, _-_, _*_, _/_}
 use lib.ListN.{length}
 use Rattle.words.specs.Choice.{pick}
-use Rattle.model.specs.Symbols.{Name, Sym, Found, none, hit}
+use Rattle.model.specs.Symbols.{none, hit}
+use Rattle.model.specs.Symbols as model
 use Rattle.model.specs.Objects.{Entry, fixed, symbol, copy, pass, Obj}
 use Rattle.object.specs.declared.relocate.Rela.{Rela}
 use Rattle.object.specs.declared.hash_tables.Definition.{Definition}
-use Rattle.object.specs.declared.hash_tables.Answer.{Answer}
-use Rattle.object.specs.declared.hash_tables.Answer.the-variants.{Absent, Present}
+use Rattle.object.specs.declared.hash_tables.Exported.{Exported}
+use Rattle.object.specs.declared.hash_tables.Exported.the-variants.{Absent, Present}
 use Rattle.object.specs.Symbol.{symbolAt, symbolName}
 use Rattle.object.specs.HashTable.{answerIn}
 use Rattle.object.specs.RelocationTypes.{Row, noSearch, inScope, ignored, passedOver, turnedAway, copies, writes, rowOf}
@@ -33,12 +34,12 @@ abbrev pub fileRecord : File → Record
 fileRecord f = objectRecord (f .host) (f .bytes)
 
 -- a symbol that answers
-abbrev pub symOf : Definition → Sym
-symOf d = record { index = d .index; value = d .value; size = d .size; protected = d .guarded; absolute = d .absolute }
+abbrev pub definitionOf : Definition → model.Definition
+definitionOf d = record { index = d .index; value = d .value; size = d .size; protected = d .protected; absolute = d .absolute }
 
-abbrev pub definitionFound : Answer → Found
-definitionFound Absent = none
-definitionFound (Present d) = hit (symOf d)
+abbrev pub exportedOf : Exported → model.Exported
+exportedOf Absent = none
+exportedOf (Present d) = hit (definitionOf d)
 
 -- the places of the words that RELR names; refusal 17 leaves no word before any address
 unfoldable pub placesOf : List Word → List ℕ
@@ -75,7 +76,7 @@ objectAt address f off =
       span = objectSpan (f .host) (f .bytes);
       base = address + off;
       image = objectBytes (f .host) (f .bytes);
-      find = λ name. definitionFound (answerIn (fileImage f) (viewOf (fileRecord f)) name);
+      find = λ name. exportedOf (answerIn (fileImage f) (viewOf (fileRecord f)) name);
       words = pick (f .host) [] (placesOf (namedWords (fileImage f) (fileRecord f)));
       entries = pick (f .host) [] (map (entryOf (fileImage f) (fileRecord f) (address + off)) (relasOf (fileImage f) (fileRecord f)));
     }

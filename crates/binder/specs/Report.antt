@@ -7,7 +7,7 @@ use Prim.Native.Nat.{ℕ, _+_, _*_, _^_}
 use lib.Dec.{eqb}
 use lib.ListN.{getD}
 use Rattle.words.specs.Choice.{pick, both, some}
-use Rattle.model.specs.Symbols.{Answer, absent, answer}
+use Rattle.model.specs.Symbols.{Resolved, absent, answer}
 use Rattle.model.specs.Objects.{Objs}
 use Rattle.model.specs.Scope.{resolve, resolveCopy}
 use Rattle.object.specs.Symbol.{symbolAt, symbolName, bindingOf}
@@ -21,12 +21,12 @@ use Rattle.binder.specs.Verdict.{noFile}
 abbrev pub reportWord : ℕ → ℕ → ℕ
 reportWord kind n = kind * 2 ^ 28 + n
 
-abbrev pub isAbsent : Answer → Bool
+abbrev pub isAbsent : Resolved → Bool
 isAbsent absent = true
 isAbsent (answer k s a) = false
 
 -- "Unresolved with binding other than 2", of an entry of object `k` whose search had that answer
-abbrev pub unresolved : List ℕ → Record → Rela → Answer → Bool
+abbrev pub unresolved : List ℕ → Record → Rela → Resolved → Bool
 unresolved image r e a = both (isAbsent a) (not (eqb (bindingOf (symbolAt image (r .symbols) (e .symbol))) 2))
 
 -- an undefined entry, by the row of its type

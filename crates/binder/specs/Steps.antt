@@ -8,4 +8,4 @@ pub mod Asked
 pub mod Relocating
 pub mod RunSteps
 pub mod Needed
-pub mod Settled
+pub mod Finished

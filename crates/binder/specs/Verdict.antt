@@ -6,7 +6,7 @@ use Prim.Native.Nat.{ℕ, zero, suc, _+_, _-_, min}
 use lib.Dec.{eqb, leb}
 use lib.ListN.{getD}
 use Rattle.words.specs.Choice.{pick, both, either}
-use Rattle.model.specs.Symbols.{Name, Sym, Answer, absent, answer}
+use Rattle.model.specs.Symbols.{Name, Definition, Resolved, absent, answer}
 use Rattle.model.specs.Objects.{Objs, obj}
 use Rattle.model.specs.Scope.{resolve, resolveCopy}
 use Rattle.object.specs.Refusal.{require}
@@ -56,14 +56,14 @@ wordRefusal r nowhere = 17
 
 -- not 18: "A non-empty COPY from an absolute symbol, from outside the definer's span, or overlapping its destination": `n` bytes from the
 -- symbol `s` of object `d` to the place `p` of object `k`
-unfoldable pub copyOk : Objs → ℕ → ℕ → ℕ → Sym → ℕ → Bool
+unfoldable pub copyOk : Objs → ℕ → ℕ → ℕ → Definition → ℕ → Bool
 copyOk S k p d s n =
     both (not (s .absolute))
     (both (leb (s .value + n) ((obj S d) .span))
     (either (leb ((obj S k) .offset + p + n) ((obj S d) .offset + s .value)) (leb ((obj S d) .offset + s .value + n) ((obj S k) .offset + p))))
 
 -- 17 and 18 of a COPY to the place `p` of object `k`, whose own symbol has that size: nothing is looked at where nothing is copied
-unfoldable pub copyRefusal : Objs → ℕ → Record → ℕ → ℕ → Answer → ℕ
+unfoldable pub copyRefusal : Objs → ℕ → Record → ℕ → ℕ → Resolved → ℕ
 copyRefusal S k r p size absent = 0
 copyRefusal S k r p size (answer d s a) =
     pick (eqb (min size (s .size)) 0) 0

@@ -5,8 +5,8 @@ ghost use lib.Dec.{eqb};
 ghost use lib.ListN.{length, replicate, take};
 ghost use Rattle.sheet.specs.Steps.Parts.{inputsIn};
 ghost use Rattle.binder.specs.Bind.{outcome, bindOf, allows};
-ghost use Rattle.scope.specs.Steps.Seats.{Filtered};
-ghost use Rattle.binder.specs.Steps.Settled.{endsBy, Relocated, BoundSet, settledOf};
+ghost use Rattle.scope.specs.Steps.Links.{Filtered};
+ghost use Rattle.binder.specs.Steps.Finished.{endsBy, Relocated, BoundSet, finishedOf};
 ghost use Rattle.binder.specs.Steps.Prepared.{metBy};
 use crate::Answer;
 use crate::Policy;
@@ -99,8 +99,8 @@ fn bind_set(
 }
 
 // The answer; a refusal leaves zeros. No other function clears after a refusal of `bind`.
-fn settle(m: Met, arena: &mut [u8], report: &mut [u32]) -> Answer
-    ensures { λ r. ⌜ outcome r (now (arena .exit)) (now (report .exit)) ≡ settledOf m (now (arena .entry)) (now (report .entry)) ⌝ }
+fn finish(m: Met, arena: &mut [u8], report: &mut [u32]) -> Answer
+    ensures { λ r. ⌜ outcome r (now (arena .exit)) (now (report .exit)) ≡ finishedOf m (now (arena .entry)) (now (report .entry)) ⌝ }
 {
     let Met::Refused { number, object } = m else {
         return Answer::Bound;
@@ -127,5 +127,5 @@ pub fn bind(
     words::bytes::clear_words(report);
     let parts = sheet::sheet::parts_of(sheet, bytes.len());
     let m = bind_set(bytes, parts, arena, address, policy, report);
-    settle(m, arena, report)
+    finish(m, arena, report)
 }

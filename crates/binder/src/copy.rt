@@ -10,8 +10,8 @@ use object::hash_tables::Definition;
 use object::relocate::Rela;
 use object::symbol::Symbol;
 use object::table_bytes::Bounds;
-use scope::scope::Scoped;
-use scope::seats::Seat;
+use scope::scope::Resolved;
+use scope::links::Link;
 
 // Whether the `n` bytes at `place` of what starts at `off` end inside `size` bytes.
 pub(crate) fn ends_inside(size: usize, off: usize, place: usize, n: usize) -> bool
@@ -29,9 +29,9 @@ pub(crate) fn ends_inside(size: usize, off: usize, place: usize, n: usize) -> bo
     true
 }
 
-// Whether a COPY of `n` bytes of the definition `d`, in the object at the seat `s`, to the place `to` passes refusal 18; `size` is the
+// Whether a COPY of `n` bytes of the definition `d`, in the object at the link `s`, to the place `to` passes refusal 18; `size` is the
 // arena's length.
-pub(crate) fn copy_fits(size: usize, t: Turn, to: usize, s: Seat, d: Definition, n: usize) -> bool
+pub(crate) fn copy_fits(size: usize, t: Turn, to: usize, s: Link, d: Definition, n: usize) -> bool
     ensures { λ r. ⌜ r ≡ copyFits size t to s d n ⌝ }
 {
     let value = d.value as usize;
@@ -56,14 +56,14 @@ pub(crate) fn copy_fits(size: usize, t: Turn, to: usize, s: Seat, d: Definition,
     false
 }
 
-// Type 5, where the definition `d` was found in the object at the seat `s`: `n` bytes.
+// Type 5, where the definition `d` was found in the object at the link `s`: `n` bytes.
 pub(crate) fn copy_found(
     arena: &mut [u8],
     p: Progress,
     t: Turn,
     b: Bounds,
     to: usize,
-    s: Seat,
+    s: Link,
     d: Definition,
     n: usize,
 ) -> Progress
@@ -93,11 +93,11 @@ pub(crate) fn copy_answer(
     i: u32,
     e: Rela,
     y: Symbol,
-    s: Scoped,
+    s: Resolved,
 ) -> Progress
     ensures { λ r. ⌜ left r (now (arena .exit)) (now (report .exit)) ≡ copyOf (now (table .entry)) t (take (b .count) (b .segments)) e i y s p (now (arena .entry)) (now (report .entry)) ⌝ }
 {
-    let Scoped::Found {
+    let Resolved::Found {
         object,
         definition,
         address: _,
@@ -106,6 +106,6 @@ pub(crate) fn copy_answer(
         return crate::report::unresolved(report, p, y, t.number, i);
     };
     let n = words::bytes::smaller(y.size as usize, definition.size as usize);
-    let seat = scope::seats::seat_at(table, object);
-    copy_found(arena, p, t, b, e.place, seat, definition, n)
+    let link = scope::links::link_at(table, object);
+    copy_found(arena, p, t, b, e.place, link, definition, n)
 }

@@ -63,7 +63,7 @@ fn fill_needs(needs: &mut [u8], bytes: &[u8], parts: Parts, arena: &[u8], table:
     let count = parts.count;
     let mut k = 2;
     while k < count {
-        let s = scope::seats::seat_at(table, k);
+        let s = scope::links::link_at(table, k);
         let view = s.view;
         put_needs(
             needs,

@@ -8,7 +8,7 @@ ghost use Rattle.object.specs.Placed.{CheckedBy};
 ghost use Rattle.binder.specs.Instance.{nextOffset};
 ghost use Rattle.binder.specs.Steps.Prepared.{LoadedAt, LoadedNext, LoadedFiles, Prepared};
 use object::object_data::Placed;
-use scope::seats::Seat;
+use scope::links::Link;
 use sheet::sheet::Parts;
 
 // The checks of a set: passed, or the first refusal with its object.
@@ -17,10 +17,10 @@ pub enum Met {
     Refused { number: u32, object: u32 },
 }
 
-// One object: its refusal, or its seat.
+// One object: its refusal, or its link.
 pub enum Loaded {
     Refused(u32),
-    At(Seat),
+    At(Link),
 }
 
 // Where an object goes: the host to the next free offset, any other to the least one from there on whose address is a multiple of its
@@ -51,12 +51,12 @@ fn load_at(arena: &mut [u8], off: usize, file: &[u8], host: bool, checked: Place
     }
     let o = r.object;
     let view = object::dynamic_fields::view_of(o);
-    let seat = Seat {
+    let link = Link {
         offset: off,
         span: o.span,
         view: view,
     };
-    Loaded::At(seat)
+    Loaded::At(link)
 }
 
 // Loads an object where it goes, `free` being the next free offset, and writes zeros before it: refusals 4 to 12 and 21.
@@ -78,7 +78,7 @@ fn load_next(arena: &mut [u8], address: u64, free: usize, file: &[u8], host: boo
 }
 
 // Loads the objects that the table of parts names, one after another, writes zeros between them and behind the last, and fills the table of
-// seats.
+// links.
 fn load_all(bytes: &[u8], parts: Parts, arena: &mut [u8], address: u64, table: &mut [u64]) -> Met
     requires { ⌜ (parts .count ≤ 64) × (length (inputsIn (now bytes) parts) ≡ parts .count) × (1024 ≤ length (now table)) × (length (now arena) ≤ 2 ^ 28) × (address + length (now arena) ≤ 2 ^ 63) ⌝ }
     ensures { λ r. ⌜ LoadedFiles address (filesOf (inputsIn (now (bytes .entry)) parts)) (now (arena .entry)) (now (arena .exit)) (now (table .exit)) r ⌝ }
@@ -97,7 +97,7 @@ fn load_all(bytes: &[u8], parts: Parts, arena: &mut [u8], address: u64, table: &
                 };
             }
             Loaded::At(s) => {
-                scope::seats::put_seat(table, k, s);
+                scope::links::put_link(table, k, s);
                 free = s.offset + s.span;
                 k += 1;
             }
@@ -107,7 +107,7 @@ fn load_all(bytes: &[u8], parts: Parts, arena: &mut [u8], address: u64, table: &
     Met::Passed
 }
 
-// Refusals 1 to 12 and 21 of the objects that the table of parts names; what passes is loaded, whatever the arena holds before, and its seats are
+// Refusals 1 to 12 and 21 of the objects that the table of parts names; what passes is loaded, whatever the arena holds before, and its links are
 // in the table. A refused sheet's table of parts names no object.
 pub(crate) fn prepare(
     bytes: &[u8],
@@ -131,7 +131,7 @@ pub(crate) fn prepare(
             object: 0,
         };
     }
-    let t = sheet::sheet::twin(bytes, parts);
+    let t = sheet::sheet::duplicate(bytes, parts);
     if t != 0 {
         return Met::Refused {
             number: 3,

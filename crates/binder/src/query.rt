@@ -9,14 +9,14 @@ ghost use Rattle.binder.specs.Steps.Asked.{askOf};
 ghost use Rattle.binder.specs.declared.Reply.the-variants.{Refused};
 use crate::Reply;
 use crate::prepare::Met;
-use scope::scope::Scoped;
+use scope::scope::Resolved;
 use sheet::sheet::Parts;
 
 // The answer of a search, as a query gives it.
-fn reply_of(s: Scoped) -> Reply
+fn reply_of(s: Resolved) -> Reply
     ensures { λ r. ⌜ r ≡ replyOf (scopedOf s) ⌝ }
 {
-    let Scoped::Found {
+    let Resolved::Found {
         object,
         definition,
         address,

@@ -13,7 +13,7 @@ ghost use Rattle.object.specs.declared.relocate.Action.the-variants as actions;
 ghost use Rattle.object.specs.Record.{heldBy, checkedSymbol};
 ghost use Rattle.object.specs.Steps.WritableRange.{WritableRange};
 ghost use Rattle.sheet.specs.Steps.Parts.{inputsIn};
-ghost use Rattle.scope.specs.Steps.Seats.{Filtered};
+ghost use Rattle.scope.specs.Steps.Links.{Filtered};
 ghost use Rattle.binder.specs.Steps.Relocating.{left, wrote, started, imageIn, fixedOf, symbolRefusal, writeFound, soughtFor, soughtForCopy, symbolicOf, copyingOf, runAction, runTable, runTables, runObject, runAt, runOrder};
 ghost use Rattle.binder.specs.Steps.RunSteps.{InReach, EntriesPassed, SymbolsOf, EntryRead, addressIn, SymbolsPassed};
 ghost use Rattle.binder.specs.declared.relocate.Address.the-variants.{At};
@@ -27,7 +27,7 @@ use object::relocate::Rela;
 use object::symbol::Symbol;
 use object::table_bytes::Bounds;
 use object::table_bytes::Writable;
-use scope::scope::Scoped;
+use scope::scope::Resolved;
 use sheet::sheet::Parts;
 
 // ---- RELA and PLT
@@ -64,7 +64,7 @@ fn search(
     t: Turn,
     strings: usize,
     name: u32,
-) -> Scoped
+) -> Resolved
     requires { ⌜ Filtered (now table) count ⌝ }
     ensures { λ r. ⌜ r ≡ soughtFor address (now (table .entry)) count t (now (arena .entry)) (nameAt (imageIn (now (arena .entry)) t) (strings + name)) ⌝ }
 {
@@ -82,7 +82,7 @@ fn search_copy(
     t: Turn,
     strings: usize,
     name: u32,
-) -> Scoped
+) -> Resolved
     requires { ⌜ Filtered (now table) count ⌝ }
     ensures { λ r. ⌜ r ≡ soughtForCopy address (now (table .entry)) count (now (arena .entry)) (nameAt (imageIn (now (arena .entry)) t) (strings + name)) ⌝ }
 {
@@ -100,11 +100,11 @@ fn write_found(
     i: u32,
     e: Rela,
     y: Symbol,
-    s: Scoped,
+    s: Resolved,
 ) -> Progress
     ensures { λ r. ⌜ left r (now (arena .exit)) (now (report .exit)) ≡ writeFound t e symbolicWord i y s p (now (arena .entry)) (now (report .entry)) ⌝ }
 {
-    let Scoped::Found {
+    let Resolved::Found {
         object: _,
         definition: _,
         address,
@@ -403,8 +403,8 @@ fn address_of(
     }
     let s = search(arena, table, count, address, t, strings, name);
     match s {
-        Scoped::Absent => Address::Nowhere,
-        Scoped::Found {
+        Resolved::Absent => Address::Nowhere,
+        Resolved::Found {
             object: _,
             definition: _,
             address: found,

@@ -17,7 +17,7 @@ pub struct Turn {
 pub(crate) fn turn_of(table: &[u64], address: u64, k: u32) -> Turn
     ensures { λ r. ⌜ r ≡ turnOf address (now (table .entry)) k ⌝ }
 {
-    let s = scope::seats::seat_at(table, k as usize);
+    let s = scope::links::link_at(table, k as usize);
     Turn {
         number: k,
         offset: s.offset,

@@ -8,7 +8,7 @@ use borrow.Author.Tests.{ltb-true, lt-ltb}
 use lib.Dec.{ltb}
 use lib.ListN.{length, length-append, length-map}
 use Rattle.words.specs.Memory.{tab}
-use Rattle.model.specs.Symbols.{Sym, absent, answer}
+use Rattle.model.specs.Symbols.{Definition, absent, answer}
 use Rattle.model.specs.Symbols as symbols
 use Rattle.model.specs.Scope.{resolve}
 use Rattle.model.specs.Relocation.{placed}
@@ -39,13 +39,13 @@ found-passed size (refused n j) r l arena k i a e = let z : _≡_ {A = ℕ} 0 1 
 
 -- the lookup of which it is the reply
 found-answer :
-    (x : symbols.Answer) (k i a : ℕ) → replyOf x ≡ Found k i a → (s : Sym) × (x ≡ answer k s a) × (s .index ≡ i)
+    (x : symbols.Resolved) (k i a : ℕ) → replyOf x ≡ Found k i a → (s : Definition) × (x ≡ answer k s a) × (s .index ≡ i)
 found-answer absent k i a e = let z : _≡_ {A = ℕ} 0 1 = cc in absurd (omega arith)
 found-answer (answer j s b) k i a e = (s, cc, cc)
 
 -- of any two sets of which the second is the first and one object more
 kept :
-    (address : ℕ) (os os′ : List Input) → Longer os os′ → (r : ℕ) → r < length os → (name : List ℕ) (k : ℕ) (s : Sym) (a : ℕ)
+    (address : ℕ) (os os′ : List Input) → Longer os os′ → (r : ℕ) → r < length os → (name : List ℕ) (k : ℕ) (s : Definition) (a : ℕ)
     → resolve (objectsOf address (filesOf os)) r name ≡ answer k s a → k ≢ 0
     → (resolve (objectsOf address (filesOf os′)) r name ≡ answer k s a) × (r < length os′)
 unfolding objectsOf
@@ -70,7 +70,7 @@ loaded :
 unfolding prepareVerdict unless
 loaded sheet bytes size address policy words arena report e =
     let p = bound-passed sheet bytes size address policy words arena report e in
-    rw (p .sheet-ok, p .arena-ok, p .no-twin) (loads-same address size (filesOf (setOf sheet bytes)) ∙ p .loads)
+    rw (p .sheet-ok, p .arena-ok, p .no-duplicate) (loads-same address size (filesOf (setOf sheet bytes)) ∙ p .loads)
 
 -- what a set that is not refused replies
 pub asked :

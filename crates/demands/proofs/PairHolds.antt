@@ -15,7 +15,7 @@ use Rattle.words.proofs.Slices.{mem-tab}
 use Rattle.words.proofs.Words.{leAt-same}
 use Rattle.model.specs.Objects as objects
 use Rattle.model.specs.Objects.{Obj, Objs}
-use Rattle.model.specs.Symbols.{Sym, absent, answer}
+use Rattle.model.specs.Symbols.{Definition, absent, answer}
 use Rattle.model.specs.Symbols as symbols
 use Rattle.model.specs.Scope.{scopeAnswer, protectedOf, scan, resolve}
 use Rattle.model.specs.Order.{visit, orderOf}
@@ -32,11 +32,11 @@ use Rattle.object.specs.Entries.{relaAt, relasFrom, relrsFrom, relrWords}
 use Rattle.object.specs.RelocationTypes.{rowOf}
 use Rattle.object.specs.Placed.{objectBytes}
 use Rattle.object.specs.Record.{Record, viewOf, indexOk, checkedSymbol}
-use Rattle.sheet.specs.Sheet.{Input, pairOk, libWords, total, sheetOk, cut, libsOf, setOf, arenaOk, twinFrom}
+use Rattle.sheet.specs.Sheet.{Input, pairOk, libWords, total, sheetOk, cut, libsOf, setOf, arenaOk, duplicateFrom}
 use Rattle.sheet.specs.Sheet as sheets
 use Rattle.binder.specs.declared.Policy.the-variants.{Lenient}
 use Rattle.binder.specs.declared.Answer.the-variants.{Bound}
-use Rattle.binder.specs.Instance.{File, definitionFound, placesOf, namedWords, relasOf, entryBy, objectAt, multipleFrom, nextOffset, objectFrom}
+use Rattle.binder.specs.Instance.{File, exportedOf, placesOf, namedWords, relasOf, entryBy, objectAt, multipleFrom, nextOffset, objectFrom}
 use Rattle.binder.specs.Verdict.{passed, verdict, refusalBy, wordsVerdict, entriesVerdict, objectVerdict, orderVerdict}
 use Rattle.binder.specs.Steps.Prepared.{loadFrom}
 use Rattle.binder.specs.Report.{reportWord, isAbsent, undefinedBy, entryReport, objectWords, orderWords}
@@ -101,7 +101,7 @@ objectOf host bs off span image r es =
       span = span;
       base = 0x10000000 + off;
       image = objectBytes host bs;
-      find = λ name. definitionFound (answerIn image (viewOf r) name);
+      find = λ name. exportedOf (answerIn image (viewOf r) name);
       words = [];
       entries = es;
     }
@@ -189,11 +189,11 @@ T-loads =
     (load-next 0x5000 3 0x4000 0x1000 false (libraryFile 98) (libraryImage 98) libraryRecord _ b-reads (next-page false 0x4000 refl) (omega arith) (load-end 0x5000 4 0x5000))))
 
 S-prepared : prepareVerdict sheet bytes 0x4000 0x10000000 ≡ passed
-unfolding prepareVerdict unless arenaOk twinFrom some filesOf
+unfolding prepareVerdict unless arenaOk duplicateFrom some filesOf
 S-prepared = rw (sheet-ok, set-is) (loads-same 0x10000000 0x4000 files ∙ S-loads)
 
 T-prepared : prepareVerdict longerSheet longerBytes 0x5000 0x10000000 ≡ passed
-unfolding prepareVerdict unless arenaOk twinFrom some filesOf sameBytes
+unfolding prepareVerdict unless arenaOk duplicateFrom some filesOf sameBytes
 T-prepared = rw (longer-ok, longer-is) (loads-same 0x10000000 0x5000 longerFiles ∙ T-loads)
 
 -- ---- the order: no library needs another
@@ -235,7 +235,7 @@ T-entries = rw (library-verdict T 2 97 a-reads, library-verdict T 3 98 b-reads, 
 
 -- ---- lookups
 
-abbrev found : Sym
+abbrev found : Definition
 found = record { index = 1; value = 0x18; size = 8; protected = false; absolute = false }
 
 record Lookups : Type 0 where
@@ -296,7 +296,7 @@ T-bound = bind-passed longerSheet longerBytes 0x5000 longerInputs (2 ∷ 3 ∷ 1
 -- ---- asked by the program
 
 query-passed :
-    (sheet bytes : List ℕ) (size : ℕ) (os : List Input) (A : Objs) (name : List ℕ) (x : symbols.Answer) → setOf sheet bytes ≡ os
+    (sheet bytes : List ℕ) (size : ℕ) (os : List Input) (A : Objs) (name : List ℕ) (x : symbols.Resolved) → setOf sheet bytes ≡ os
     → prepareVerdict sheet bytes size 0x10000000 ≡ passed → objectsOf 0x10000000 (filesOf os) ≡ A → 1 < length os → resolve A 1 name ≡ x
     → queryOf sheet bytes size 0x10000000 1 name ≡ replied (replyOf x) (tab size (placed A))
 query-passed sheet bytes size os A name x s v o l e = asked sheet bytes size 0x10000000 1 name v (rw s l) ∙ rw (s, o, e)
@@ -325,7 +325,7 @@ excepted i w =
       omega arith,
       omega arith,
       List·Memᴰ·tail (List·Memᴰ·head refl),
-      (subst (λ (x : symbols.Answer). HostOrNowhere x) (sym (look .b-in-S)) nowhere, omega arith),
+      (subst (λ (x : symbols.Resolved). HostOrNowhere x) (sym (look .b-in-S)) nowhere, omega arith),
     )
 
 -- the library has no entries

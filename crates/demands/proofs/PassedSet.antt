@@ -9,7 +9,7 @@ use lib.Dec.{eqb}
 use lib.ListN.{length, getD}
 use Rattle.model.specs.Order.{has}
 use Rattle.model.proofs.OrderLaws.{nothing-else}
-use Rattle.sheet.specs.Sheet.{Input, sheetOk, setOf, arenaOk, twinOf}
+use Rattle.sheet.specs.Sheet.{Input, sheetOk, setOf, arenaOk, duplicateOf}
 use Rattle.sheet.proofs.SheetLonger.{sheet-shape}
 use Rattle.binder.specs.Instance.{File}
 use Rattle.binder.specs.Verdict.{passed, noFile, loadVerdict}
@@ -33,7 +33,7 @@ module _ (sheet bytes : List ℕ) where
   prepared size address v =
       let a = first-passed (unless (sheetOk sheet (length bytes)) 1 0) _ v in
       let b = first-passed (unless (arenaOk size address) 2 0) _ (a .1) in
-      let c = first-passed (unless (eqb (twinOf os) 0) 3 (twinOf os)) (loadVerdict (objectsOf address (filesOf os)) size 0 (filesOf os)) (b .1) in
+      let c = first-passed (unless (eqb (duplicateOf os) 0) 3 (duplicateOf os)) (loadVerdict (objectsOf address (filesOf os)) size 0 (filesOf os)) (b .1) in
       record { sheet-ok = unless-passed (sheetOk sheet (length bytes)) 1 0 (a .0); loads = sym (loads-same address size (filesOf os)) ∙ c .1 }
 
   -- its libraries have a name each, and are at most 62

@@ -14,7 +14,7 @@ use Rattle.words.specs.Choice as choice
 use Rattle.model.specs.Order.{has}
 use Rattle.model.specs.Objects.{Objs, obj}
 use Rattle.model.specs.Scope.{resolveCopy}
-use Rattle.model.specs.Symbols.{Answer, absent, answer}
+use Rattle.model.specs.Symbols.{Resolved, absent, answer}
 use Rattle.model.proofs.OrderLaws.{decide, clash, has-head, has-cons}
 use Rattle.object.specs.Refusal.{require, after}
 use Rattle.object.specs.Header.{headerRefusal}
@@ -36,7 +36,7 @@ use Rattle.object.specs.declared.symbol.Symbol.{Symbol}
 use Rattle.object.specs.declared.relocate.Rela.{Rela}
 use Rattle.object.specs.RelocationTypes.{Row, noSearch, inScope, ignored, passedOver, turnedAway, copies, writes, rowOf}
 use Rattle.object.specs.declared.entry_symbol.CheckedSymbol.the-variants.{Refused, Checked}
-use Rattle.sheet.specs.Sheet.{Input, noInput, named, twinFrom, twinOf}
+use Rattle.sheet.specs.Sheet.{Input, noInput, named, duplicateFrom, duplicateOf}
 use Rattle.binder.specs.Instance.{File, fileImage, fileRecord, namedWords, relasOf}
 use Rattle.binder.specs.Verdict.{
   Verdict,
@@ -162,7 +162,7 @@ word-range r (place p) = written-range r p 8
 word-range r nowhere = λ z. omega arith
 
 -- 17 and 18
-copy-range : (S : Objs) (k : ℕ) (r : Record) (p size : ℕ) (a : Answer) → Range 14 18 (copyRefusal S k r p size a)
+copy-range : (S : Objs) (k : ℕ) (r : Record) (p size : ℕ) (a : Resolved) → Range 14 18 (copyRefusal S k r p size a)
 unfolding copyRefusal
 copy-range S k r p size absent = λ z. absurd (omega arith)
 copy-range S k r p size (answer d s a) = go (eqb (min size (s .size)) 0)
@@ -318,15 +318,15 @@ no-earlier n [] = refl
 no-earlier n (h ∷ []) = refl
 no-earlier n (h ∷ (p ∷ ls)) = refl
 
-twin-from :
-    (os : List Input) (n k : ℕ) → 2 ≤ k → twinFrom os n k ≢ 0 → (3 ≤ twinFrom os n k) × (twinFrom os n k < k + n)
-unfolding twinFrom
-twin-from os zero k l ne = absurd (ne refl)
-twin-from os (suc n) k l ne =
+duplicate-from :
+    (os : List Input) (n k : ℕ) → 2 ≤ k → duplicateFrom os n k ≢ 0 → (3 ≤ duplicateFrom os n k) × (duplicateFrom os n k < k + n)
+unfolding duplicateFrom
+duplicate-from os zero k l ne = absurd (ne refl)
+duplicate-from os (suc n) k l ne =
     ⊎-elim
     (λ (t : named (getD os k noInput .name) (drop 2 (take k os)) ≡ true). rw t (later t, omega arith))
     (λ (t : named (getD os k noInput .name) (drop 2 (take k os)) ≡ false).
-    let r = twin-from os n (k + 1) (omega arith) (rw t at ne) in
+    let r = duplicate-from os n (k + 1) (omega arith) (rw t at ne) in
     rw t (r .0, omega arith))
     (decide (named (getD os k noInput .name) (drop 2 (take k os))))
   where
@@ -337,7 +337,7 @@ twin-from os (suc n) k l ne =
         go true e = absurd (clash (rw (eqb-true k 2 e) at t) (no-earlier (getD os 2 noInput .name) os))
         go false e = let ne = eqb-false k 2 e in omega arith
 
-pub twin-later : (os : List Input) → twinOf os ≢ 0 → (3 ≤ twinOf os) × (twinOf os < length os)
-twin-later os ne =
-    let r = twin-from os (length (drop 2 os)) 2 (omega arith) ne in
+pub duplicate-later : (os : List Input) → duplicateOf os ≢ 0 → (3 ≤ duplicateOf os) × (duplicateOf os < length os)
+duplicate-later os ne =
+    let r = duplicate-from os (length (drop 2 os)) 2 (omega arith) ne in
     (r .0, omega (arith, length-drop 2 os))

@@ -15,7 +15,7 @@ use Rattle.model.specs.Scope.{resolve}
 use Rattle.model.specs.Symbols as symbols
 use Rattle.model.specs.Symbols.{absent, answer}
 use Rattle.model.proofs.OrderLaws.{clash}
-use Rattle.sheet.specs.Sheet.{Input, sheetOk, setOf, arenaOk, twinOf}
+use Rattle.sheet.specs.Sheet.{Input, sheetOk, setOf, arenaOk, duplicateOf}
 use Rattle.binder.specs.declared.Policy.{Policy}
 use Rattle.binder.specs.declared.Policy.the-variants.{Strict, Lenient}
 use Rattle.binder.specs.declared.Answer as answers
@@ -54,7 +54,7 @@ use Rattle.demands.proofs.RefusalNumbers.{
   load-meets,
   order-meets,
   first-undefined,
-  twin-later,
+  duplicate-later,
 }
 
 -- ---- a refusal's number and its object
@@ -110,12 +110,12 @@ module _ (sheet bytes : List ℕ) (size address : ℕ) where
       (first-meets (Right N (length os)) (unless (arenaOk size address) 2 0) _
       (unless-meets (Right N (length os)) (arenaOk size address) 2 0
       (λ _. (ok 2 (omega arith) (omega arith), without (length os) 2 refl (λ e. omega arith) (λ l h. omega arith) (λ e. omega arith))))
-      (first-meets (Right N (length os)) (unless (eqb (twinOf os) 0) 3 (twinOf os)) _
-      (unless-meets (Right N (length os)) (eqb (twinOf os) 0) 3 (twinOf os)
+      (first-meets (Right N (length os)) (unless (eqb (duplicateOf os) 0) 3 (duplicateOf os)) _
+      (unless-meets (Right N (length os)) (eqb (duplicateOf os) 0) 3 (duplicateOf os)
       (λ e.
-      let t = twin-later os (eqb-false (twinOf os) 0 e) in (
+      let t = duplicate-later os (eqb-false (duplicateOf os) 0 e) in (
         ok 3 (omega arith) (omega arith),
-        of-object (length os) 3 (twinOf os) (λ e. omega arith) (λ e. omega arith) (λ e. omega arith) (λ e. omega arith) (t .1) (λ _. t .0)
+        of-object (length os) 3 (duplicateOf os) (λ e. omega arith) (λ e. omega arith) (λ e. omega arith) (λ e. omega arith) (t .1) (λ _. t .0)
             (λ l h. absurd (omega arith)) (λ z. absurd (omega arith)),
       )))
       (load-meets (Right N (length os)) (objectsIn address os) size 0 (filesOf os) (λ z. host-first os)
@@ -217,7 +217,7 @@ refused-reply P size (refused i j) r l n k arena m ne e =
     (rw (number, object) at m, cc)
 
 -- a lookup is no refusal
-no-refusal : (x : symbols.Answer) (n k : ℕ) → replyOf x ≢ replies.the-variants.Refused n k
+no-refusal : (x : symbols.Resolved) (n k : ℕ) → replyOf x ≢ replies.the-variants.Refused n k
 no-refusal absent n k e = let z : _≡_ {A = ℕ} 0 1 = cc in absurd (omega arith)
 no-refusal (answer j s a) n k e = let z : _≡_ {A = ℕ} 0 1 = cc in absurd (omega arith)
 

@@ -15,7 +15,7 @@ use Rattle.object.specs.Entries.{Word}
 use Rattle.object.specs.Record.{Record}
 use Rattle.object.specs.Loaded.{objectRefusal}
 use Rattle.object.specs.declared.relocate.Rela.{Rela}
-use Rattle.sheet.specs.Sheet.{sheetOk, arenaOk, setOf, twinOf}
+use Rattle.sheet.specs.Sheet.{sheetOk, arenaOk, setOf, duplicateOf}
 use Rattle.binder.specs.declared.Policy.{Policy}
 use Rattle.binder.specs.declared.Answer as answers
 use Rattle.binder.specs.declared.Reply as replies
@@ -96,12 +96,12 @@ unfolding binding.prepareVerdict
 of-prepare sheet bytes size address =
     let one = sheetOk sheet (length bytes) in
     let two = arenaOk size address in
-    let twin = twinOf (setOf sheet bytes) in
+    let duplicate = duplicateOf (setOf sheet bytes) in
     let files : List File = filesOf (setOf sheet bytes) in
     let loaded = loadVerdict (objectsOf address files) size 0 files in
-    either-one (unless one 1 0) (first (unless two 2 0) (first (unless (eqb twin 0) 3 twin) loaded)) (of-test one 1 0 (omega arith))
-    (either-one (unless two 2 0) (first (unless (eqb twin 0) 3 twin) loaded) (of-test two 2 0 (omega arith))
-    (either-one (unless (eqb twin 0) 3 twin) loaded (of-test (eqb twin 0) 3 twin (omega arith)) (of-load (objectsOf address files) size 0 files)))
+    either-one (unless one 1 0) (first (unless two 2 0) (first (unless (eqb duplicate 0) 3 duplicate) loaded)) (of-test one 1 0 (omega arith))
+    (either-one (unless two 2 0) (first (unless (eqb duplicate 0) 3 duplicate) loaded) (of-test two 2 0 (omega arith))
+    (either-one (unless (eqb duplicate 0) 3 duplicate) loaded (of-test (eqb duplicate 0) 3 duplicate (omega arith)) (of-load (objectsOf address files) size 0 files)))
 
 -- ---- the answers
 
@@ -112,12 +112,12 @@ unfolding binding.outcomeOf
 of-outcome size words passed a r arena report n k h e = let z : _≡_ {A = ℕ} 0 1 = cc in absurd (omega arith)
 of-outcome size words (refused m j) a r arena report n k h e = h n k cc
 
-not-refused : {P : Type 0} (s : symbols.Answer) (a arena : List ℕ) (n k : ℕ) → replied (replyOf s) a ≡ replied (replies.the-variants.Refused n k) arena → P
+not-refused : {P : Type 0} (s : symbols.Resolved) (a arena : List ℕ) (n k : ℕ) → replied (replyOf s) a ≡ replied (replies.the-variants.Refused n k) arena → P
 not-refused symbols.absent a arena n k e = let z : _≡_ {A = ℕ} 0 1 = cc in absurd (omega arith)
 not-refused (symbols.answer d s v) a arena n k e = let z : _≡_ {A = ℕ} 0 1 = cc in absurd (omega arith)
 
 of-replied :
-    (size : ℕ) (v : Verdict) (s : symbols.Answer) (a arena : List ℕ) (n k : ℕ) → Numbered v
+    (size : ℕ) (v : Verdict) (s : symbols.Resolved) (a arena : List ℕ) (n k : ℕ) → Numbered v
     → repliedOf size v (replyOf s) a ≡ replied (replies.the-variants.Refused n k) arena → 0 < n
 unfolding binding.repliedOf
 of-replied size passed s a arena n k h e = not-refused s a arena n k e

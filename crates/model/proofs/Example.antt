@@ -10,7 +10,7 @@ use lib.ListN.{getD}
 use Rattle.words.specs.Choice.{pick}
 use Rattle.words.specs.Memory.{Mem, write}
 use Rattle.words.specs.Words.{leAt, byteOf}
-use Rattle.model.specs.Symbols.{Name, Sym, Found, none, hit, address, answer}
+use Rattle.model.specs.Symbols.{Name, Definition, Exported, none, hit, address, answer}
 use Rattle.model.specs.Objects.{Entry, fixed, symbol, copy, Obj, Objs}
 use Rattle.model.specs.Scope.{scopeAnswer, protectedOf, scan, resolve, resolveCopy}
 use Rattle.model.specs.Relocation.{
@@ -34,7 +34,7 @@ use Rattle.model.specs.Layout.{layout, objsOf}
 pub record File : Type 0 where
   pub span : ℕ
   pub image : Mem
-  pub find : Name → Found
+  pub find : Name → Exported
   pub words : List ℕ
   pub entries : List Entry
 
@@ -65,18 +65,18 @@ h = 104 ∷ []
 abbrev u : Name
 u = 117 ∷ []
 
-abbrev symOf : Bool → ℕ → ℕ → Sym
-symOf absolute value size =
+abbrev definitionOf : Bool → ℕ → ℕ → Definition
+definitionOf absolute value size =
     record { index = 1; value = value; size = size; protected = false; absolute = absolute }
 
-abbrev protectedAt : ℕ → Sym
+abbrev protectedAt : ℕ → Definition
 protectedAt value = record { index = 1; value = value; size = 8; protected = true; absolute = false }
 
 -- a symbol for the name of that one byte, else what is found besides
-abbrev with : ℕ → Sym → (Name → Found) → Name → Found
+abbrev with : ℕ → Definition → (Name → Exported) → Name → Exported
 with b s besides name = pick (eqb (getD name 0 0) b) (hit s) (besides name)
 
-abbrev nothing : Name → Found
+abbrev nothing : Name → Exported
 nothing name = none
 
 -- at 0, defines a, g and h
@@ -85,7 +85,7 @@ host =
     record {
       span = 16;
       image = λ i. i;
-      find = with 97 (symOf false 8 8) (with 103 (symOf false 4 2) (with 104 (symOf false 3 2) nothing));
+      find = with 97 (definitionOf false 8 8) (with 103 (definitionOf false 4 2) (with 104 (definitionOf false 3 2) nothing));
       words = [];
       entries = [];
     }
@@ -96,7 +96,7 @@ program =
     record {
       span = 64;
       image = λ i. 1;
-      find = with 99 (symOf false 16 16) nothing;
+      find = with 99 (definitionOf false 16 16) nothing;
       words = 8 ∷ 48 ∷ [];
       entries =
           symbol 0 8 a (λ x. x) ∷ symbol 8 8 h (λ x. x) ∷ copy 16 c 16 ∷ copy 56 g 8 ∷ fixed 40 8 4117 ∷ [];
@@ -108,7 +108,7 @@ first =
     record {
       span = 32;
       image = λ i. 2;
-      find = with 97 (symOf false 4 8) (with 99 (symOf false 0 16) nothing);
+      find = with 97 (definitionOf false 4 8) (with 99 (definitionOf false 0 16) nothing);
       words = [];
       entries = symbol 0 8 h (λ x. x) ∷ symbol 8 8 a (λ x. x) ∷ [];
     }
@@ -130,7 +130,7 @@ added =
     record {
       span = 16;
       image = λ i. 4;
-      find = with 103 (symOf false 8 4) (with 104 (symOf true (2 ^ 63 + 129) 2) (with 117 (symOf false 2 1) nothing));
+      find = with 103 (definitionOf false 8 4) (with 104 (definitionOf true (2 ^ 63 + 129) 2) (with 117 (definitionOf false 2 1) nothing));
       words = [];
       entries = copy 0 c 4 ∷ [];
     }
@@ -151,7 +151,7 @@ orderT = 3 ∷ 4 ∷ 2 ∷ 1 ∷ []
 -- ---- names
 
 -- a is the library's, not the host's
-a-in-S : resolve S 1 a ≡ answer 2 (symOf false 4 8) 4180
+a-in-S : resolve S 1 a ≡ answer 2 (definitionOf false 4 8) 4180
 unfolding objsOf layout resolve scan scopeAnswer protectedOf address
 a-in-S = refl
 
@@ -161,29 +161,29 @@ unfolding objsOf layout resolve scan scopeAnswer protectedOf address
 a-in-second = refl
 
 -- c is the program's, but a library's for COPY
-c-in-S : resolve S 1 c ≡ answer 1 (symOf false 16 16) 4128
+c-in-S : resolve S 1 c ≡ answer 1 (definitionOf false 16 16) 4128
 unfolding objsOf layout resolve scan scopeAnswer protectedOf address
 c-in-S = refl
 
-c-for-copy : resolveCopy S c ≡ answer 2 (symOf false 0 16) 4176
+c-for-copy : resolveCopy S c ≡ answer 2 (definitionOf false 0 16) 4176
 unfolding objsOf layout resolveCopy scan scopeAnswer address
 c-for-copy = refl
 
 -- h is the host's in S, and the added library's in T
-h-in-S : resolve S 1 h ≡ answer 0 (symOf false 3 2) 4099
+h-in-S : resolve S 1 h ≡ answer 0 (definitionOf false 3 2) 4099
 unfolding objsOf layout resolve scan scopeAnswer protectedOf address
 h-in-S = refl
 
-h-in-T : resolve T 1 h ≡ answer 4 (symOf true (2 ^ 63 + 129) 2) (2 ^ 63 + 129)
+h-in-T : resolve T 1 h ≡ answer 4 (definitionOf true (2 ^ 63 + 129) 2) (2 ^ 63 + 129)
 unfolding objsOf layout resolve scan scopeAnswer protectedOf address
 h-in-T = refl
 
 -- so is g for COPY
-g-in-S : resolveCopy S g ≡ answer 0 (symOf false 4 2) 4100
+g-in-S : resolveCopy S g ≡ answer 0 (definitionOf false 4 2) 4100
 unfolding objsOf layout resolveCopy scan scopeAnswer address
 g-in-S = refl
 
-g-in-T : resolveCopy T g ≡ answer 4 (symOf false 8 4) 4232
+g-in-T : resolveCopy T g ≡ answer 4 (definitionOf false 8 4) 4232
 unfolding objsOf layout resolveCopy scan scopeAnswer address
 g-in-T = refl
 

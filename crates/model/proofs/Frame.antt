@@ -4,7 +4,7 @@ use mathlib.Core.List.{List, [], _∷_, List·Memᴰ, List·Memᴰ·head, List·
 use Prim.Native.Nat.{ℕ, _+_, _≤_, _<_, min}
 use native.Mathlib.Decide.{decLt}
 use Rattle.words.specs.Memory.{Mem}
-use Rattle.model.specs.Symbols.{Answer, absent, answer}
+use Rattle.model.specs.Symbols.{Resolved, absent, answer}
 use Rattle.model.specs.Objects.{Entry, fixed, symbol, copy, pass, Obj, Objs, count, obj}
 use Rattle.model.specs.Scope.{resolveCopy}
 use Rattle.model.specs.Relocation.{addWord, addWords, copied, effect, effects, relocate}
@@ -20,7 +20,7 @@ abbrev pub Clear : (ℕ → Type 0) → ℕ → ℕ → Type 0
 Clear P at n = (i : ℕ) → P i → Out at n i
 
 -- the same of a COPY with that answer
-abbrev pub ClearCopy : (ℕ → Type 0) → ℕ → ℕ → Answer → Type 0
+abbrev pub ClearCopy : (ℕ → Type 0) → ℕ → ℕ → Resolved → Type 0
 ClearCopy P to size absent = Unit {0}
 ClearCopy P to size (answer d s a) = Clear P to (min size (s .size))
 
@@ -44,7 +44,7 @@ module _ (P : ℕ → Type 0) where
       ∙ write-out m (o .offset + p) 8 _ i (h p (List·Memᴰ·head refl) i w)
 
   copied-still :
-      (S : Objs) (to size : ℕ) (b : Answer) → ClearCopy P to size b → (m : Mem) (i : ℕ) → P i
+      (S : Objs) (to size : ℕ) (b : Resolved) → ClearCopy P to size b → (m : Mem) (i : ℕ) → P i
       → copied S to size b m i ≡ m i
   unfolding copied
   copied-still S to size absent h m i w = refl
@@ -71,7 +71,7 @@ module _ (P : ℕ → Type 0) where
       ∙ effect-still S k e (h e (List·Memᴰ·head refl)) m i w
 
 clear-copy :
-    (S : Objs) (k p size : ℕ) (b : Answer) → InsideCopy S k p size b
+    (S : Objs) (k p size : ℕ) (b : Resolved) → InsideCopy S k p size b
     → ClearCopy (OutSpan (obj S k)) ((obj S k) .offset + p) size b
 clear-copy S k p size absent h = tt
 clear-copy S k p size (answer d s a) h = go (decLt 0 (min size (s .size)))

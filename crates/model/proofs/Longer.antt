@@ -6,7 +6,7 @@ use Prim.Native.Nat.{ℕ, _+_, _-_, _≤_, _<_, min}
 use native.Mathlib.Omega.{arith}
 use native.Mathlib.Decide.{decLt}
 use Rattle.words.specs.Memory.{Mem, In, write}
-use Rattle.model.specs.Symbols.{Name, Answer, absent, answer}
+use Rattle.model.specs.Symbols.{Name, Resolved, absent, answer}
 use Rattle.model.specs.Objects.{Entry, fixed, symbol, copy, pass, Obj, Objs, all, count, obj, InSpan}
 use Rattle.model.specs.Scope.{resolve, resolveCopy}
 use Rattle.model.specs.Relocation.{addWords, copied, effect, relocate, run, place, placed, bound}
@@ -55,7 +55,7 @@ InSpans S i = (k : ℕ) × (k < count S) × InSpan (obj S k) i
 
 -- a COPY, whatever its answer, is a write of bytes that the entry names
 copied-is :
-    (S : Objs) (k p size : ℕ) (b : Answer) (m : Mem) → InsideCopy S k p size b
+    (S : Objs) (k p size : ℕ) (b : Resolved) (m : Mem) → InsideCopy S k p size b
     → (n : ℕ) × (f : ℕ → ℕ) × ((i : ℕ) → copied S ((obj S k) .offset + p) size b m i ≡ write m ((obj S k) .offset + p) n f i)
     × ((i : ℕ) → In ((obj S k) .offset + p) n i → In ((obj S k) .offset + p) size i × InSpan (obj S k) i)
 unfolding copied
@@ -96,7 +96,7 @@ module _
         go (resolveCopy S name) (sound .entries-in 1 (omega arith) (omega arith) (copy p name size) mem) c
       where
         go :
-            (b : Answer) → InsideCopy S 1 p size b → CopiesFrom S ((S .program) .offset + p) size b i j
+            (b : Resolved) → InsideCopy S 1 p size b → CopiesFrom S ((S .program) .offset + p) size b i j
             → InSpan (S .program) i
         go absent h c′ = absurd c′
         go (answer d s a) h c′ = let g = h (omega arith) in omega arith

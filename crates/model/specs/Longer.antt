@@ -6,7 +6,7 @@ use mathlib.Core.Logic.{_⊎_, _≢_}
 use mathlib.Core.List.{List, [], _∷_, _++_, List·Memᴰ}
 use Prim.Native.Nat.{ℕ, _+_, _≤_, _<_, min}
 use Rattle.words.specs.Memory.{Mem, In}
-use Rattle.model.specs.Symbols.{Name, Sym, Answer, absent, answer}
+use Rattle.model.specs.Symbols.{Name, Definition, Resolved, absent, answer}
 use Rattle.model.specs.Objects.{Entry, fixed, symbol, copy, pass, Obj, Objs, count, obj, InSpan}
 use Rattle.model.specs.Scope.{resolve, resolveCopy}
 use Rattle.model.specs.Relocation.{bound}
@@ -28,9 +28,9 @@ abbrev pub OnlyProgramCopies : Objs → Type 0
 OnlyProgramCopies S = (k : ℕ) → 2 ≤ k → k < count S → (e : Entry) → List·Memᴰ e ((obj S k) .entries) → NotCopy e
 
 -- "bound to the host or found nowhere"; the host is object 0
-pub data HostOrNowhere : Answer → Type 0 where
+pub data HostOrNowhere : Resolved → Type 0 where
   nowhere : HostOrNowhere absent
-  to-host : {s : Sym} {a : ℕ} → HostOrNowhere (answer 0 s a)
+  to-host : {s : Definition} {a : ℕ} → HostOrNowhere (answer 0 s a)
 
 -- the entry of object `k` is one "that S bound to the host or found nowhere", and names the byte at `i`:
 -- "An entry names the bytes it writes"; "a COPY entry names as many from its place as its own symbol's size, inside its own object".
@@ -47,7 +47,7 @@ abbrev pub NamedByte : Objs → ℕ → Type 0
 NamedByte S i = (k : ℕ) × (e : Entry) × (1 ≤ k) × (k < count S) × List·Memᴰ e ((obj S k) .entries) × Named S k e i
 
 -- a COPY with that answer writes the byte at `i` from the byte at `j`
-abbrev pub CopiesFrom : Objs → ℕ → ℕ → Answer → ℕ → ℕ → Type 0
+abbrev pub CopiesFrom : Objs → ℕ → ℕ → Resolved → ℕ → ℕ → Type 0
 CopiesFrom S to size absent i j = ⊥
 CopiesFrom S to size (answer d s a) i j =
     (t : ℕ) × (t < min size (s .size)) × (i ≡ to + t) × (j ≡ (obj S d) .offset + s .value + t)
@@ -69,11 +69,11 @@ pub record Kept (S T : Objs) (arena arena′ : Mem) : Type 0 where
   -- "every name that S answers from its program or a library, for any object of S as requester, has the same answer in T, the same
   -- object, symbol and address"; the requester is `r`, and an answer from program or library is one of an object other than 0
   pub names :
-      (r : ℕ) → r < count S → (name : Name) (k : ℕ) (s : Sym) (a : ℕ) → resolve S r name ≡ answer k s a → k ≢ 0
+      (r : ℕ) → r < count S → (name : Name) (k : ℕ) (s : Definition) (a : ℕ) → resolve S r name ≡ answer k s a → k ≢ 0
       → resolve T r name ≡ answer k s a
   -- the same in COPY's scope, which is one for all requesters
   pub copy-names :
-      (name : Name) (k : ℕ) (s : Sym) (a : ℕ) → resolveCopy S name ≡ answer k s a → k ≢ 0
+      (name : Name) (k : ℕ) (s : Definition) (a : ℕ) → resolveCopy S name ≡ answer k s a → k ≢ 0
       → resolveCopy T name ≡ answer k s a
   -- "and every byte of S's objects, the host's too, is equal in both bound arenas, save" the excepted ones
   pub bytes : (k : ℕ) → k < count S → (i : ℕ) → InSpan (obj S k) i → Excepted S i ⊎ (arena i ≡ arena′ i)

@@ -5,7 +5,7 @@ use mathlib.Core.List.{List, _∷_}
 use Prim.Native.Nat.{ℕ}
 use lib.ListN.{length, getD}
 use Rattle.words.specs.Memory.{Mem, In}
-use Rattle.model.specs.Symbols.{Name, Found}
+use Rattle.model.specs.Symbols.{Name, Exported}
 
 -- an entry of the RELA or PLT table; a place is an offset from the object's base. Its type decides which it is (object/specs/RelocationTypes).
 --   fixed    makes no search and writes the low `width` bytes of a number
@@ -27,7 +27,7 @@ pub record Obj : Type 0 where
   -- the placed bytes, from the object's start
   pub image : Mem
   -- the symbol that the object's hash table has for a name
-  pub find : Name → Found
+  pub find : Name → Exported
   -- the places that RELR names, in order
   pub words : List ℕ
   -- the entries of RELA, then those of PLT

@@ -4,7 +4,7 @@ use mathlib.Core.List.{List, [], _∷_}
 use Prim.Native.Nat.{ℕ, _+_, min}
 use Rattle.words.specs.Memory.{Mem, write}
 use Rattle.words.specs.Words.{leAt, byteOf, sum64}
-use Rattle.model.specs.Symbols.{Answer, absent, answer}
+use Rattle.model.specs.Symbols.{Resolved, absent, answer}
 use Rattle.model.specs.Objects.{Entry, fixed, symbol, copy, pass, Obj, Objs, all, obj}
 use Rattle.model.specs.Scope.{resolve, resolveCopy}
 
@@ -27,13 +27,13 @@ addWords o [] m = m
 addWords o (p ∷ ps) m = addWords o ps (addWord o p m)
 
 -- "6 and 7 write the address or 0"
-unfoldable pub addressOr0 : Answer → ℕ
+unfoldable pub addressOr0 : Resolved → ℕ
 addressOr0 absent = 0
 addressOr0 (answer k s a) = a
 
 -- 5 "copies the smaller of the two symbols' sizes" to the offset `to`, from where the answer's symbol stands in its object; refusal 18
 -- leaves no absolute symbol here, and no source that overlaps `to`
-unfoldable pub copied : Objs → ℕ → ℕ → Answer → Mem → Mem
+unfoldable pub copied : Objs → ℕ → ℕ → Resolved → Mem → Mem
 copied S to size absent m = m
 copied S to size (answer d s a) m = write m to (min size (s .size)) (λ t. m ((obj S d) .offset + s .value + t))
 

@@ -2,7 +2,7 @@
 -- 18 leave). Only what the laws use is said here; a set that is bound has more. Assumes nothing.
 use mathlib.Core.List.{List, List·Memᴰ}
 use Prim.Native.Nat.{ℕ, _+_, _≤_, _<_, min}
-use Rattle.model.specs.Symbols.{Answer, absent, answer}
+use Rattle.model.specs.Symbols.{Resolved, absent, answer}
 use Rattle.model.specs.Objects.{Entry, fixed, symbol, copy, pass, Objs, count, obj}
 use Rattle.model.specs.Scope.{resolveCopy}
 use Rattle.model.specs.Order.{OnceEach}
@@ -12,7 +12,7 @@ abbrev pub Order : Objs → List ℕ → Type 0
 Order S order = OnceEach (count S) order
 
 -- refusals 17 and 18 of a COPY: the bytes written lie in the entry's object `k`, those read in the object that answered, if there are any
-abbrev pub InsideCopy : Objs → ℕ → ℕ → ℕ → Answer → Type 0
+abbrev pub InsideCopy : Objs → ℕ → ℕ → ℕ → Resolved → Type 0
 InsideCopy S k p size absent = Unit {0}
 InsideCopy S k p size (answer d s a) =
     0 < min size (s .size)

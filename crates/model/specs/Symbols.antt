@@ -11,7 +11,7 @@ abbrev pub Name : Type 0
 Name = List ℕ
 
 -- an exported symbol: its index in the symbol table, st_value, st_size, and whether it is protected (visibility 3), absolute (section 0xFFF1)
-pub record Sym : Type 0 where
+pub record Definition : Type 0 where
   pub index : ℕ
   pub value : ℕ
   pub size : ℕ
@@ -19,15 +19,15 @@ pub record Sym : Type 0 where
   pub absolute : Bool
 
 -- what one object has for a name: "The first hit by name decides for its object"; `none` where there is no hit or the hit is not exported
-pub data Found : Type 0 where
-  none : Found
-  hit : Sym → Found
+pub data Exported : Type 0 where
+  none : Exported
+  hit : Definition → Exported
 
 -- "The address is st_value for section 0xFFF1, else base + st_value modulo 2^64"
-unfoldable pub address : ℕ → Sym → ℕ
+unfoldable pub address : ℕ → Definition → ℕ
 address base s = pick (s .absolute) (s .value) (sum64 base (s .value))
 
 -- "A lookup yields an object, a symbol index and an address, or absence"
-pub data Answer : Type 0 where
-  absent : Answer
-  answer : (object : ℕ) (sym : Sym) (address : ℕ) → Answer
+pub data Resolved : Type 0 where
+  absent : Resolved
+  answer : (object : ℕ) (sym : Definition) (address : ℕ) → Resolved

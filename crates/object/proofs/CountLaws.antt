@@ -44,7 +44,7 @@ cut m t n k far e =
 pub highest-cut : (m : List ℕ) (t : HashTable) (k : ℕ) → k ≡ min (bucketCount t) (length m / 4 + 1) → highest m t k ≡ highest m t (bucketCount t)
 highest-cut m Without k e = let q : k ≡ 0 = omega arith in ap (highest m Without) q
 highest-cut m (SysV at n c) k e = cut m (SysV at n c) n k (λ i. omega arith) e
-highest-cut m (Gnu at n first b shift) k e = cut m (Gnu at n first b shift) n k (λ i. omega arith) e
+highest-cut m (Gnu at n symoffset b shift) k e = cut m (Gnu at n symoffset b shift) n k (λ i. omega arith) e
 
 -- what holds of 0 and of the word of each bucket holds of the largest
 pub highest-of : (m : List ℕ) (t : HashTable) (P : ℕ → Type 0) → P 0 → (n : ℕ)

@@ -53,7 +53,7 @@ pub held-buckets : (m : List ℕ) (t : HashTable) (g : ℕ) → mayHold m t g �
 unfolding mayHold
 held-buckets m Without g h = absurd (true≢false (sym h))
 held-buckets m (SysV at n c) g h = some n h
-held-buckets m (Gnu at n first b shift) g h =
+held-buckets m (Gnu at n symoffset b shift) g h =
     some n (both-true (not (eqb n 0)) (both (not (eqb b 0)) (hasBits (leAt 8 (mem m) (bloomAt at b g)) shift g)) h .0)
 
 module _ (m : List ℕ) (symbols strings : ℕ) (t : HashTable) (name : List ℕ) (g e : ℕ) where

@@ -19,8 +19,8 @@ use Rattle.object.specs.Steps.LastZero.{RunOf}
 use Rattle.object.specs.Symbol.{symbolFrom, symbolAt}
 use Rattle.object.specs.HashCheck.{chainOk, symbolOk}
 use Rattle.object.specs.Record.{Record, isTableOf, indexOk, checkedSymbol}
-use Rattle.object.specs.Steps.Marks.{stepIn, LinksOk, ShortcutsOk}
-use Rattle.object.specs.Steps.FineRange.{TablesFine, LinksFine, FineOf}
+use Rattle.object.specs.Steps.Marks.{stepIn, ChainedOk, ShortcutsOk}
+use Rattle.object.specs.Steps.FineRange.{TablesFine, ChainedFine, FineOf}
 use Rattle.object.proofs.LastZeroLaws.{name-yes, bytes-yes}
 use Rattle.object.proofs.ReadingsSame.{name-ok-same}
 
@@ -53,10 +53,10 @@ module _ (image : List ℕ) (isT : ℕ → Bool) (symbols strings span : ℕ) wh
   unfolding symbolOk
   tables-pass fits ends f s w h e k = rw (f .bytes s h, ← e) (f .names w k)
 
-pub links-runs :
+pub chained-runs :
     (image : List ℕ) (isT : ℕ → Bool) (span at chain end low : ℕ) → RunOf isT (mem image) span (at + chain) end low
-    → LinksFine isT at chain ((end - (at + chain)) / 4)
-links-runs image isT span at chain end low u d h =
+    → ChainedFine isT at chain ((end - (at + chain)) / 4)
+chained-runs image isT span at chain end low u d h =
     let e : at + chain + 4 * d ≡ at + (chain + 4 * d) = omega arith in
     rw e at (run-bytes image isT span (at + chain) end low u (4 * d) 4 (omega (arith, u .within)))
 
@@ -93,17 +93,17 @@ fine-same image image′ r fits ends f len agree = record {
 
 -- a symbol that all of it reaches passes
 pub at-once : (b : Bounds) (m : List ℕ) (v : View) (q : Shortcuts) (s : ℕ) → ShortcutsOk b m v q
-    → (s - q .low < q .links) × (s < q .fits) × (leAt 4 (mem m) (v .symbols + 24 * s) < q .ends) → stepIn b m v s ≡ true
+    → (s - q .low < q .chained) × (s < q .fits) × (leAt 4 (mem m) (v .symbols + 24 * s) < q .ends) → stepIn b m v s ≡ true
 at-once b m v q s o (l, f, e) =
-    rw (o .links s (rw (o .low) at l))
+    rw (o .chained s (rw (o .low) at l))
     (tables-pass m (isTable (b .span) (take (b .count) (b .segments))) (v .symbols) (v .strings) (b .span) (q .fits) (q .ends) (o .tables) s
     (leAt 4 (mem m) (v .symbols + 24 * s)) f refl e)
 
 module _ (isT : ℕ → Bool) (at n : ℕ) where
-  pub links-sysv : (c : ℕ) → LinksOk isT (SysV at n c) c
+  pub chained-sysv : (c : ℕ) → ChainedOk isT (SysV at n c) c
   unfolding chainOk
-  links-sysv c s l = lt-ltb s c (omega arith)
+  chained-sysv c s l = lt-ltb s c (omega arith)
 
-  pub links-gnu : (first b shift links : ℕ) → LinksFine isT at (16 + 8 * b + 4 * n) links → LinksOk isT (Gnu at n first b shift) links
+  pub chained-gnu : (symoffset b shift chained : ℕ) → ChainedFine isT at (16 + 8 * b + 4 * n) chained → ChainedOk isT (Gnu at n symoffset b shift) chained
   unfolding chainOk
-  links-gnu first b shift links h s l = h (s - first) l
+  chained-gnu symoffset b shift chained h s l = h (s - symoffset) l

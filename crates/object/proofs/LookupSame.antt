@@ -185,14 +185,14 @@ module _ (isT : ℕ → Bool) (m m′ : List ℕ) (agree : Agree isT m m′) whe
   fuel-same : (t : HashTable) → length m′ ≡ length m → fuel m′ t ≡ fuel m t
   fuel-same Without e = refl
   fuel-same (SysV at n c) e = refl
-  fuel-same (Gnu at n first b shift) e = rw e
+  fuel-same (Gnu at n symoffset b shift) e = rw e
 
   -- the words of a bucket, and those of a chain that a walk may read
   bucket-word : (t : HashTable) → tableBytes isT (startOf t) (tableSize t) ≡ true → (i : ℕ) → i < bucketCount t
       → leAt 4 (mem m′) (bucketAt t i) ≡ leAt 4 (mem m) (bucketAt t i)
   bucket-word Without b i l = absurd (not-suc-le-zero l)
   bucket-word (SysV at n c) b i l = number-same 4 at (8 + 4 * n + 4 * c) (8 + 4 * i) b (omega arith)
-  bucket-word (Gnu at n first w shift) b i l = number-same 4 at (16 + 8 * w + 4 * n) (16 + 8 * w + 4 * i) b (omega arith)
+  bucket-word (Gnu at n symoffset w shift) b i l = number-same 4 at (16 + 8 * w + 4 * n) (16 + 8 * w + 4 * i) b (omega arith)
 
   chain-word : (t : HashTable) → tableBytes isT (startOf t) (tableSize t) ≡ true → (s : ℕ) → chainOk isT t s ≡ true
       → leAt 4 (mem m′) (chainAt t s) ≡ leAt 4 (mem m) (chainAt t s)
@@ -201,21 +201,21 @@ module _ (isT : ℕ → Bool) (m m′ : List ℕ) (agree : Agree isT m m′) whe
   chain-word (SysV at n c) b s o =
       let k : s < c = ltb-true s c o in
       number-same 4 at (8 + 4 * n + 4 * c) (8 + 4 * n + 4 * s) b (omega arith)
-  chain-word (Gnu at n first w shift) b s o = number-here 4 (chainAt (Gnu at n first w shift) s) 4 o (omega arith)
+  chain-word (Gnu at n symoffset w shift) b s o = number-here 4 (chainAt (Gnu at n symoffset w shift) s) 4 o (omega arith)
 
   -- the bucket of a name is one of the table's, and the bloom test reads table bytes
   bucket-in : (t : HashTable) → numbersOk t ≡ true → (g e : ℕ) → mayHold m t g ≡ true → bucketOf t g e < bucketCount t
   unfolding numbersOk mayHold
   bucket-in Without k g e h = let z : _≡_ {A = ℕ} 0 1 = cc in absurd (omega arith)
   bucket-in (SysV at n c) k g e h = mod-lt e (not-zero n k)
-  bucket-in (Gnu at n first w shift) k g e h =
+  bucket-in (Gnu at n symoffset w shift) k g e h =
       mod-lt g (not-zero n (both-true (not (eqb n 0)) (both (not (eqb w 0)) (leb shift 31)) k .0))
 
   may-same : (t : HashTable) → numbersOk t ≡ true → tableBytes isT (startOf t) (tableSize t) ≡ true → (g : ℕ) → mayHold m′ t g ≡ mayHold m t g
   unfolding numbersOk mayHold
   may-same Without k b g = refl
   may-same (SysV at n c) k b g = refl
-  may-same (Gnu at n first w shift) k b g =
+  may-same (Gnu at n symoffset w shift) k b g =
       let z = both-true (not (eqb n 0)) (both (not (eqb w 0)) (leb shift 31)) k in
       let l : g / 64 % w < w = mod-lt (g / 64) (not-zero w (both-true (not (eqb w 0)) (leb shift 31) (z .1) .0)) in
       rw (number-same 8 at (16 + 8 * w + 4 * n) (16 + 8 * (g / 64 % w)) b (omega arith))
@@ -348,7 +348,7 @@ module _ (isT : ℕ → Bool) (m m′ : List ℕ) (agree : Agree isT m m′) whe
   unfolding tableCount
   count-of symbols strings Without ok len = refl
   count-of symbols strings (SysV at n c) ok len = refl
-  count-of symbols strings (Gnu at n first w shift) ok len = highest-past symbols strings (Gnu at n first w shift) ok len
+  count-of symbols strings (Gnu at n symoffset w shift) ok len = highest-past symbols strings (Gnu at n symoffset w shift) ok len
 
   -- the headers, should they be read again
   pub sysv-header : (at size : ℕ) → tableBytes isT at size ≡ true → 8 ≤ size → sysvAt m′ at ≡ sysvAt m at

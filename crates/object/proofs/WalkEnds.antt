@@ -37,53 +37,53 @@ walk-ended m t k (suc n) s h =
     go true l l′ h ih = refl
     go false l l′ h ih = ih (omega arith)
 
-module _ (isT : ℕ → Bool) (m : List ℕ) (inside : (i : ℕ) → isT i ≡ true → i < length m) (symbols strings at n first b shift : ℕ) where
+module _ (isT : ℕ → Bool) (m : List ℕ) (inside : (i : ℕ) → isT i ≡ true → i < length m) (symbols strings at n symoffset b shift : ℕ) where
   -- the chain word of a symbol that passes lies in the image
-  word-in : (s : ℕ) → stepOk isT m symbols strings (Gnu at n first b shift) s ≡ true
-      → at + (16 + 8 * b + 4 * n + 4 * (s - first)) + 4 ≤ length m
+  word-in : (s : ℕ) → stepOk isT m symbols strings (Gnu at n symoffset b shift) s ≡ true
+      → at + (16 + 8 * b + 4 * n + 4 * (s - symoffset)) + 4 ≤ length m
   unfolding chainOk tableBytes
   word-in s ok =
-      let h = both-true (chainOk isT (Gnu at n first b shift) s) (symbolOk isT m symbols strings s) ok in
-      let p = at + (16 + 8 * b + 4 * n + 4 * (s - first)) in
+      let h = both-true (chainOk isT (Gnu at n symoffset b shift) s) (symbolOk isT m symbols strings s) ok in
+      let p = at + (16 + 8 * b + 4 * n + 4 * (s - symoffset)) in
       let l : p + 3 < length m = inside (p + 3) (below-at (λ k. isT (p + k)) 4 3 (h .0) (omega arith)) in
       omega arith
 
-  room : (k s : ℕ) → first ≤ s → at + (16 + 8 * b + 4 * n + 4 * (s - first)) ≤ length m
-      → every (stepOk isT m symbols strings (Gnu at n first b shift)) (walk m (Gnu at n first b shift) k s) ≡ true
-      → at + (16 + 8 * b + 4 * n + 4 * (s - first)) + 4 * length (walk m (Gnu at n first b shift) k s) ≤ length m
+  room : (k s : ℕ) → symoffset ≤ s → at + (16 + 8 * b + 4 * n + 4 * (s - symoffset)) ≤ length m
+      → every (stepOk isT m symbols strings (Gnu at n symoffset b shift)) (walk m (Gnu at n symoffset b shift) k s) ≡ true
+      → at + (16 + 8 * b + 4 * n + 4 * (s - symoffset)) + 4 * length (walk m (Gnu at n symoffset b shift) k s) ≤ length m
   unfolding walk every
   room zero s f l e = omega arith
   room (suc k) s f l e =
-      let w = leAt 4 (mem m) (chainAt (Gnu at n first b shift) s) in
-      let tail = walk m (Gnu at n first b shift) k (s + 1) in
-      let p = stepOk isT m symbols strings (Gnu at n first b shift) in
-      let h = both-true (p s) (every p (pick (isLast (Gnu at n first b shift) w) [] tail)) e in
+      let w = leAt 4 (mem m) (chainAt (Gnu at n symoffset b shift) s) in
+      let tail = walk m (Gnu at n symoffset b shift) k (s + 1) in
+      let p = stepOk isT m symbols strings (Gnu at n symoffset b shift) in
+      let h = both-true (p s) (every p (pick (isLast (Gnu at n symoffset b shift) w) [] tail)) e in
       let i = word-in s (h .0) in
-      go (isLast (Gnu at n first b shift) w) tail (h .1) i
+      go (isLast (Gnu at n symoffset b shift) w) tail (h .1) i
       (λ e′. let r = room k (s + 1) (omega arith) (omega arith) e′ in omega arith)
     where
-      go : (z : Bool) (l : List ℕ) → every (stepOk isT m symbols strings (Gnu at n first b shift)) (pick z [] l) ≡ true
-          → at + (16 + 8 * b + 4 * n + 4 * (s - first)) + 4 ≤ length m
-          → (every (stepOk isT m symbols strings (Gnu at n first b shift)) l ≡ true
-          → at + (16 + 8 * b + 4 * n + 4 * (s - first)) + 4 + 4 * length l ≤ length m)
-          → at + (16 + 8 * b + 4 * n + 4 * (s - first)) + 4 * suc (length (pick z [] l)) ≤ length m
+      go : (z : Bool) (l : List ℕ) → every (stepOk isT m symbols strings (Gnu at n symoffset b shift)) (pick z [] l) ≡ true
+          → at + (16 + 8 * b + 4 * n + 4 * (s - symoffset)) + 4 ≤ length m
+          → (every (stepOk isT m symbols strings (Gnu at n symoffset b shift)) l ≡ true
+          → at + (16 + 8 * b + 4 * n + 4 * (s - symoffset)) + 4 + 4 * length l ≤ length m)
+          → at + (16 + 8 * b + 4 * n + 4 * (s - symoffset)) + 4 * suc (length (pick z [] l)) ≤ length m
       go true l e i ih = omega arith
       go false l e i ih = let r = ih e in omega arith
 
-  first-in : (f s : ℕ) → 0 < f → every (stepOk isT m symbols strings (Gnu at n first b shift)) (walk m (Gnu at n first b shift) f s) ≡ true
-      → at + (16 + 8 * b + 4 * n + 4 * (s - first)) + 4 ≤ length m
+  first-in : (f s : ℕ) → 0 < f → every (stepOk isT m symbols strings (Gnu at n symoffset b shift)) (walk m (Gnu at n symoffset b shift) f s) ≡ true
+      → at + (16 + 8 * b + 4 * n + 4 * (s - symoffset)) + 4 ≤ length m
   unfolding walk every
   first-in zero s l e = absurd (not-suc-le-zero l)
   first-in (suc f) s l e = word-in s (both-true _ _ e .0)
 
   -- of an image of at most 2^28 bytes
-  pub gnu-ends : length m ≤ 2 ^ 28 → (s k : ℕ) → first ≤ s → 0 < length m
-      → every (stepOk isT m symbols strings (Gnu at n first b shift)) (walk m (Gnu at n first b shift) (fuel m (Gnu at n first b shift)) s) ≡ true
-      → walk m (Gnu at n first b shift) (fuel m (Gnu at n first b shift) + k) s ≡ walk m (Gnu at n first b shift) (fuel m (Gnu at n first b shift)) s
+  pub gnu-ends : length m ≤ 2 ^ 28 → (s k : ℕ) → symoffset ≤ s → 0 < length m
+      → every (stepOk isT m symbols strings (Gnu at n symoffset b shift)) (walk m (Gnu at n symoffset b shift) (fuel m (Gnu at n symoffset b shift)) s) ≡ true
+      → walk m (Gnu at n symoffset b shift) (fuel m (Gnu at n symoffset b shift) + k) s ≡ walk m (Gnu at n symoffset b shift) (fuel m (Gnu at n symoffset b shift)) s
   gnu-ends small s k f pos e =
-      let i = first-in (fuel m (Gnu at n first b shift)) s (omega arith) e in
-      let r = room (fuel m (Gnu at n first b shift)) s f (omega arith) e in
-      walk-ended m (Gnu at n first b shift) k (fuel m (Gnu at n first b shift)) s (omega arith)
+      let i = first-in (fuel m (Gnu at n symoffset b shift)) s (omega arith) e in
+      let r = room (fuel m (Gnu at n symoffset b shift)) s f (omega arith) e in
+      walk-ended m (Gnu at n symoffset b shift) k (fuel m (Gnu at n symoffset b shift)) s (omega arith)
 
 pub sysv-ends : (m : List ℕ) (at n c s k : ℕ) → leb (length (walk m (SysV at n c) (c + 1) s)) c ≡ true
     → walk m (SysV at n c) (c + 1 + k) s ≡ walk m (SysV at n c) (c + 1) s
@@ -104,10 +104,10 @@ walks-end isT m inside small symbols strings (SysV at n c) ok i l k = go (eqb w 
     go true e = rw e
     go false e =
         rw e (sysv-ends m at n c w k (rw e at (walk-clauses isT m symbols strings (SysV at n c) ok i l .1)))
-walks-end isT m inside small symbols strings (Gnu at n first b shift) ok i l k = go (eqb w 0) refl
+walks-end isT m inside small symbols strings (Gnu at n symoffset b shift) ok i l k = go (eqb w 0) refl
   where
     t : HashTable
-    t = Gnu at n first b shift
+    t = Gnu at n symoffset b shift
 
     w : ℕ
     w = leAt 4 (mem m) (bucketAt t i)
@@ -119,5 +119,5 @@ walks-end isT m inside small symbols strings (Gnu at n first b shift) ok i l k =
     go true e = rw e
     go false e =
         let c = walk-clauses isT m symbols strings t ok i l in
-        let f : first ≤ w = leb-true first w (rw e at (c .0)) in
-        rw e (gnu-ends isT m inside symbols strings at n first b shift small w k f (omega (arith, start)) (rw e at (c .2)))
+        let f : symoffset ≤ w = leb-true symoffset w (rw e at (c .0)) in
+        rw e (gnu-ends isT m inside symbols strings at n symoffset b shift small w k f (omega (arith, start)) (rw e at (c .2)))

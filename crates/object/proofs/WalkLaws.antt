@@ -50,7 +50,7 @@ module _ (isT : ℕ → Bool) (m : List ℕ) (symbols strings : ℕ) (t : HashTa
       none-ok : (t : HashTable) → (bucketOk t 0 ≡ true) × (lengthOk t 0 ≡ true)
       none-ok Without = (refl, refl)
       none-ok (SysV at n c) = (refl, leb·zero c)
-      none-ok (Gnu at n first b shift) = (refl, refl)
+      none-ok (Gnu at n symoffset b shift) = (refl, refl)
 
   pub bucket-word : (w : ℕ) → w ≡ leAt 4 (mem m) (bucketAt t i) → (w ≡ 0 → ⊥)
       → walkOk isT m symbols strings t i ≡ wordOk m t (stepOk isT m symbols strings t) w
@@ -69,7 +69,7 @@ fits : (t : HashTable) (w : ℕ) → 0 < w → lowest t ≤ w → bucketOk t w �
 unfolding bucketOk
 fits Without w nz l = refl
 fits (SysV at n c) w nz l = refl
-fits (Gnu at n first b shift) w nz l = rw (ne-eqb w 0 (λ e. omega arith), le-leb first w l)
+fits (Gnu at n symoffset b shift) w nz l = rw (ne-eqb w 0 (λ e. omega arith), le-leb symoffset w l)
 
 module _ (m : List ℕ) (t : HashTable) (p : ℕ → Bool) (w : ℕ) where
   pub word-low : 0 < w → w < lowest t → wordOk m t p w ≡ false
@@ -79,7 +79,7 @@ module _ (m : List ℕ) (t : HashTable) (p : ℕ → Bool) (w : ℕ) where
       low : (t : HashTable) → w < lowest t → bucketOk t w ≡ false
       low Without l = absurd (not-suc-le-zero l)
       low (SysV at n c) l = absurd (not-suc-le-zero l)
-      low (Gnu at n first b shift) l = rw (ne-eqb w 0 (λ e. omega arith), lt-leb first w l)
+      low (Gnu at n symoffset b shift) l = rw (ne-eqb w 0 (λ e. omega arith), lt-leb symoffset w l)
 
   pub word-failed : every p (walk m t (fuel m t) w) ≡ false → wordOk m t p w ≡ false
   unfolding wordOk

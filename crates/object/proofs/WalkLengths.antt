@@ -139,4 +139,4 @@ length-fits isT m symbols strings (SysV at b c) s (n, h) =
     le-leb (length (walk m (SysV at b c) (c + 1) s)) c
     (short-below m (SysV at b c) n (c + 1) s c (λ k. h k .0)
     (every-left (λ x. ltb x c) (symbolOk isT m symbols strings) (walk m (SysV at b c) (c + 1) s) (h (c + 1) .1)))
-length-fits isT m symbols strings (Gnu at b first blooms shift) s (n, h) = refl
+length-fits isT m symbols strings (Gnu at b symoffset bloomwords shift) s (n, h) = refl

@@ -19,37 +19,37 @@ use Rattle.object.specs.HashTable.{bucketCount, bucketAt, chainAt, reach
 abbrev pub startOf : HashTable → ℕ
 startOf Without = 0
 startOf (SysV at n c) = at
-startOf (Gnu at n first b shift) = at
+startOf (Gnu at n symoffset b shift) = at
 
 -- header, bloom words, buckets, the SysV chain: how many bytes they are
 abbrev pub tableSize : HashTable → ℕ
 tableSize Without = 0
 tableSize (SysV at n c) = 8 + 4 * n + 4 * c
-tableSize (Gnu at n first b shift) = 16 + 8 * b + 4 * n
+tableSize (Gnu at n symoffset b shift) = 16 + 8 * b + 4 * n
 
 -- not: no buckets, no bloom word, shift over 31
 unfoldable pub numbersOk : HashTable → Bool
 numbersOk Without = true
 numbersOk (SysV at n c) = not (eqb n 0)
-numbersOk (Gnu at n first b shift) = both (not (eqb n 0)) (both (not (eqb b 0)) (leb shift 31))
+numbersOk (Gnu at n symoffset b shift) = both (not (eqb n 0)) (both (not (eqb b 0)) (leb shift 31))
 
 -- not: a GNU bucket other than 0 below the symbol offset
 unfoldable pub bucketOk : HashTable → ℕ → Bool
 bucketOk Without w = true
 bucketOk (SysV at n c) w = true
-bucketOk (Gnu at n first b shift) w = either (eqb w 0) (leb first w)
+bucketOk (Gnu at n symoffset b shift) w = either (eqb w 0) (leb symoffset w)
 
 -- not: a SysV walk of more symbols than the chain count
 unfoldable pub lengthOk : HashTable → ℕ → Bool
 lengthOk Without k = true
 lengthOk (SysV at n c) k = leb k c
-lengthOk (Gnu at n first b shift) k = true
+lengthOk (Gnu at n symoffset b shift) k = true
 
 -- a SysV index is below the chain count; a GNU chain word that a walk reads is in table bytes
 unfoldable pub chainOk : (ℕ → Bool) → HashTable → ℕ → Bool
 chainOk isT Without s = false
 chainOk isT (SysV at n c) s = ltb s c
-chainOk isT (Gnu at n first b shift) s = tableBytes isT (chainAt (Gnu at n first b shift) s) 4
+chainOk isT (Gnu at n symoffset b shift) s = tableBytes isT (chainAt (Gnu at n symoffset b shift) s) 4
 
 -- a symbol and its name are in table bytes (refusal 15 too)
 unfoldable pub symbolOk : (ℕ → Bool) → List ℕ → ℕ → ℕ → ℕ → Bool

@@ -22,8 +22,8 @@ use Rattle.object.specs.declared.hash_tables.View.{View}
 use Rattle.object.specs.declared.hash_tables.Found.{Found}
 use Rattle.object.specs.declared.hash_tables.Found.the-variants.{Hit, Miss}
 use Rattle.object.specs.declared.hash_tables.Definition.{Definition}
-use Rattle.object.specs.declared.hash_tables.Answer.{Answer}
-use Rattle.object.specs.declared.hash_tables.Answer.the-variants.{Absent, Present}
+use Rattle.object.specs.declared.hash_tables.Exported.{Exported}
+use Rattle.object.specs.declared.hash_tables.Exported.the-variants.{Absent, Present}
 use Rattle.object.specs.Symbol.{symbolAt, symbolName, isExported, isAbsolute, isProtected}
 
 -- ---- header, buckets, chain
@@ -39,19 +39,19 @@ gnuAt image at =
 abbrev pub bucketCount : HashTable → ℕ
 bucketCount Without = 0
 bucketCount (SysV at n c) = n
-bucketCount (Gnu at n first b shift) = n
+bucketCount (Gnu at n symoffset b shift) = n
 
 -- where the word of bucket `i` stands: after the header, in a GNU table after the bloom words too
 abbrev pub bucketAt : HashTable → ℕ → ℕ
 bucketAt Without i = 0
 bucketAt (SysV at n c) i = at + (8 + 4 * i)
-bucketAt (Gnu at n first b shift) i = at + (16 + 8 * b + 4 * i)
+bucketAt (Gnu at n symoffset b shift) i = at + (16 + 8 * b + 4 * i)
 
 -- where the chain word of symbol `s` stands: after the buckets; a GNU chain begins with the first symbol that the table has
 abbrev pub chainAt : HashTable → ℕ → ℕ
 chainAt Without s = 0
 chainAt (SysV at n c) s = at + (8 + 4 * n + 4 * s)
-chainAt (Gnu at n first b shift) s = at + (16 + 8 * b + 4 * n + 4 * (s - first))
+chainAt (Gnu at n symoffset b shift) s = at + (16 + 8 * b + 4 * n + 4 * (s - symoffset))
 
 -- ---- the walk of a bucket
 
@@ -59,20 +59,20 @@ chainAt (Gnu at n first b shift) s = at + (16 + 8 * b + 4 * n + 4 * (s - first))
 abbrev pub isLast : HashTable → ℕ → Bool
 isLast Without w = true
 isLast (SysV at n c) w = eqb w 0
-isLast (Gnu at n first b shift) w = eqb (w % 2) 1
+isLast (Gnu at n symoffset b shift) w = eqb (w % 2) 1
 
 -- the symbol after `s`, whose chain word is `w`
 abbrev pub nextSymbol : HashTable → ℕ → ℕ → ℕ
 nextSymbol Without s w = 0
 nextSymbol (SysV at n c) s w = w
-nextSymbol (Gnu at n first b shift) s w = s + 1
+nextSymbol (Gnu at n symoffset b shift) s w = s + 1
 
 -- how many symbols a walk has at most: one more than the chain count; in a GNU table one for each byte of the image, which has at most
 -- 2^28 (proofs/WalkEnds: no walk of a table that is not refused is cut off)
 abbrev pub fuel : List ℕ → HashTable → ℕ
 fuel image Without = 0
 fuel image (SysV at n c) = c + 1
-fuel image (Gnu at n first b shift) = min (length image) (2 ^ 28)
+fuel image (Gnu at n symoffset b shift) = min (length image) (2 ^ 28)
 
 -- the symbols from `s` on, at most `n`
 unfoldable pub walk : List ℕ → HashTable → ℕ → ℕ → List ℕ
@@ -102,20 +102,20 @@ hasBits word shift g = both (eqb (word / 2 ^ (g % 64) % 2) 1) (eqb (word / 2 ^ (
 unfoldable pub mayHold : List ℕ → HashTable → ℕ → Bool
 mayHold image Without g = false
 mayHold image (SysV at n c) g = not (eqb n 0)
-mayHold image (Gnu at n first b shift) g =
+mayHold image (Gnu at n symoffset b shift) g =
     both (not (eqb n 0)) (both (not (eqb b 0)) (hasBits (leAt 8 (mem image) (bloomAt at b g)) shift g))
 
 -- the bucket of a name with the hashes `g` (GNU) and `e` (System V)
 abbrev pub bucketOf : HashTable → ℕ → ℕ → ℕ
 bucketOf Without g e = 0
 bucketOf (SysV at n c) g e = e % n
-bucketOf (Gnu at n first b shift) g e = g % n
+bucketOf (Gnu at n symoffset b shift) g e = g % n
 
 -- whether a chain word goes with the hash: in a GNU table it is the hash, but for the lowest bit
 abbrev pub sameHash : HashTable → ℕ → ℕ → Bool
 sameHash Without w g = false
 sameHash (SysV at n c) w g = true
-sameHash (Gnu at n first b shift) w g = eqb (bitOr w 1) (bitOr g 1)
+sameHash (Gnu at n symoffset b shift) w g = eqb (bitOr w 1) (bitOr g 1)
 
 -- whether symbol `s` is a hit
 unfoldable pub isHit : List ℕ → ℕ → ℕ → HashTable → List ℕ → ℕ → ℕ → Bool
@@ -147,18 +147,18 @@ small Miss = Unit {0}
 -- what symbol `s` says
 unfoldable pub definition : ℕ → Symbol → Definition
 definition s y =
-    record { index = s; value = y .value; size = y .size; guarded = isProtected y; absolute = isAbsolute y }
+    record { index = s; value = y .value; size = y .size; protected = isProtected y; absolute = isAbsolute y }
 
 -- the first hit decides for its object: "exported ..; else that object has none"
-unfoldable pub exportedAt : List ℕ → ℕ → Found → Answer
+unfoldable pub exportedAt : List ℕ → ℕ → Found → Exported
 exportedAt image symbols Miss = Absent
 exportedAt image symbols (Hit s) =
     pick (isExported (symbolAt image symbols s)) (Present (definition s (symbolAt image symbols s))) Absent
 
-abbrev pub answerBy : List ℕ → View → List ℕ → ℕ → ℕ → Answer
+abbrev pub answerBy : List ℕ → View → List ℕ → ℕ → ℕ → Exported
 answerBy image v name g e = exportedAt image (v .symbols) (lookupBy image v name g e)
 
-abbrev pub answerIn : List ℕ → View → List ℕ → Answer
+abbrev pub answerIn : List ℕ → View → List ℕ → Exported
 answerIn image v name = answerBy image v name (gnuHash name) (elfHash name)
 
 -- the address of a definition in an object at `base`

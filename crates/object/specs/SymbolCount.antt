@@ -33,7 +33,7 @@ pastWalk image t w = pick (eqb w 0) Unknown (Known (lastReached (walk image t (f
 unfoldable pub tableCount : List ℕ → HashTable → SymbolCount
 tableCount image Without = Unknown
 tableCount image (SysV at n c) = Known c
-tableCount image (Gnu at n first b shift) = pastWalk image (Gnu at n first b shift) (highest image (Gnu at n first b shift) n)
+tableCount image (Gnu at n symoffset b shift) = pastWalk image (Gnu at n symoffset b shift) (highest image (Gnu at n symoffset b shift) n)
 
 unfoldable pub countOf : List ℕ → View → SymbolCount
 countOf image v = pick (ltb (v .symbols) (v .strings)) (Known ((v .strings - v .symbols) / 24)) (tableCount image (v .table))

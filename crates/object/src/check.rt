@@ -18,12 +18,12 @@ use crate::hash_tables::HashTable;
 use crate::hash_tables::View;
 use crate::table_bytes::Bounds;
 
-// What the check of a table's walks goes by. At once pass: the first `links` symbols from `low` on, as far as the chain goes; the first `fits`
+// What the check of a table's walks goes by. At once pass: the first `chained` symbols from `low` on, as far as the chain goes; the first `fits`
 // symbols, and names at the first `ends` places of the strings, as far as table bytes go. Mark `j` is that of symbol `low + j * step`.
 struct Shortcuts {
     fits: usize,
     ends: usize,
-    links: usize,
+    chained: usize,
     low: usize,
     step: usize,
 }
@@ -88,9 +88,9 @@ fn symbol_in(
 // Whether symbol `s` passes at once, as most do.
 fn passes_at_once(image: &[u8], symbols: usize, q: Shortcuts, s: usize) -> bool
     requires { ⌜ s < 2 ^ 40 ⌝ }
-    ensures { λ r. ⌜ (r ≡ true → (s - q .low < q .links) × (s < q .fits) × (leAt 4 (mem (now (image .entry))) (symbols + 24 * s) < q .ends)) ⌝ }
+    ensures { λ r. ⌜ (r ≡ true → (s - q .low < q .chained) × (s < q .fits) × (leAt 4 (mem (now (image .entry))) (symbols + 24 * s) < q .ends)) ⌝ }
 {
-    if q.links <= words::bytes::monus(s, q.low) {
+    if q.chained <= words::bytes::monus(s, q.low) {
         return false;
     }
     if q.fits <= s {
@@ -110,7 +110,7 @@ fn chain_ok(b: Bounds, t: HashTable, s: usize) -> bool
 {
     match t {
         HashTable::Without => false,
-        HashTable::SysV { chains, .. } => s < (chains as usize),
+        HashTable::SysV { nchain, .. } => s < (nchain as usize),
         HashTable::Gnu { at, .. } => {
             let k = crate::hash_tables::chain_off(t, s);
             crate::table_bytes::table_off(b, at, k, 4)
@@ -355,32 +355,32 @@ fn shortcuts_of(image: &[u8], b: Bounds, zeros: &[usize; 17], v: View) -> Shortc
         HashTable::Without => Shortcuts {
             fits: f.fits,
             ends: f.ends,
-            links: 0,
+            chained: 0,
             low: 0,
             step: 1,
         },
-        HashTable::SysV { chains, .. } => Shortcuts {
+        HashTable::SysV { nchain, .. } => Shortcuts {
             fits: f.fits,
             ends: f.ends,
-            links: chains as usize,
+            chained: nchain as usize,
             low: 0,
             step: 1,
         },
         HashTable::Gnu {
             at,
             buckets,
-            first,
-            blooms,
+            symoffset,
+            bloomwords,
             ..
         } => {
             let high = crate::hash_tables::highest_bucket(image, t);
             let known = symbol_in(image, b, zeros, symbols, strings, high);
-            let low = first as usize;
-            let chain = 16 + 8 * (blooms as usize) + 4 * (buckets as usize);
+            let low = symoffset as usize;
+            let chain = 16 + 8 * (bloomwords as usize) + 4 * (buckets as usize);
             Shortcuts {
                 fits: f.fits,
                 ends: f.ends,
-                links: crate::table_bytes::links_of(image, b, at, chain),
+                chained: crate::table_bytes::chained_of(image, b, at, chain),
                 low: low,
                 step: step_of(known, high, low, image.len()),
             }
@@ -396,14 +396,14 @@ fn numbers_ok(t: HashTable) -> bool
         HashTable::SysV { buckets, .. } => buckets != 0,
         HashTable::Gnu {
             buckets,
-            blooms,
+            bloomwords,
             shift,
             ..
         } => {
             if buckets == 0 {
                 return false;
             }
-            if blooms == 0 {
+            if bloomwords == 0 {
                 return false;
             }
             shift <= 31
@@ -420,21 +420,21 @@ fn table_fits(b: Bounds, t: HashTable) -> bool
         HashTable::SysV {
             at,
             buckets,
-            chains,
+            nchain,
         } => crate::table_bytes::table_bytes(
             b,
             at,
-            8 + 4 * (buckets as usize) + 4 * (chains as usize),
+            8 + 4 * (buckets as usize) + 4 * (nchain as usize),
         ),
         HashTable::Gnu {
             at,
             buckets,
-            blooms,
+            bloomwords,
             ..
         } => crate::table_bytes::table_bytes(
             b,
             at,
-            16 + 8 * (blooms as usize) + 4 * (buckets as usize),
+            16 + 8 * (bloomwords as usize) + 4 * (buckets as usize),
         ),
     }
 }

@@ -16,13 +16,13 @@ pub enum HashTable {
     SysV {
         at: usize,
         buckets: u32,
-        chains: u32,
+        nchain: u32,
     },
     Gnu {
         at: usize,
         buckets: u32,
-        first: u32,
-        blooms: u32,
+        symoffset: u32,
+        bloomwords: u32,
         shift: u32,
     },
 }
@@ -39,16 +39,16 @@ pub enum Found {
     Miss,
 }
 
-// An exported symbol: `guarded` where it is protected.
+// An exported symbol: `protected` where it is protected.
 pub struct Definition {
     pub index: usize,
     pub value: u64,
     pub size: u64,
-    pub guarded: bool,
+    pub protected: bool,
     pub absolute: bool,
 }
 
-pub enum Answer {
+pub enum Exported {
     Absent,
     Present(Definition),
 }
@@ -65,7 +65,7 @@ pub fn sysv_table(image: &[u8], at: usize) -> HashTable
     HashTable::SysV {
         at: at,
         buckets: words::bytes::u32_off(image, at, 0),
-        chains: words::bytes::u32_off(image, at, 4),
+        nchain: words::bytes::u32_off(image, at, 4),
     }
 }
 
@@ -76,8 +76,8 @@ pub fn gnu_table(image: &[u8], at: usize) -> HashTable
     HashTable::Gnu {
         at: at,
         buckets: words::bytes::u32_off(image, at, 0),
-        first: words::bytes::u32_off(image, at, 4),
-        blooms: words::bytes::u32_off(image, at, 8),
+        symoffset: words::bytes::u32_off(image, at, 4),
+        bloomwords: words::bytes::u32_off(image, at, 8),
         shift: words::bytes::u32_off(image, at, 12),
     }
 }
@@ -129,7 +129,7 @@ fn bucket_off(t: HashTable, i: usize) -> usize
     match t {
         HashTable::Without => 0,
         HashTable::SysV { .. } => 8 + 4 * i,
-        HashTable::Gnu { blooms, .. } => 16 + 8 * (blooms as usize) + 4 * i,
+        HashTable::Gnu { bloomwords, .. } => 16 + 8 * (bloomwords as usize) + 4 * i,
     }
 }
 
@@ -143,13 +143,13 @@ pub(crate) fn chain_off(t: HashTable, s: usize) -> usize
         HashTable::SysV { buckets, .. } => 8 + 4 * (buckets as usize) + 4 * s,
         HashTable::Gnu {
             buckets,
-            first,
-            blooms,
+            symoffset,
+            bloomwords,
             ..
         } => 16
-            + 8 * (blooms as usize)
+            + 8 * (bloomwords as usize)
             + 4 * (buckets as usize)
-            + 4 * words::bytes::monus(s, first as usize),
+            + 4 * words::bytes::monus(s, symoffset as usize),
     }
 }
 
@@ -200,7 +200,7 @@ pub(crate) fn fuel_of(image: &[u8], t: HashTable) -> usize
 {
     match t {
         HashTable::Without => 0,
-        HashTable::SysV { chains, .. } => (chains as usize) + 1,
+        HashTable::SysV { nchain, .. } => (nchain as usize) + 1,
         HashTable::Gnu { .. } => words::bytes::smaller(image.len(), 0x1000_0000),
     }
 }
@@ -217,11 +217,11 @@ fn shr(h: u32, shift: u32) -> u32
 }
 
 // Whether the bloom word has both bits of the hash.
-fn bloom_has(image: &[u8], at: usize, blooms: u32, shift: u32, gnu: u32) -> bool
-    requires { ⌜ 0 < blooms ⌝ }
-    ensures { λ r. ⌜ r ≡ hasBits (leAt 8 (mem (now (image .entry))) (bloomAt at blooms gnu)) shift gnu ⌝ }
+fn bloom_has(image: &[u8], at: usize, bloomwords: u32, shift: u32, gnu: u32) -> bool
+    requires { ⌜ 0 < bloomwords ⌝ }
+    ensures { λ r. ⌜ r ≡ hasBits (leAt 8 (mem (now (image .entry))) (bloomAt at bloomwords gnu)) shift gnu ⌝ }
 {
-    let i = slot(gnu / 64, blooms);
+    let i = slot(gnu / 64, bloomwords);
     let word = words::bytes::u64_off(image, at, 16 + 8 * i);
     if (word >> (gnu % 64)) % 2 != 1 {
         return false;
@@ -243,17 +243,17 @@ fn may_hold(image: &[u8], t: HashTable, gnu: u32) -> bool
         HashTable::Gnu {
             at,
             buckets,
-            blooms,
+            bloomwords,
             shift,
             ..
         } => {
             if buckets == 0 {
                 return false;
             }
-            if blooms == 0 {
+            if bloomwords == 0 {
                 return false;
             }
-            bloom_has(image, at, blooms, shift, gnu)
+            bloom_has(image, at, bloomwords, shift, gnu)
         }
     }
 }
@@ -322,23 +322,23 @@ pub fn lookup(image: &[u8], v: View, name: &[u8], gnu: u32, elf: u32) -> Found
 }
 
 // The object's answer for a name, whose hashes are given: its first hit, if that is exported.
-pub fn ask(image: &[u8], v: View, name: &[u8], gnu: u32, elf: u32) -> Answer
+pub fn ask(image: &[u8], v: View, name: &[u8], gnu: u32, elf: u32) -> Exported
     ensures { λ r. ⌜ r ≡ answerBy (now (image .entry)) v (now (name .entry)) gnu elf ⌝ }
 {
     let symbols = v.symbols;
     let f = lookup(image, v, name, gnu, elf);
     let Found::Hit(s) = f else {
-        return Answer::Absent;
+        return Exported::Absent;
     };
     let y = crate::symbol::symbol_off(image, symbols, 24 * s);
     if !crate::symbol::is_exported(y) {
-        return Answer::Absent;
+        return Exported::Absent;
     }
-    Answer::Present(Definition {
+    Exported::Present(Definition {
         index: s,
         value: y.value,
         size: y.size,
-        guarded: y.other % 4 == 3,
+        protected: y.other % 4 == 3,
         absolute: y.section == 0xfff1,
     })
 }
@@ -403,7 +403,7 @@ fn table_count(image: &[u8], t: HashTable) -> SymbolCount
 {
     match t {
         HashTable::Without => SymbolCount::Unknown,
-        HashTable::SysV { chains, .. } => SymbolCount::Known(chains as usize),
+        HashTable::SysV { nchain, .. } => SymbolCount::Known(nchain as usize),
         HashTable::Gnu { .. } => {
             let h = highest_bucket(image, t);
             if h == 0 {

@@ -7,7 +7,7 @@ ghost use Rattle.words.specs.Choice.{both, below};
 ghost use Rattle.words.specs.Memory.{mem};
 ghost use Rattle.object.specs.TableBytes.{isWritable, holdsRange, isTable, tableBytes, tableName, inWritable};
 ghost use Rattle.object.specs.Steps.WritableRange.{WritableRange};
-ghost use Rattle.object.specs.Steps.FineRange.{TablesFine, LinksFine};
+ghost use Rattle.object.specs.Steps.FineRange.{TablesFine, ChainedFine};
 ghost use Rattle.object.specs.Steps.LastZero.{LastZero, LastZeros, Nearer, RunOf};
 
 // What needs no further test of refusals 14 and 15: the first `fits` symbols, and a name at one of the first `ends` places of the strings.
@@ -209,8 +209,8 @@ pub(crate) fn fine_of(image: &[u8], b: Bounds, symbols: usize, strings: usize) -
 }
 
 // How many of the words that stand `chain` places after `at` need no further test.
-pub(crate) fn links_of(image: &[u8], b: Bounds, at: usize, chain: usize) -> usize
-    ensures { λ r. ⌜ LinksFine (isTable (b .span) (take (b .count) (b .segments))) at chain r ⌝ }
+pub(crate) fn chained_of(image: &[u8], b: Bounds, at: usize, chain: usize) -> usize
+    ensures { λ r. ⌜ ChainedFine (isTable (b .span) (take (b .count) (b .segments))) at chain r ⌝ }
 {
     let span = b.span;
     if span <= chain {

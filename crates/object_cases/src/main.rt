@@ -10,7 +10,7 @@ use libc::STDIN_FILENO;
 use libc::STDOUT_FILENO;
 use object::dynamic_fields::ObjectData;
 use object::entry_symbol::CheckedSymbol;
-use object::hash_tables::Answer;
+use object::hash_tables::Exported;
 use object::hash_tables::Definition;
 use object::hash_tables::HashTable;
 use object::hash_tables::SymbolCount;
@@ -51,19 +51,19 @@ fn part<'a>(s: &'a [u8], at: usize, k: usize, n: usize) -> &'a [u8] {
     &s[from..from + left]
 }
 
-fn show_sysv(at: usize, buckets: u32, chains: u32) {
+fn show_sysv(at: usize, buckets: u32, nchain: u32) {
     word(b" sysv");
     size(at);
     small(buckets);
-    small(chains);
+    small(nchain);
 }
 
-fn show_gnu(at: usize, buckets: u32, first: u32, blooms: u32, shift: u32) {
+fn show_gnu(at: usize, buckets: u32, first: u32, bloomwords: u32, shift: u32) {
     word(b" gnu");
     size(at);
     small(buckets);
     small(first);
-    small(blooms);
+    small(bloomwords);
     small(shift);
 }
 
@@ -73,15 +73,15 @@ fn show_table(t: HashTable) {
         HashTable::SysV {
             at,
             buckets,
-            chains,
-        } => show_sysv(at, buckets, chains),
+            nchain,
+        } => show_sysv(at, buckets, nchain),
         HashTable::Gnu {
             at,
             buckets,
             first,
-            blooms,
+            bloomwords,
             shift,
-        } => show_gnu(at, buckets, first, blooms, shift),
+        } => show_gnu(at, buckets, first, bloomwords, shift),
     }
 }
 
@@ -121,15 +121,15 @@ fn show_definition(d: Definition) {
     size(d.index);
     field(d.value);
     field(d.size);
-    truth(d.guarded);
+    truth(d.protected);
     truth(d.absolute);
     field(object::hash_tables::address_of(0x1000_0000, d));
 }
 
-fn show_answer(a: Answer) {
+fn show_answer(a: Exported) {
     match a {
-        Answer::Absent => word(b" absent"),
-        Answer::Present(d) => show_definition(d),
+        Exported::Absent => word(b" absent"),
+        Exported::Present(d) => show_definition(d),
     }
 }
 

@@ -18,12 +18,12 @@ use Rattle.words.proofs.Words.{leAt-part}
 use Rattle.object.specs.declared.hash_tables.HashTable.{HashTable}
 use Rattle.object.specs.declared.hash_tables.HashTable.the-variants.{Without, SysV, Gnu}
 use Rattle.object.specs.declared.hash_tables.View.{View}
-use Rattle.object.specs.declared.hash_tables.Answer.the-variants.{Absent}
+use Rattle.object.specs.declared.hash_tables.Exported.the-variants.{Absent}
 use Rattle.object.specs.HashTable as table
 use Rattle.object.specs.HashTable.{bloomAt, hasBits, mayHold, answerBy}
 use Rattle.object.proofs.FindLaws.{find-not}
-use Rattle.scope.specs.declared.seats.Seat.{Seat}
-use Rattle.scope.specs.Steps.Seats.{logFrom, logOf, untested, filterWords, filterOf, filterAt, seatAt}
+use Rattle.scope.specs.declared.links.Link.{Link}
+use Rattle.scope.specs.Steps.Links.{logFrom, logOf, untested, filterWords, filterOf, filterAt, linkAt}
 use Rattle.scope.specs.Steps.ScopeCode.{imageAt, answerAt, Lacks}
 
 -- what a test that fails does not tell
@@ -52,7 +52,7 @@ miss : (image : List ℕ) (v : View) (name : List ℕ) (g e : ℕ) → mayHold i
 unfolding table.exportedAt
 miss image v name g e h = rw (find-not image (v .symbols) (v .strings) (v .table) name g e h)
 
-lacks-of : (arena : List ℕ) (s : Seat) (g : ℕ) → mayHold (imageAt arena s) (s .view .table) g ≡ false → Lacks arena s g
+lacks-of : (arena : List ℕ) (s : Link) (g : ℕ) → mayHold (imageAt arena s) (s .view .table) g ≡ false → Lacks arena s g
 unfolding answerAt
 lacks-of arena s g h name e = miss (imageAt arena s) (s .view) name g e h
 
@@ -88,30 +88,30 @@ module _
         let q : b ≡ 64 = ap (λ (l : List ℕ). getD l 1 0) e in
         absurd (omega (arith, low))
 
-    module _ (off span at blooms shift : ℕ) where
+    module _ (off span at bloomwords shift : ℕ) where
       abbrev NoBits : Type 0
-      NoBits = hasBits (leAt 8 (mem (take span (drop off arena))) (bloomAt at blooms g)) shift g ≡ false
+      NoBits = hasBits (leAt 8 (mem (take span (drop off arena))) (bloomAt at bloomwords g)) shift g ≡ false
 
       tested :
-          shift ≤ 31 → at + (16 + 8 * blooms) ≤ span → off + span ≤ 2 ^ 32 → a ≡ off + at + 16 → b ≡ logOf blooms → c ≡ shift → NoBits
+          shift ≤ 31 → at + (16 + 8 * bloomwords) ≤ span → off + span ≤ 2 ^ 32 → a ≡ off + at + 16 → b ≡ logOf bloomwords → c ≡ shift → NoBits
       tested small inside short ea eb ec =
-          let power : blooms ≡ 2 ^ b = rw eb (log-is blooms (omega (arith, low, eb))) in
-          let some : 0 < blooms = rw power (pow-pos b) in
-          let below : g / 64 % blooms < blooms = mod-lt (g / 64) some in
+          let power : bloomwords ≡ 2 ^ b = rw eb (log-is bloomwords (omega (arith, low, eb))) in
+          let some : 0 < bloomwords = rw power (pow-pos b) in
+          let below : g / 64 % bloomwords < bloomwords = mod-lt (g / 64) some in
           let e1 : a % 2 ^ 32 ≡ a = mod-eq-of-lt (omega arith) in
-          let e2 : g / 64 % 2 ^ b ≡ g / 64 % blooms = ap (λ (m : ℕ). g / 64 % m) (sym power) in
-          let e3 : a % 2 ^ 32 + 8 * (g / 64 % 2 ^ b) ≡ off + bloomAt at blooms g = omega (arith, e1, e2, ea) in
+          let e2 : g / 64 % 2 ^ b ≡ g / 64 % bloomwords = ap (λ (m : ℕ). g / 64 % m) (sym power) in
+          let e3 : a % 2 ^ 32 + 8 * (g / 64 % 2 ^ b) ≡ off + bloomAt at bloomwords g = omega (arith, e1, e2, ea) in
           let e4 : c % 32 ≡ shift = omega arith in
-          bits-out arena off span at blooms shift g w (omega (arith, below)) (is ∙ ap (leAt 8 (mem arena)) e3)
+          bits-out arena off span at bloomwords shift g w (omega (arith, below)) (is ∙ ap (leAt 8 (mem arena)) e3)
           (subst (λ (s : ℕ). w / 2 ^ (g % 64) % 2 + w / 2 ^ (g / 2 ^ s % 64) % 2 ≡ 2 → ⊥) e4 ne)
 
-      no-bits : a ∷ b ∷ c ∷ [] ≡ filterWords off span at blooms shift → NoBits
+      no-bits : a ∷ b ∷ c ∷ [] ≡ filterWords off span at bloomwords shift → NoBits
       unfolding filterWords
-      no-bits e = go (leb shift 31) (leb (at + (16 + 8 * blooms)) span) (leb (off + span) (2 ^ 32)) refl refl refl e
+      no-bits e = go (leb shift 31) (leb (at + (16 + 8 * bloomwords)) span) (leb (off + span) (2 ^ 32)) refl refl refl e
         where
           go :
-              (p q r : Bool) → leb shift 31 ≡ p → leb (at + (16 + 8 * blooms)) span ≡ q → leb (off + span) (2 ^ 32) ≡ r
-              → a ∷ b ∷ c ∷ [] ≡ pick (both p (both q r)) ((off + at + 16) ∷ logOf blooms ∷ shift ∷ []) untested → NoBits
+              (p q r : Bool) → leb shift 31 ≡ p → leb (at + (16 + 8 * bloomwords)) span ≡ q → leb (off + span) (2 ^ 32) ≡ r
+              → a ∷ b ∷ c ∷ [] ≡ pick (both p (both q r)) ((off + at + 16) ∷ logOf bloomwords ∷ shift ∷ []) untested → NoBits
           go true true true x y z l =
               tested (leb-true _ _ x) (leb-true _ _ y) (leb-true _ _ z) (ap (λ (l : List ℕ). getD l 0 0) l) (ap (λ (l : List ℕ). getD l 1 0) l) (ap (λ (l : List ℕ). getD l 2 0) l)
           go true true false x y z l = clash l
@@ -121,11 +121,11 @@ module _
     may-not : (off span : ℕ) (h : HashTable) → a ∷ b ∷ c ∷ [] ≡ filterOf off span h → mayHold (take span (drop off arena)) h g ≡ false
     unfolding filterOf table.mayHold
     may-not off span Without e = refl
-    may-not off span (SysV at n chains) e = clash e
-    may-not off span (Gnu at n first blooms shift) e =
-        both-false (not (eqb n 0)) _ (both-false (not (eqb blooms 0)) _ (no-bits off span at blooms shift e))
+    may-not off span (SysV at n nchain) e = clash e
+    may-not off span (Gnu at n symoffset bloomwords shift) e =
+        both-false (not (eqb n 0)) _ (both-false (not (eqb bloomwords 0)) _ (no-bits off span at bloomwords shift e))
 
-    pub lacks-name : (s : Seat) → a ∷ b ∷ c ∷ [] ≡ filterAt s → Lacks arena s g
+    pub lacks-name : (s : Link) → a ∷ b ∷ c ∷ [] ≡ filterAt s → Lacks arena s g
     lacks-name s e = lacks-of arena s g (may-not (s .offset) (s .span) (s .view .table) e)
 
 -- ---- objects before which all lack the name
@@ -133,15 +133,15 @@ module _
 module _ (arena t : List ℕ) (g start : ℕ) where
   -- from `start` on, below `r`
   abbrev pub Past : ℕ → Type 0
-  Past r = (start ≤ r) × ((k : ℕ) → start ≤ k → k < r → Lacks arena (seatAt t k) g)
+  Past r = (start ≤ r) × ((k : ℕ) → start ≤ k → k < r → Lacks arena (linkAt t k) g)
 
   pub past-none : Past start
   past-none = (omega arith, λ k low high. absurd (omega arith))
 
-  pub past-next : (r : ℕ) → Past r → Lacks arena (seatAt t r) g → Past (r + 1)
+  pub past-next : (r : ℕ) → Past r → Lacks arena (linkAt t r) g → Past (r + 1)
   past-next r p lack = (omega (arith, p .0), λ k low high. go k low high (decLt k r))
     where
-      go : (k : ℕ) → start ≤ k → k < r + 1 → Dec (k < r) → Lacks arena (seatAt t k) g
+      go : (k : ℕ) → start ≤ k → k < r + 1 → Dec (k < r) → Lacks arena (linkAt t k) g
       go k low high (yes h) = p .1 k low h
       go k low high (no h) =
           let e : k ≡ r = omega arith in

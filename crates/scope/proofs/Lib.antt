@@ -1,4 +1,4 @@
 -- What the proofs of this crate rest on, for them and for the crates above.
-pub mod SeatLaws
+pub mod LinkLaws
 pub mod BloomLaws
 pub mod ScopeLaws

@@ -1,4 +1,4 @@
 -- What stands between the code and the definitions: what its loops and tables hold, step by step. None of it has to be believed; proofs/
 -- join it to the definitions of specs/.
-pub mod Seats
+pub mod Links
 pub mod ScopeCode

@@ -1,18 +1,18 @@
-// Which object answers for a name: `resolve_symbol_address` of object_data_graph.rs, over the arena and the table of seats.
+// Which object answers for a name: `resolve_symbol_address` of object_data_graph.rs, over the arena and the table of links.
 ghost use mathlib.Core.Path.{_≡_};
 ghost use mathlib.Core.Bool.{true};
 ghost use Prim.Native.Nat.{ℕ, _+_, _-_, _*_, _/_, _%_, _^_, _≤_, _<_};
 ghost use lib.ListN.{length};
 ghost use Rattle.words.specs.Words.{sum64};
 ghost use Rattle.words.specs.Hash.{elfHash};
-ghost use Rattle.scope.specs.Steps.Seats.{wordAt, seatAt, seatsFrom, FilteredAt, Filtered};
-ghost use Rattle.scope.specs.Steps.ScopeCode.{answerAt, Lacks, seatAnswer, ownAnswer, scanSeats, resolveSeats, resolveCopySeats};
-use crate::seats::Seat;
-use object::hash_tables::Answer;
+ghost use Rattle.scope.specs.Steps.Links.{wordAt, linkAt, linksFrom, FilteredAt, Filtered};
+ghost use Rattle.scope.specs.Steps.ScopeCode.{answerAt, Lacks, linkAnswer, ownAnswer, scanLinks, resolveLinks, resolveCopyLinks};
+use crate::links::Link;
+use object::hash_tables::Exported;
 use object::hash_tables::Definition;
 
 // What a search yields: the object that has the name, its definition and address; or absence.
-pub enum Scoped {
+pub enum Resolved {
     Absent,
     Found {
         object: usize,
@@ -21,8 +21,8 @@ pub enum Scoped {
     },
 }
 
-// What the object at a seat has for a name, whose hashes are given.
-pub fn answer_at(arena: &[u8], s: Seat, name: &[u8], gnu: u32, elf: u32) -> Answer
+// What the object at a link has for a name, whose hashes are given.
+pub fn answer_at(arena: &[u8], s: Link, name: &[u8], gnu: u32, elf: u32) -> Exported
     ensures { λ r. ⌜ r ≡ answerAt (now (arena .entry)) s (now (name .entry)) gnu elf ⌝ }
 {
     let view = s.view;
@@ -39,7 +39,7 @@ pub fn answer_at(arena: &[u8], s: Seat, name: &[u8], gnu: u32, elf: u32) -> Answ
 fn elf_for(table: &[u64], k: usize, name: &[u8]) -> u32
     ensures { λ r. ⌜ (wordAt (now (table .entry)) k 4 ≡ 1 → r ≡ elfHash (now (name .entry))) ⌝ }
 {
-    if crate::seats::word(table, k, 4) == 1 {
+    if crate::links::word(table, k, 4) == 1 {
         return words::hash::elf_hash(name);
     }
     0
@@ -56,7 +56,7 @@ fn bloom_place(gnu: u32, bits: u64) -> u64
 // Whether the bloom filter of object `k` rules out every name with this GNU hash; the arena's last whole word is at `last`.
 fn rules_out(arena: &[u8], last: u64, table: &[u64], k: usize, gnu: u32) -> bool
     requires { ⌜ (last + 8 ≤ length (now arena)) × (16 * k + 16 ≤ length (now table)) × FilteredAt (now table) k ⌝ }
-    ensures { λ r. ⌜ (r ≡ true → Lacks (now (arena .entry)) (seatAt (now (table .entry)) k) gnu) ⌝ }
+    ensures { λ r. ⌜ (r ≡ true → Lacks (now (arena .entry)) (linkAt (now (table .entry)) k) gnu) ⌝ }
 {
     let p = 16 * k;
     let bits = table[p + 11];
@@ -79,7 +79,7 @@ fn rules_out(arena: &[u8], last: u64, table: &[u64], k: usize, gnu: u32) -> bool
 // An object from `start` on, or `count`: the bloom filter of each one before it rules out every name with this GNU hash.
 fn candidate(arena: &[u8], table: &[u64], start: usize, count: usize, gnu: u32) -> usize
     requires { ⌜ Filtered (now table) count ⌝ }
-    ensures { λ r. ⌜ (start ≤ r) × ((k : ℕ) → start ≤ k → k < r → Lacks (now (arena .entry)) (seatAt (now (table .entry)) k) gnu) ⌝ }
+    ensures { λ r. ⌜ (start ≤ r) × ((k : ℕ) → start ≤ k → k < r → Lacks (now (arena .entry)) (linkAt (now (table .entry)) k) gnu) ⌝ }
 {
     if arena.len() < 8 {
         return start;
@@ -101,7 +101,7 @@ fn candidate(arena: &[u8], table: &[u64], start: usize, count: usize, gnu: u32) 
 // Whether object `k` of `count` has no name with this GNU hash, as its bloom filter says; an object that is none of them is not looked at.
 fn ruled_out(arena: &[u8], table: &[u64], count: usize, k: usize, gnu: u32) -> bool
     requires { ⌜ Filtered (now table) count ⌝ }
-    ensures { λ r. ⌜ (r ≡ true → Lacks (now (arena .entry)) (seatAt (now (table .entry)) k) gnu) ⌝ }
+    ensures { λ r. ⌜ (r ≡ true → Lacks (now (arena .entry)) (linkAt (now (table .entry)) k) gnu) ⌝ }
 {
     if count <= k {
         return false;
@@ -113,7 +113,7 @@ fn ruled_out(arena: &[u8], table: &[u64], count: usize, k: usize, gnu: u32) -> b
 }
 
 // The answer of object `k`.
-fn seat_answer(
+fn link_answer(
     arena: &[u8],
     table: &[u64],
     k: usize,
@@ -121,16 +121,16 @@ fn seat_answer(
     name: &[u8],
     gnu: u32,
     elf: u32,
-) -> Scoped
-    ensures { λ r. ⌜ r ≡ seatAnswer address (now (arena .entry)) k (seatAt (now (table .entry)) k) (now (name .entry)) gnu elf ⌝ }
+) -> Resolved
+    ensures { λ r. ⌜ r ≡ linkAnswer address (now (arena .entry)) k (linkAt (now (table .entry)) k) (now (name .entry)) gnu elf ⌝ }
 {
-    let s = crate::seats::seat_at(table, k);
+    let s = crate::links::link_at(table, k);
     let a = answer_at(arena, s, name, gnu, elf);
-    let Answer::Present(d) = a else {
-        return Scoped::Absent;
+    let Exported::Present(d) = a else {
+        return Resolved::Absent;
     };
     let base = words::bytes::sum_u64(address, s.offset as u64);
-    Scoped::Found {
+    Resolved::Found {
         object: k,
         definition: d,
         address: object::hash_tables::address_of(base, d),
@@ -147,27 +147,27 @@ fn own_answer(
     name: &[u8],
     gnu: u32,
     elf: u32,
-) -> Scoped
+) -> Resolved
     requires { ⌜ Filtered (now table) count ⌝ }
-    ensures { λ r. ⌜ r ≡ ownAnswer address (now (arena .entry)) k (seatAt (now (table .entry)) k) (now (name .entry)) gnu elf ⌝ }
+    ensures { λ r. ⌜ r ≡ ownAnswer address (now (arena .entry)) k (linkAt (now (table .entry)) k) (now (name .entry)) gnu elf ⌝ }
 {
     if ruled_out(arena, table, count, k, gnu) {
-        return Scoped::Absent;
+        return Resolved::Absent;
     }
-    let s = crate::seats::seat_at(table, k);
+    let s = crate::links::link_at(table, k);
     let a = answer_at(arena, s, name, gnu, elf);
-    let Answer::Present(d) = a else {
-        return Scoped::Absent;
+    let Exported::Present(d) = a else {
+        return Resolved::Absent;
     };
-    if d.guarded {
+    if d.protected {
         let base = words::bytes::sum_u64(address, s.offset as u64);
-        return Scoped::Found {
+        return Resolved::Found {
             object: k,
             definition: d,
             address: object::hash_tables::address_of(base, d),
         };
     }
-    Scoped::Absent
+    Resolved::Absent
 }
 
 // The first answer of the objects from `start` on, below `count`, for a name whose hashes are given.
@@ -180,19 +180,19 @@ fn scan_hashed(
     name: &[u8],
     gnu: u32,
     elf: u32,
-) -> Scoped
+) -> Resolved
     requires { ⌜ Filtered (now table) count ⌝ }
-    ensures { λ r. ⌜ r ≡ scanSeats address (now (arena .entry)) start (seatsFrom (now (table .entry)) start (count - start)) (now (name .entry)) gnu elf ⌝ }
+    ensures { λ r. ⌜ r ≡ scanLinks address (now (arena .entry)) start (linksFrom (now (table .entry)) start (count - start)) (now (name .entry)) gnu elf ⌝ }
 {
     let mut k = start;
     while k < count {
-        let a = seat_answer(arena, table, k, address, name, gnu, elf);
-        let Scoped::Absent = a else {
+        let a = link_answer(arena, table, k, address, name, gnu, elf);
+        let Resolved::Absent = a else {
             return a;
         };
         k = candidate(arena, table, k + 1, count, gnu);
     }
-    Scoped::Absent
+    Resolved::Absent
 }
 
 // The same for a name whose GNU hash is given: its System V hash is made at the first object that has a System V table.
@@ -204,23 +204,23 @@ fn scan(
     address: u64,
     name: &[u8],
     gnu: u32,
-) -> Scoped
+) -> Resolved
     requires { ⌜ Filtered (now table) count ⌝ }
-    ensures { λ r. ⌜ r ≡ scanSeats address (now (arena .entry)) start (seatsFrom (now (table .entry)) start (count - start)) (now (name .entry)) gnu (elfHash (now (name .entry))) ⌝ }
+    ensures { λ r. ⌜ r ≡ scanLinks address (now (arena .entry)) start (linksFrom (now (table .entry)) start (count - start)) (now (name .entry)) gnu (elfHash (now (name .entry))) ⌝ }
 {
     let mut k = candidate(arena, table, start, count, gnu);
     while k < count {
-        if crate::seats::word(table, k, 4) == 1 {
+        if crate::links::word(table, k, 4) == 1 {
             let elf = words::hash::elf_hash(name);
             return scan_hashed(arena, table, k, count, address, name, gnu, elf);
         }
-        let a = seat_answer(arena, table, k, address, name, gnu, 0);
-        let Scoped::Absent = a else {
+        let a = link_answer(arena, table, k, address, name, gnu, 0);
+        let Resolved::Absent = a else {
             return a;
         };
         k = candidate(arena, table, k + 1, count, gnu);
     }
-    Scoped::Absent
+    Resolved::Absent
 }
 
 // The answer for a name, whose GNU hash is given: a protected definition of the requester, else program, libraries in list order, host.
@@ -232,21 +232,21 @@ pub fn resolve(
     requester: usize,
     name: &[u8],
     gnu: u32,
-) -> Scoped
+) -> Resolved
     requires { ⌜ Filtered (now table) count ⌝ }
-    ensures { λ r. ⌜ r ≡ resolveSeats address (now (arena .entry)) (now (table .entry)) count requester (now (name .entry)) gnu (elfHash (now (name .entry))) ⌝ }
+    ensures { λ r. ⌜ r ≡ resolveLinks address (now (arena .entry)) (now (table .entry)) count requester (now (name .entry)) gnu (elfHash (now (name .entry))) ⌝ }
 {
     let elf = elf_for(table, requester, name);
     let own = own_answer(arena, table, count, requester, address, name, gnu, elf);
-    let Scoped::Absent = own else {
+    let Resolved::Absent = own else {
         return own;
     };
     let a = scan(arena, table, 1, count, address, name, gnu);
-    let Scoped::Absent = a else {
+    let Resolved::Absent = a else {
         return a;
     };
     let elf0 = elf_for(table, 0, name);
-    seat_answer(arena, table, 0, address, name, gnu, elf0)
+    link_answer(arena, table, 0, address, name, gnu, elf0)
 }
 
 // COPY's answer for a name: libraries in list order, then host.
@@ -257,14 +257,14 @@ pub fn resolve_copy(
     address: u64,
     name: &[u8],
     gnu: u32,
-) -> Scoped
+) -> Resolved
     requires { ⌜ Filtered (now table) count ⌝ }
-    ensures { λ r. ⌜ r ≡ resolveCopySeats address (now (arena .entry)) (now (table .entry)) count (now (name .entry)) gnu (elfHash (now (name .entry))) ⌝ }
+    ensures { λ r. ⌜ r ≡ resolveCopyLinks address (now (arena .entry)) (now (table .entry)) count (now (name .entry)) gnu (elfHash (now (name .entry))) ⌝ }
 {
     let a = scan(arena, table, 2, count, address, name, gnu);
-    let Scoped::Absent = a else {
+    let Resolved::Absent = a else {
         return a;
     };
     let elf0 = elf_for(table, 0, name);
-    seat_answer(arena, table, 0, address, name, gnu, elf0)
+    link_answer(arena, table, 0, address, name, gnu, elf0)
 }

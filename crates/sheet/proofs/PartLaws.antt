@@ -11,7 +11,7 @@ use lib.Seq.{drop-drop, take-suc-set, getD-take, take-all}
 use Rattle.words.specs.Choice as choice
 use Rattle.words.specs.Choice.{pick, either, some}
 use Rattle.words.specs.Names.{sameBytes}
-use Rattle.sheet.specs.Sheet.{lengthIn, cut, libsOf, inputsOf, setOf, Input, noInput, named, twinFrom, sheetOk}
+use Rattle.sheet.specs.Sheet.{lengthIn, cut, libsOf, inputsOf, setOf, Input, noInput, named, duplicateFrom, sheetOk}
 use Rattle.sheet.specs.Steps.Parts.{noPart, inputIn, inputsIn, handedIn, Tabled}
 use Rattle.sheet.specs.declared.sheet.Part.{Part}
 use Rattle.sheet.specs.declared.sheet.Parts.{Parts}
@@ -190,16 +190,16 @@ module _ (n : List ℕ) (os : List Input) (k j : ℕ) where
     unfolding choice.some
     named-is t e = rw (drop-next (take k os) j noInput within, getD-take k os j noInput h, e)
 
--- for a twin
-pub twin-is : (os : List Input) (count k : ℕ) (t : Bool) → k < count → named (getD os k noInput .name) (drop 2 (take k os)) ≡ t
-    → twinFrom os (count - k) k ≡ pick t k (twinFrom os (count - (k + 1)) (k + 1))
-unfolding twinFrom
-twin-is os count k t h e =
+-- for a duplicate
+pub duplicate-is : (os : List Input) (count k : ℕ) (t : Bool) → k < count → named (getD os k noInput .name) (drop 2 (take k os)) ≡ t
+    → duplicateFrom os (count - k) k ≡ pick t k (duplicateFrom os (count - (k + 1)) (k + 1))
+unfolding duplicateFrom
+duplicate-is os count k t h e =
     let s : count - k ≡ suc (count - (k + 1)) = omega arith in
     rw (s, e)
 
-pub twin-end : (os : List Input) (count k : ℕ) → count ≤ k → twinFrom os (count - k) k ≡ 0
-unfolding twinFrom
-twin-end os count k h =
+pub duplicate-end : (os : List Input) (count k : ℕ) → count ≤ k → duplicateFrom os (count - k) k ≡ 0
+unfolding duplicateFrom
+duplicate-end os count k h =
     let s : count - k ≡ 0 = omega arith in
     rw s

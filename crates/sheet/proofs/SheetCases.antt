@@ -5,7 +5,7 @@ use mathlib.Core.Path.{_≡_, refl}
 use mathlib.Core.List.{List, [], _∷_}
 use Rattle.words.specs.Choice as choice
 use Rattle.words.specs.Names as names
-use Rattle.sheet.specs.Sheet.{pairOk, libWords, total, sheetOk, cut, Input, libsOf, inputsOf, setOf, arenaOk, twinFrom, twinOf}
+use Rattle.sheet.specs.Sheet.{pairOk, libWords, total, sheetOk, cut, Input, libsOf, inputsOf, setOf, arenaOk, duplicateFrom, duplicateOf}
 
 abbrev word : ℕ → ℕ → ℕ
 word kind size = kind * 2 ^ 28 + size
@@ -81,10 +81,10 @@ lib c = record { file = []; name = c ∷ [] }
 abbrev none : Input
 none = record { file = []; name = [] }
 
-pub twins : twinOf (none ∷ (none ∷ (lib 97 ∷ (lib 98 ∷ (lib 98 ∷ (lib 97 ∷ [])))))) ≡ 4
-unfolding twinFrom choice.some names.sameBytes
-twins = refl
+pub duplicates : duplicateOf (none ∷ (none ∷ (lib 97 ∷ (lib 98 ∷ (lib 98 ∷ (lib 97 ∷ [])))))) ≡ 4
+unfolding duplicateFrom choice.some names.sameBytes
+duplicates = refl
 
-pub no-twins : twinOf (none ∷ (none ∷ (lib 97 ∷ (lib 98 ∷ [])))) ≡ 0
-unfolding twinFrom choice.some names.sameBytes
-no-twins = refl
+pub no-duplicates : duplicateOf (none ∷ (none ∷ (lib 97 ∷ (lib 98 ∷ [])))) ≡ 0
+unfolding duplicateFrom choice.some names.sameBytes
+no-duplicates = refl

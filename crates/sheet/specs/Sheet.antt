@@ -78,9 +78,9 @@ named n os = some (λ (o : Input). sameBytes n (o .name)) os
 
 -- Refusal 3: "A library name that an earlier library has (the first such object)." Of the n objects from number k on, the number of that
 -- object, or 0 where there is none.
-unfoldable pub twinFrom : List Input → ℕ → ℕ → ℕ
-twinFrom os zero k = 0
-twinFrom os (suc n) k = pick (named (getD os k noInput .name) (drop 2 (take k os))) k (twinFrom os n (k + 1))
+unfoldable pub duplicateFrom : List Input → ℕ → ℕ → ℕ
+duplicateFrom os zero k = 0
+duplicateFrom os (suc n) k = pick (named (getD os k noInput .name) (drop 2 (take k os))) k (duplicateFrom os n (k + 1))
 
-abbrev pub twinOf : List Input → ℕ
-twinOf os = twinFrom os (length (drop 2 os)) 2
+abbrev pub duplicateOf : List Input → ℕ
+duplicateOf os = duplicateFrom os (length (drop 2 os)) 2

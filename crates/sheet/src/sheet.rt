@@ -3,7 +3,7 @@ ghost use mathlib.Core.Path.{_≡_};
 ghost use mathlib.Core.List.{List};
 ghost use Prim.Native.Nat.{ℕ, _≤_, _<_};
 ghost use lib.ListN.{length, take, drop, getD};
-ghost use Rattle.sheet.specs.Sheet.{kindOf, lengthIn, pairOk, sheetOk, setOf, arenaOk, noInput, named, twinOf};
+ghost use Rattle.sheet.specs.Sheet.{kindOf, lengthIn, pairOk, sheetOk, setOf, arenaOk, noInput, named, duplicateOf};
 ghost use Rattle.sheet.specs.Steps.Parts.{inputsIn, Tabled};
 
 // Where an object's file and name lie in the byte slice.
@@ -231,8 +231,8 @@ fn named_before(bytes: &[u8], parts: Parts, k: usize, name: &[u8]) -> bool
 }
 
 // Refusal 3: the first library whose name an earlier one has, or 0.
-pub fn twin(bytes: &[u8], parts: Parts) -> usize
-    ensures { λ r. ⌜ (r ≡ twinOf (inputsIn (now (bytes .entry)) parts)) × (r < 64) ⌝ }
+pub fn duplicate(bytes: &[u8], parts: Parts) -> usize
+    ensures { λ r. ⌜ (r ≡ duplicateOf (inputsIn (now (bytes .entry)) parts)) × (r < 64) ⌝ }
 {
     let count = words::bytes::smaller(parts.count, 64);
     let mut k = 2;

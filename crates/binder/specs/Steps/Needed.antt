@@ -12,7 +12,7 @@ use Rattle.object.specs.ProgramHeader.{dynamicOf}
 use Rattle.object.specs.declared.program_header.Dynamic.{Dynamic}
 use Rattle.object.specs.declared.program_header.Dynamic.the-variants.{Missing, At}
 use Rattle.sheet.specs.Sheet.{Input, noInput}
-use Rattle.scope.specs.Steps.Seats.{seatAt}
+use Rattle.scope.specs.Steps.Links.{linkAt}
 use Rattle.scope.specs.Steps.ScopeCode.{imageAt}
 use Rattle.binder.specs.SetOrder.{numberOf}
 use Rattle.binder.specs.Bind.{namesOf}
@@ -37,12 +37,12 @@ NeedsPut os image strings file k before after =
 -- what library `k` of a loaded set needs
 abbrev pub needsAt : List Input → List ℕ → List ℕ → ℕ → List ℕ
 needsAt os arena table k =
-    numbersAt os (imageAt arena (seatAt table k)) (seatAt table k .view .strings) (dynamicOf (getD os k noInput .file))
+    numbersAt os (imageAt arena (linkAt table k)) (linkAt table k .view .strings) (dynamicOf (getD os k noInput .file))
 
 -- none has over 64 needs
 abbrev pub FewNeeds : List Input → ℕ → List ℕ → List ℕ → Type 0
 FewNeeds os count arena table =
-    (k : ℕ) → 2 ≤ k → k < count → length (neededAt (imageAt arena (seatAt table k)) (dynamicOf (getD os k noInput .file))) ≤ 64
+    (k : ℕ) → 2 ≤ k → k < count → length (neededAt (imageAt arena (linkAt table k)) (dynamicOf (getD os k noInput .file))) ≤ 64
 
 -- all rows are filled, in a table that was all zeros
 abbrev pub NeedsFilled : List Input → ℕ → List ℕ → List ℕ → List ℕ → List ℕ → Type 0

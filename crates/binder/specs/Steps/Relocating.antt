@@ -26,11 +26,11 @@ use Rattle.object.specs.declared.relocate.Relr.the-variants.{Address, Bitmap}
 use Rattle.object.specs.declared.entry_symbol.CheckedSymbol.{CheckedSymbol}
 use Rattle.object.specs.declared.entry_symbol.CheckedSymbol.the-variants.{Refused, Checked}
 use Rattle.sheet.specs.Sheet.{Input, noInput}
-use Rattle.scope.specs.Steps.Seats.{seatAt}
-use Rattle.scope.specs.Steps.ScopeCode.{resolveSeats, resolveCopySeats}
-use Rattle.scope.specs.declared.seats.Seat.{Seat}
-use Rattle.scope.specs.declared.scope.Scoped.{Scoped}
-use Rattle.scope.specs.declared.scope.Scoped.the-variants.{Absent, Found}
+use Rattle.scope.specs.Steps.Links.{linkAt}
+use Rattle.scope.specs.Steps.ScopeCode.{resolveLinks, resolveCopyLinks}
+use Rattle.scope.specs.declared.links.Link.{Link}
+use Rattle.scope.specs.declared.scope.Resolved.{Resolved}
+use Rattle.scope.specs.declared.scope.Resolved.the-variants.{Absent, Found}
 use Rattle.binder.specs.declared.report.Progress.{Progress}
 use Rattle.binder.specs.declared.turn.Turn.{Turn}
 use Rattle.binder.specs.declared.relr.Moved.{Moved}
@@ -216,15 +216,15 @@ abbrev pub keepsWeak : ℕ → Symbol → Noted → Noted
 keepsWeak last y (noted p report) = noted (pick (eqb (bindingOf y) 2) (keeps last 0 p) p) report
 
 -- a write with a search: by the address that was found, which is kept, or by 0, and a report word
-unfoldable pub writeFound : Turn → Rela → Calculation → ℕ → Symbol → Scoped → Progress → List ℕ → List ℕ → Left
+unfoldable pub writeFound : Turn → Rela → Calculation → ℕ → Symbol → Resolved → Progress → List ℕ → List ℕ → Left
 writeFound t e f i y Absent p a report =
     withArena (patch a (t .offset + e .place) (f .width) (writtenBytes t e f 0)) (keepsWeak (e .symbol + 1) y (unresolvedOf y (t .number) i p report))
 writeFound t e f i y (Found k d x) p a report =
     left (keeps (e .symbol + 1) x p) (patch a (t .offset + e .place) (f .width) (writtenBytes t e f x)) report
 
--- the `n` bytes of the definition `d`, in the object at the seat `s`, may be copied to the place `to` of the object whose turn it is: the
+-- the `n` bytes of the definition `d`, in the object at the link `s`, may be copied to the place `to` of the object whose turn it is: the
 -- tests of refusal 18, and both ranges end inside an arena of `size` bytes
-unfoldable pub copyFits : ℕ → Turn → ℕ → Seat → Definition → ℕ → Bool
+unfoldable pub copyFits : ℕ → Turn → ℕ → Link → Definition → ℕ → Bool
 copyFits size t to s d n =
     both (not (d .absolute))
     (both (leb (d .value + n) (s .span))
@@ -236,18 +236,18 @@ copyFits size t to s d n =
 abbrev pub CopyApart : ℕ → ℕ → ℕ → ℕ → Type 0
 CopyApart size to start n = (to + n ≤ size) × (start + n ≤ size) × ((to + n ≤ start) ⊎ (start + n ≤ to))
 
--- 5: `n` bytes of the definition `d`, in the object at the seat `s`
-unfoldable pub copyBytes : Turn → List Segment → ℕ → Seat → Definition → ℕ → Progress → List ℕ → Wrote
+-- 5: `n` bytes of the definition `d`, in the object at the link `s`
+unfoldable pub copyBytes : Turn → List Segment → ℕ → Link → Definition → ℕ → Progress → List ℕ → Wrote
 copyBytes t segments to s d n p a =
     pick (eqb n 0) (wrote p a)
     (pick (inWritable segments to n)
     (pick (copyFits (length a) t to s d n) (wrote p (patch a (t .offset + to) n (from (s .offset + d .value) (mem a)))) (wrote (refusedBy t 18 p) a))
     (wrote (refusedBy t 17 p) a))
 
-unfoldable pub copyOf : List ℕ → Turn → List Segment → Rela → ℕ → Symbol → Scoped → Progress → List ℕ → List ℕ → Left
+unfoldable pub copyOf : List ℕ → Turn → List Segment → Rela → ℕ → Symbol → Resolved → Progress → List ℕ → List ℕ → Left
 copyOf table t segments e i y Absent p a report = withArena a (unresolvedOf y (t .number) i p report)
 copyOf table t segments e i y (Found k d x) p a report =
-    withReport report (copyBytes t segments (e .place) (seatAt table k) d (min (y .size) (d .size)) p a)
+    withReport report (copyBytes t segments (e .place) (linkAt table k) d (min (y .size) (d .size)) p a)
 
 -- ---- an object's turn
 
@@ -255,9 +255,9 @@ abbrev pub turnOf : ℕ → List ℕ → ℕ → Turn
 turnOf address table k =
     record {
       number = k;
-      offset = seatAt table k .offset;
-      span = seatAt table k .span;
-      base = sum64 address (seatAt table k .offset);
+      offset = linkAt table k .offset;
+      span = linkAt table k .span;
+      base = sum64 address (linkAt table k .offset);
     }
 
 -- the record is read again, at the object's turn; what was loaded is not refused then
@@ -269,11 +269,11 @@ againRecord image file = recordAt image (loadsOf file) (dynamicOf file)
 
 module _ (address : ℕ) (table : List ℕ) (count : ℕ) where
   -- the search for a symbol's name, and COPY's
-  abbrev pub soughtFor : Turn → List ℕ → List ℕ → Scoped
-  soughtFor t a name = resolveSeats address a table count (t .number) name (gnuHash name) (elfHash name)
+  abbrev pub soughtFor : Turn → List ℕ → List ℕ → Resolved
+  soughtFor t a name = resolveLinks address a table count (t .number) name (gnuHash name) (elfHash name)
 
-  abbrev pub soughtForCopy : List ℕ → List ℕ → Scoped
-  soughtForCopy a name = resolveCopySeats address a table count name (gnuHash name) (elfHash name)
+  abbrev pub soughtForCopy : List ℕ → List ℕ → Resolved
+  soughtForCopy a name = resolveCopyLinks address a table count name (gnuHash name) (elfHash name)
 
   -- the kept answer, where it is the symbol's, or a search
   unfoldable pub answeredOf : Turn → Record → Rela → Calculation → ℕ → Symbol → Progress → List ℕ → List ℕ → Left

@@ -14,8 +14,8 @@ use Rattle.words.specs.Words.{leAt}
 use Rattle.object.specs.RelocationTypes.{rowOf}
 use Rattle.object.specs.Steps.Actions.{rowBy}
 use Rattle.object.specs.declared.relocate.Action.the-variants.{Symbolic}
-use Rattle.scope.specs.declared.scope.Scoped.{Scoped}
-use Rattle.scope.specs.declared.scope.Scoped.the-variants.{Absent, Found}
+use Rattle.scope.specs.declared.scope.Resolved.{Resolved}
+use Rattle.scope.specs.declared.scope.Resolved.the-variants.{Absent, Found}
 use Rattle.binder.specs.declared.report.Progress.{Progress}
 use Rattle.binder.specs.declared.turn.Turn.{Turn}
 use Rattle.binder.specs.declared.relocate.Symbols.{Symbols}
@@ -70,7 +70,7 @@ EntryRead a t y k low high Other = Unit {0}
 EntryRead a t y k low high (Here place index name) = EntryHere a t y k low high place index name
 
 -- what a search found
-abbrev pub addressIn : Scoped → Address
+abbrev pub addressIn : Resolved → Address
 addressIn Absent = Nowhere
 addressIn (Found k d x) = At x
 

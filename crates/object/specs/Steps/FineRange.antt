@@ -14,9 +14,9 @@ pub record TablesFine (isT : ℕ → Bool) (image : List ℕ) (symbols strings s
   -- where the symbols lie: none where the table starts past the span
   pub inside : 24 * fits ≤ span - symbols
 
--- the first `links` of the words that stand `chain` places after `at` are in table bytes
-abbrev pub LinksFine : (ℕ → Bool) → ℕ → ℕ → ℕ → Type 0
-LinksFine isT at chain links = (d : ℕ) → d < links → tableBytes isT (at + (chain + 4 * d)) 4 ≡ true
+-- the first `chained` of the words that stand `chain` places after `at` are in table bytes
+abbrev pub ChainedFine : (ℕ → Bool) → ℕ → ℕ → ℕ → Type 0
+ChainedFine isT at chain chained = (d : ℕ) → d < chained → tableBytes isT (at + (chain + 4 * d)) 4 ≡ true
 
 -- of a record: the first `fits` symbols are below a known count and in table bytes; a name at one of the first `ends` places of the strings
 -- is in table bytes

@@ -63,18 +63,18 @@ wordOk m t p w = both (bucketOk t w) (both (lengthOk t (length (walk m t (fuel m
 abbrev pub lowest : HashTable → ℕ
 lowest Without = 0
 lowest (SysV at n c) = 0
-lowest (Gnu at n first b shift) = first
+lowest (Gnu at n symoffset b shift) = symoffset
 
 -- what is asked of each symbol
 abbrev pub stepIn : Bounds → List ℕ → View → ℕ → Bool
 stepIn b m v = stepOk (isTable (b .span) (take (b .count) (b .segments))) m (v .symbols) (v .strings) (v .table)
 
--- the first `links` symbols of the chain pass as far as the chain goes
-abbrev pub LinksOk : (ℕ → Bool) → HashTable → ℕ → Type 0
-LinksOk isT t links = (s : ℕ) → s - lowest t < links → chainOk isT t s ≡ true
+-- the first `chained` symbols of the chain pass as far as the chain goes
+abbrev pub ChainedOk : (ℕ → Bool) → HashTable → ℕ → Type 0
+ChainedOk isT t chained = (s : ℕ) → s - lowest t < chained → chainOk isT t s ≡ true
 
 pub record ShortcutsOk (b : Bounds) (m : List ℕ) (v : View) (q : Shortcuts) : Type 0 where
   pub tables : TablesFine (isTable (b .span) (take (b .count) (b .segments))) m (v .symbols) (v .strings) (b .span) (q .fits) (q .ends)
-  pub links : LinksOk (isTable (b .span) (take (b .count) (b .segments))) (v .table) (q .links)
+  pub chained : ChainedOk (isTable (b .span) (take (b .count) (b .segments))) (v .table) (q .chained)
   pub low : q .low ≡ lowest (v .table)
   pub step : 0 < q .step

@@ -1,5 +1,5 @@
 -- The table of parts that the code keeps of a set, and what it stands for. Document 01, "What is handed in (added)": "a file is handed on as
--- the part of the byte slice that its word names". The contracts of twin, file_of and name_of are over any table, so a table of some of the
+-- the part of the byte slice that its word names". The contracts of duplicate, file_of and name_of are over any table, so a table of some of the
 -- objects of a sheet names a set too. Assumes nothing.
 use Prim.Native.Nat.{ℕ, _≤_}
 use mathlib.Core.Path.{_≡_}

@@ -18,17 +18,17 @@ bind-set-requires c κs = (
 
 same-length : tie.Need-same-length
 same-length c =
-    c .before .before .before .before .settle .kept .1 .0 ∙ c .before .before .before .before .before .before .before .before .before .before .before .bind-set .kept .1 .1 .0
+    c .before .before .before .before .finish .kept .1 .0 ∙ c .before .before .before .before .before .before .before .before .before .before .before .bind-set .kept .1 .1 .0
 
 same-length-2 : tie.Need-same-length-2
 same-length-2 c =
-    c .before .before .before .before .settle .kept .1 .1 .0 ∙ c .before .before .before .before .before .before .before .before .before .before .before .bind-set .kept .1 .1 .1 .1 .1 .0 ∙ c .before .before .before .before .before .before .before .before .before .before .before .before .before .before .before .before .before .clear-words .kept .0
+    c .before .before .before .before .finish .kept .1 .1 .0 ∙ c .before .before .before .before .before .before .before .before .before .before .before .bind-set .kept .1 .1 .1 .1 .1 .0 ∙ c .before .before .before .before .before .before .before .before .before .before .before .before .before .before .before .before .before .clear-words .kept .0
 
 returns : tie.Need-returns
 returns c =
     let a = c .before .before .before .before .before .before .before .before .before .before .before .before .before .before .before .before .before .before .before .before .before .before .before .args in
     let w : length (c .before .before .before .before .before .before .before .before .before .before .before .before .before .before .before .before .before .clear-words .last .0) ≡ length (now (a .report)) = c .before .before .before .before .before .before .before .before .before .before .before .before .before .before .before .before .before .clear-words .kept .0 in
-    c .before .before .before .before .settle .ensures
+    c .before .before .before .before .finish .ensures
     ∙ (rw w at (c .before .before .before .before .before .before .before .before .before .before .before .bind-set .ensures)
     ∙ bind-handed (now (a .sheet)) (now (a .bytes)) (length (now (a .arena))) (a .address) _ (c .before .before .before .before .before .before .before .before .before .before .before .before .before .before .parts-of .ensures) (a .policy) (length (now (a .report))))
 

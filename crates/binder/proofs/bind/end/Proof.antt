@@ -1,5 +1,5 @@
 -- `binder::bind::end` meets its contract. Assumes nothing.
-use Rattle.binder.specs.Steps.Settled.{endsBy}
+use Rattle.binder.specs.Steps.Finished.{endsBy}
 use Rattle.binder.specs.Bind.{unless}
 use Rattle.binder.specs.Verdict.{verdict}
 use mathlib.Core.Path.{_≡_, sym, ap, _∙_}

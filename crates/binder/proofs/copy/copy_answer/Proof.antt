@@ -8,10 +8,10 @@ use Rattle.object.specs.declared.program_header.Segment.{Segment}
 use Rattle.object.specs.declared.hash_tables.Definition.{Definition}
 use Rattle.object.specs.declared.symbol.Symbol.{Symbol}
 use Rattle.object.specs.declared.relocate.Rela.{Rela}
-use Rattle.scope.specs.Steps.Seats.{seatAt}
-use Rattle.scope.specs.declared.seats.Seat.{Seat}
-use Rattle.scope.specs.declared.scope.Scoped.{Scoped}
-use Rattle.scope.specs.declared.scope.Scoped.the-variants.{Absent, Found}
+use Rattle.scope.specs.Steps.Links.{linkAt}
+use Rattle.scope.specs.declared.links.Link.{Link}
+use Rattle.scope.specs.declared.scope.Resolved.{Resolved}
+use Rattle.scope.specs.declared.scope.Resolved.the-variants.{Absent, Found}
 use Rattle.binder.specs.declared.turn.Turn.{Turn}
 use Rattle.binder.specs.declared.report.Progress.{Progress}
 use Rattle.binder.specs.Steps.Relocating.{left, wrote, noted, withArena, withReport, unresolvedOf, copyBytes, copyOf}
@@ -22,7 +22,7 @@ use Rattle.binder.proofs.copy.copy_answer.Reads as reads
 use Rattle.binder.proofs.copy.copy_answer.Lts as lts
 use Rattle.binder.proofs.copy.copy_found.Reads as copy-found-reads
 use Rattle.binder.proofs.report.unresolved.Reads as unresolved-reads
-use Rattle.scope.proofs.seats.seat_at.Reads as seat-at-reads
+use Rattle.scope.proofs.links.link_at.Reads as link-at-reads
 use Rattle.words.proofs.bytes.smaller.Reads as smaller-reads
 
 module _
@@ -32,7 +32,7 @@ module _
     (e : Rela)
     (i : ℕ)
     (y : Symbol)
-    {s : Scoped}
+    {s : Resolved}
     (p : Progress)
     (a report : List ℕ)
   where
@@ -43,8 +43,8 @@ module _
     absent is g = rw is (ap (withArena a) g)
 
     found :
-        {q : Progress} {a′ : List ℕ} {n : ℕ} {at : Seat} (k : ℕ) (d : Definition) (x : ℕ) → s ≡ Found k d x → n ≡ min (y .size) (d .size)
-        → at ≡ seatAt table k → wrote q a′ ≡ copyBytes t ss (e .place) at d n p a
+        {q : Progress} {a′ : List ℕ} {n : ℕ} {at : Link} (k : ℕ) (d : Definition) (x : ℕ) → s ≡ Found k d x → n ≡ min (y .size) (d .size)
+        → at ≡ linkAt table k → wrote q a′ ≡ copyBytes t ss (e .place) at d n p a
         → left q a′ report ≡ copyOf table t ss e i y s p a report
     unfolding copyOf
     found k d x is z l g = rw (is, ← z, ← l) (ap (withReport report) g)
@@ -69,8 +69,8 @@ returns c =
 smaller-requires : tie.Need-smaller-requires
 smaller-requires c κs = search needs
 
-seat-at-requires : tie.Need-seat-at-requires
-seat-at-requires c κs = search needs
+link-at-requires : tie.Need-link-at-requires
+link-at-requires c κs = search needs
 
 copy-found-requires : tie.Need-copy-found-requires
 copy-found-requires c κs = search needs
@@ -82,7 +82,7 @@ returns-2 : tie.Need-returns-2
 returns-2 c =
     let a = c .before .before .before .before .before .before .before .before .before .before .before .before .args in
     let g = c .before .before .before .before .before .before .before .s .given in
-    found (now (a .table)) (a .t) (take (a .b .count) (a .b .segments)) (a .e) (a .i) (a .y) (a .p) (now (a .arena)) (now (a .report)) (g .0 .0) (g .0 .1 .0) (g .0 .1 .1 .0) (g .1) (c .before .before .before .before .before .smaller .ensures) (c .before .before .before .before .seat-at .ensures) (c .before .before .copy-found .ensures)
+    found (now (a .table)) (a .t) (take (a .b .count) (a .b .segments)) (a .e) (a .i) (a .y) (a .p) (now (a .arena)) (now (a .report)) (g .0 .0) (g .0 .1 .0) (g .0 .1 .1 .0) (g .1) (c .before .before .before .before .before .smaller .ensures) (c .before .before .before .before .link-at .ensures) (c .before .before .copy-found .ensures)
 
 pub copy-answer-spec : {M : Type 1} → statement M
 copy-answer-spec =
@@ -94,7 +94,7 @@ copy-answer-spec =
     same-length
     returns
     smaller-requires
-    seat-at-requires
+    link-at-requires
     copy-found-requires
     same-length-2
     returns-2)

@@ -6,7 +6,7 @@ use lib.Dec.{leb}
 use native.Mathlib.Omega.{arith}
 use borrow.Author.Tests.{leb-true, leb-false, le-leb, lt-leb, not-true, not-false}
 use Rattle.object.specs.declared.hash_tables.Definition.{Definition}
-use Rattle.scope.specs.declared.seats.Seat.{Seat}
+use Rattle.scope.specs.declared.links.Link.{Link}
 use Rattle.binder.specs.declared.turn.Turn.{Turn}
 use Rattle.binder.specs.Steps.Relocating.{copyFits}
 use borrow.Author.Needs.{needs}
@@ -31,7 +31,7 @@ sums-fit : (x y n size : ℕ) → x + y + n ≤ size → size < 2 ^ 64 → x + y
 sums-fit x y n size h k = omega arith
 
 -- the tests, in order
-module _ (size : ℕ) (t : Turn) (to : ℕ) (s : Seat) (d : Definition) (n : ℕ) where
+module _ (size : ℕ) (t : Turn) (to : ℕ) (s : Link) (d : Definition) (n : ℕ) where
   not-placed : d .absolute ≡ true → false ≡ copyFits size t to s d n
   unfolding copyFits
   not-placed a = rw a refl

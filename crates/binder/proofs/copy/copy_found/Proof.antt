@@ -14,7 +14,7 @@ use Rattle.words.proofs.Choice.{both-true, either-true}
 use Rattle.object.specs.TableBytes.{inWritable}
 use Rattle.object.specs.declared.program_header.Segment.{Segment}
 use Rattle.object.specs.declared.hash_tables.Definition.{Definition}
-use Rattle.scope.specs.declared.seats.Seat.{Seat}
+use Rattle.scope.specs.declared.links.Link.{Link}
 use Rattle.binder.specs.declared.turn.Turn.{Turn}
 use Rattle.binder.specs.declared.report.Progress.{Progress}
 use Rattle.binder.specs.Steps.Relocating.{wrote, refusedBy, copyFits, CopyApart, copyBytes}
@@ -30,7 +30,7 @@ use Rattle.object.proofs.table_bytes.in_writable.Reads as in-writable-reads
 
 -- what passes the tests is inside, and apart
 fits-apart :
-    (size : ℕ) (t : Turn) (to : ℕ) (s : Seat) (d : Definition) (n : ℕ) → copyFits size t to s d n ≡ true
+    (size : ℕ) (t : Turn) (to : ℕ) (s : Link) (d : Definition) (n : ℕ) → copyFits size t to s d n ≡ true
     → CopyApart size (t .offset + to) (s .offset + d .value) n
 unfolding copyFits
 fits-apart size t to s d n h =
@@ -48,7 +48,7 @@ sum-fits : (x n size : ℕ) → x + n ≤ size → size < 2 ^ 64 → x < 2 ^ 64
 sum-fits x n size h k = omega arith
 
 -- the four ends
-module _ (t : Turn) (ss : List Segment) (to : ℕ) (s : Seat) (d : Definition) (n : ℕ) (p : Progress) (a : List ℕ) where
+module _ (t : Turn) (ss : List Segment) (to : ℕ) (s : Link) (d : Definition) (n : ℕ) (p : Progress) (a : List ℕ) where
   nothing : n ≡ 0 → wrote p a ≡ copyBytes t ss to s d n p a
   unfolding copyBytes
   nothing z = rw (eq-eqb _ _ z) refl

@@ -33,7 +33,7 @@ loop-again c =
       omega arith,
       λ few e.
           fill-next (inputsIn (now (a .bytes)) (a .parts)) (a .parts .count) (now (a .arena)) (now (a .table)) (c .before .before .before .before .before .before .before .before .before .loop .k) (c .before .before .before .before .before .before .before .before .before .loop .needs) _
-          (c .before .before .before .before .before .before .before .seat-at .result) _ _ (omega arith) (c .before .before .before .before .before .before .before .before .loop-test .taken) (omega arith) (omega arith) (c .before .before .before .before .before .before .before .seat-at .ensures)
+          (c .before .before .before .before .before .before .before .link-at .result) _ _ (omega arith) (c .before .before .before .before .before .before .before .before .loop-test .taken) (omega arith) (omega arith) (c .before .before .before .before .before .before .before .link-at .ensures)
           (c .before .before .before .before .part-of .ensures) (c .before .before .before .file-of .ensures) (c .before .before .put-needs .ensures) few (c .before .before .before .before .before .before .before .before .before .loop .inv .3 few e),
     )
 

@@ -13,7 +13,7 @@ use Rattle.binder.proofs.prepare.load_all.Tie as tie
 use Rattle.binder.proofs.prepare.load_all.Reads as reads
 use Rattle.binder.proofs.prepare.load_all.Lts as lts
 use Rattle.binder.proofs.prepare.load_next.Reads as load-next-reads
-use Rattle.scope.proofs.seats.put_seat.Reads as put-seat-reads
+use Rattle.scope.proofs.links.put_link.Reads as put-link-reads
 use Rattle.sheet.proofs.sheet.file_of.Reads as file-of-reads
 
 abbrev Inv-loop : tie.InvT-loop
@@ -57,8 +57,8 @@ returns c =
 enum-known-p-2 : tie.Need-enum-known-p-2 Inv-loop μ-loop
 enum-known-p-2 c = search needs
 
-put-seat-requires : tie.Need-put-seat-requires Inv-loop μ-loop
-put-seat-requires c κs = search needs
+put-link-requires : tie.Need-put-link-requires Inv-loop μ-loop
+put-link-requires c κs = search needs
 
 add-free : tie.Need-add-free Inv-loop μ-loop
 add-free c =
@@ -83,11 +83,11 @@ loop-again : tie.Need-loop-again Inv-loop μ-loop
 loop-again c =
     let a = c .before .before .before .before .before .before .before .before .before .before .before .before .before .before .before .before .before .before .args in
     let room : 1024 ≤ length (c .before .before .before .before .before .before .before .before .before .before .before .before .before .before .loop .table) = omega (arith, c .before .before .before .before .before .before .before .before .before .before .before .before .before .before .before .before .before .before .pre .2, c .before .before .before .before .before .before .before .before .before .before .before .before .before .before .loop .inv .0) in (
-      c .before .before .before .put-seat .kept .0 ∙ c .before .before .before .before .before .before .before .before .before .before .before .before .before .before .loop .inv .0,
+      c .before .before .before .put-link .kept .0 ∙ c .before .before .before .before .before .before .before .before .before .before .before .before .before .before .loop .inv .0,
       c .before .before .before .before .before .before .before .before .before .before .before .before .before .before .loop .inv .1,
       load-turn (inputsIn (now (a .bytes)) (a .parts)) (a .address) (now (a .arena)) (c .before .before .before .before .before .before .before .before .before .before .before .before .before .before .loop .arena) (c .before .before .before .before .before .before .before .before .before .before .before .before .before .before .loop .table) (c .before .before .before .before .before .before .before .before .before .before .before .before .before .before .loop .free) (c .before .before .before .before .before .before .before .before .before .before .before .before .before .before .loop .k) (c .before .before .before .before .before .before .before .before .before .before .before .before .before .before .loop .inv .2) (omega (arith, c .before .before .before .before .before .before .before .before .before .before .before .before .before .before .loop .inv .1)) (c .before .before .before .before .before .before .before .before .before .before .load-next .last .0) (c .before .before .before .before .before .before .before .before .before .before .load-next .result)
           (rw (c .before .before .before .before .before .before .before .before .before .before .before .before .file-of .ensures) at (c .before .before .before .before .before .before .before .before .before .before .load-next .ensures)) (c .before .before .before .before .before .before .p2 .given .0 .0) (c .before .before .before .before .before .before .p2 .given .1) (c .before .before .before .before .before .before .before .before .before .before .load-next .kept .0) _
-          (c .before .before .before .put-seat .ensures .1 .0 (omega (arith, c .before .before .before .before .before .before .before .before .before .before .before .before .before .before .before .before .before .before .pre .0, room))) (c .before .before .before .put-seat .ensures .1 .1 .0) (c .before .before .before .put-seat .ensures .1 .1 .1 (omega (arith, c .before .before .before .before .before .before .before .before .before .before .before .before .before .before .before .before .before .before .pre .0, room))),
+          (c .before .before .before .put-link .ensures .1 .0 (omega (arith, c .before .before .before .before .before .before .before .before .before .before .before .before .before .before .before .before .before .before .pre .0, room))) (c .before .before .before .put-link .ensures .1 .1 .0) (c .before .before .before .put-link .ensures .1 .1 .1 (omega (arith, c .before .before .before .before .before .before .before .before .before .before .before .before .before .before .before .before .before .before .pre .0, room))),
     )
 
 sub-zero : tie.Need-sub-zero Inv-loop μ-loop
@@ -126,7 +126,7 @@ load-all-spec =
     same-length-2
     returns
     enum-known-p-2
-    put-seat-requires
+    put-link-requires
     add-free
     add-k
     loop-less

@@ -1,6 +1,6 @@
 -- `binder::prepare::load_at` meets its contract. Assumes nothing.
 use denote.Ref.{now}
-use Rattle.binder.proofs.PrepareLaws.{refusal-at, seated-at}
+use Rattle.binder.proofs.PrepareLaws.{refusal-at, linked-at}
 use borrow.Author.Needs.{needs}
 use Rattle.binder.proofs.prepare.load_at.Statement.{statement}
 use Rattle.binder.proofs.prepare.load_at.Tie as tie
@@ -38,7 +38,7 @@ same-length-2 c = search needs
 returns-2 : tie.Need-returns-2
 returns-2 c =
     let a = c .before .before .before .before .before .before .before .before .before .args in
-    seated-at (a .host) (now (a .file)) (a .off) (now (a .arena)) (c .before .before .before .before .before .load .last .0) (c .before .before .before .before .before .load .result) (c .before .before .before .before .before .load .ensures) (c .view-of .result) (c .before .before .before .before .before .before .before .before .before .pre .0) (c .before .before .if1 .left) (c .view-of .ensures)
+    linked-at (a .host) (now (a .file)) (a .off) (now (a .arena)) (c .before .before .before .before .before .load .last .0) (c .before .before .before .before .before .load .result) (c .before .before .before .before .before .load .ensures) (c .view-of .result) (c .before .before .before .before .before .before .before .before .before .pre .0) (c .before .before .if1 .left) (c .view-of .ensures)
 
 pub load-at-spec : {M : Type 1} → statement M
 load-at-spec =

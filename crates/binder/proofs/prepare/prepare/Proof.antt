@@ -24,7 +24,7 @@ returns-3 : tie.Need-returns-3
 returns-3 c =
     let a = c .before .before .before .before .before .before .before .before .before .args in
     prepare-three (inputsIn (now (a .bytes)) (a .parts)) (a .address) (now (a .arena)) (omega (arith, c .before .before .before .before .before .before .before .before .before .pre .1, c .before .before .before .before .if1 .left))
-    (sym (c .before .before .before .arena-ok .ensures) ∙ not-false _ (c .before .before .if2 .left)) (c .before .twin .result) (c .before .twin .ensures .0) (c .if3 .taken) _ _
+    (sym (c .before .before .before .arena-ok .ensures) ∙ not-false _ (c .before .before .if2 .left)) (c .before .duplicate .result) (c .before .duplicate .ensures .0) (c .if3 .taken) _ _
 
 load-all-requires : tie.Need-load-all-requires
 load-all-requires c κs =
@@ -36,7 +36,7 @@ returns-4 : tie.Need-returns-4
 returns-4 c =
     let a = c .before .before .before .before .before .before .before .before .before .before .before .before .before .before .before .before .args in
     prepare-loads (inputsIn (now (a .bytes)) (a .parts)) (a .address) (now (a .arena)) (omega (arith, c .before .before .before .before .before .before .before .before .before .before .before .before .before .before .before .before .pre .1, c .before .before .before .before .before .before .before .before .before .before .before .if1 .left))
-    (sym (c .before .before .before .before .before .before .before .before .before .before .arena-ok .ensures) ∙ not-false _ (c .before .before .before .before .before .before .before .before .before .if2 .left)) (sym (c .before .before .before .before .before .before .before .before .twin .ensures .0) ∙ c .before .before .before .before .before .before .before .if3 .left) _ _ _ (c .before .before .before .before .load-all .ensures)
+    (sym (c .before .before .before .before .before .before .before .before .before .before .arena-ok .ensures) ∙ not-false _ (c .before .before .before .before .before .before .before .before .before .if2 .left)) (sym (c .before .before .before .before .before .before .before .before .duplicate .ensures .0) ∙ c .before .before .before .before .before .before .before .if3 .left) _ _ _ (c .before .before .before .before .load-all .ensures)
 
 pub prepare-spec : {M : Type 1} → statement M
 prepare-spec =

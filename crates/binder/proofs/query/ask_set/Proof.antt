@@ -5,7 +5,7 @@ use native.Mathlib.Omega.{arith}
 use denote.Ref.{now}
 use lib.ListN.{length, replicate}
 use Rattle.sheet.specs.Steps.Parts.{inputsIn}
-use Rattle.scope.specs.declared.scope.Scoped.{Scoped}
+use Rattle.scope.specs.declared.scope.Resolved.{Resolved}
 use Rattle.binder.specs.Steps.ScopeModel.{scopedOf}
 use Rattle.binder.specs.Bind.{replied, replyOf}
 use Rattle.binder.specs.declared.Reply.the-variants.{Refused}
@@ -51,7 +51,7 @@ returns-3 c =
     let a = c .before .before .before .before .before .before .before .before .before .before .before .before .before .before .before .before .before .args in
     asked (inputsIn (now (a .bytes)) (a .parts)) (a .parts .count) (now (a .arena)) (c .before .before .before .before .before .before .before .before .before .before .before .prepare .last .1 .1 .0) (c .before .before .before .before .before .before .before .before .before .before .before .prepare .last .1 .1 .1 .1 .0) (a .address) (a .requester) (now (a .name))
     (c .before .before .before .before .before .before .before .before .before .before .before .prepare .result) (c .before .before .before .before .before .before .before .before .before .before .before .before .before .before .before .before .before .pre .1) (c .before .before .before .before .before .before .before .before .before .before .before .prepare .ensures) (c .before .before .before .before .before .before .enum-told .given .1) (omega (arith, c .before .before .before .before .before .if1 .left)) (c .before .before .before .before .before .before .before .before .before .before .before .prepare .kept .1 .1 .0) (c .reply-of .result)
-    (c .reply-of .ensures ∙ ap (λ (s : Scoped). replyOf (scopedOf s)) (rw (c .before .before .before .before .gnu-hash .ensures) at (c .before .resolve .ensures)))
+    (c .reply-of .ensures ∙ ap (λ (s : Resolved). replyOf (scopedOf s)) (rw (c .before .before .before .before .gnu-hash .ensures) at (c .before .resolve .ensures)))
 
 pub ask-set-spec : {M : Type 1} → statement M
 ask-set-spec =

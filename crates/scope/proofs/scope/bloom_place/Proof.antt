@@ -5,7 +5,7 @@ use native.Mathlib.Nat.{mod-le}
 use native.Mathlib.Omega.{arith}
 use borrow.Author.Needs.{needs}
 use lib.Pow.{pow-pos}
-use Rattle.scope.proofs.SeatLaws.{bit}
+use Rattle.scope.proofs.LinkLaws.{bit}
 use Rattle.scope.proofs.scope.bloom_place.Statement.{statement}
 use Rattle.scope.proofs.scope.bloom_place.Tie as tie
 

@@ -5,7 +5,7 @@ use borrow.Author.Needs.{needs}
 use denote.Ref.{now}
 use Rattle.words.specs.Memory.{mem}
 use Rattle.words.specs.Words.{leAt}
-use Rattle.scope.specs.Steps.Seats.{wordAt, seatAt}
+use Rattle.scope.specs.Steps.Links.{wordAt, linkAt}
 use Rattle.scope.proofs.BloomLaws.{untold, lacks-name}
 use Rattle.scope.proofs.scope.rules_out.Statement.{statement}
 use Rattle.scope.proofs.scope.rules_out.Tie as tie
@@ -17,7 +17,7 @@ returns-4 c =
     let k = a .k in
     λ h. lacks-name (now (a .arena)) (a .gnu) (c .before .before .u64-in .result) (wordAt t k 10) (wordAt t k 11) (wordAt t k 12) (c .before .before .before .before .before .before .if1 .left)
     (c .before .before .u64-in .ensures ∙ ap (λ (n : ℕ). leAt 8 (mem (now (a .arena))) (wordAt t k 10 % 2 ^ 32 + n)) (c .before .before .before .before .bloom-place .ensures .0))
-    (c .if3 .left) (seatAt t k) (c .before .before .before .before .before .before .before .before .before .before .pre .2)
+    (c .if3 .left) (linkAt t k) (c .before .before .before .before .before .before .before .before .before .before .pre .2)
 
 pub rules-out-spec : {M : Type 1} → statement M
 rules-out-spec =

@@ -4,7 +4,7 @@ use mathlib.Core.Path.{_≡_, refl, ap, _∙_}
 use native.Mathlib.Omega.{arith}
 use borrow.Author.Needs.{needs}
 use denote.Ref.{now}
-use Rattle.scope.proofs.ScopeLaws.{rest, scan-hit, scan-miss, scan-end, skip, seat-any}
+use Rattle.scope.proofs.ScopeLaws.{rest, scan-hit, scan-miss, scan-end, skip, link-any}
 use Rattle.words.specs.Hash.{elfHash}
 use Rattle.scope.proofs.scope.scan.Statement.{statement}
 use Rattle.scope.proofs.scope.scan.Tie as tie
@@ -33,7 +33,7 @@ returns-2 c =
     let a = c .before .before .before .before .before .before .before .before .before .before .before .args in
     let k = c .before .before .before .before .before .before .loop .k in
     let e = elfHash (now (a .name)) in
-    let here = c .before .before .seat-answer .ensures ∙ seat-any (now (a .arena)) (now (a .table)) k (now (a .name)) (a .gnu) 0 e (λ one. absurd (c .before .before .before .if1 .left (c .before .before .before .before .word .ensures ∙ one))) (a .address) in
+    let here = c .before .before .link-answer .ensures ∙ link-any (now (a .arena)) (now (a .table)) k (now (a .name)) (a .gnu) 0 e (λ one. absurd (c .before .before .before .if1 .left (c .before .before .before .before .word .ensures ∙ one))) (a .address) in
     scan-hit (a .address) (now (a .arena)) (now (a .table)) (now (a .name)) (a .gnu) e k (a .count) (c .before .before .before .before .before .loop-test .taken) here (c .enum-told2 .given .1) (c .before .before .before .before .before .before .loop .inv)
 
 loop-less : tie.Need-loop-less Inv-loop μ-loop
@@ -45,7 +45,7 @@ loop-again c =
     let a = c .before .before .before .before .before .before .before .before .before .before .before .before .args in
     let k = c .before .before .before .before .before .before .before .loop .k in
     let e = elfHash (now (a .name)) in
-    let here = c .before .before .before .seat-answer .ensures ∙ seat-any (now (a .arena)) (now (a .table)) k (now (a .name)) (a .gnu) 0 e (λ one. absurd (c .before .before .before .before .if1 .left (c .before .before .before .before .before .word .ensures ∙ one))) (a .address) in
+    let here = c .before .before .before .link-answer .ensures ∙ link-any (now (a .arena)) (now (a .table)) k (now (a .name)) (a .gnu) 0 e (λ one. absurd (c .before .before .before .before .if1 .left (c .before .before .before .before .before .word .ensures ∙ one))) (a .address) in
     skip (a .address) (now (a .arena)) (now (a .table)) (now (a .name)) (a .gnu) e (k + 1) (c .candidate2 .result) (a .count) (c .candidate2 .ensures)
     (scan-miss (a .address) (now (a .arena)) (now (a .table)) (now (a .name)) (a .gnu) e k (a .count) (c .before .before .before .before .before .before .loop-test .taken) here (c .before .enum-told .given .1) (c .before .before .before .before .before .before .before .loop .inv))
 

@@ -23,7 +23,7 @@ loop-holds c =
 returns : tie.Need-returns Inv-loop μ-loop
 returns c =
     let a = c .before .before .before .before .before .before .before .before .args in
-    scan-hit (a .address) (now (a .arena)) (now (a .table)) (now (a .name)) (a .gnu) (a .elf) (c .before .before .before .before .loop .k) (a .count) (c .before .before .before .loop-test .taken) (c .before .before .seat-answer .ensures) (c .enum-told2 .given .1) (c .before .before .before .before .loop .inv)
+    scan-hit (a .address) (now (a .arena)) (now (a .table)) (now (a .name)) (a .gnu) (a .elf) (c .before .before .before .before .loop .k) (a .count) (c .before .before .before .loop-test .taken) (c .before .before .link-answer .ensures) (c .enum-told2 .given .1) (c .before .before .before .before .loop .inv)
 
 loop-less : tie.Need-loop-less Inv-loop μ-loop
 loop-less c =
@@ -34,7 +34,7 @@ loop-again c =
     let a = c .before .before .before .before .before .before .before .before .before .args in
     let k = c .before .before .before .before .before .loop .k in
     skip (a .address) (now (a .arena)) (now (a .table)) (now (a .name)) (a .gnu) (a .elf) (k + 1) (c .candidate .result) (a .count) (c .candidate .ensures)
-    (scan-miss (a .address) (now (a .arena)) (now (a .table)) (now (a .name)) (a .gnu) (a .elf) k (a .count) (c .before .before .before .before .loop-test .taken) (c .before .before .before .seat-answer .ensures) (c .before .enum-told .given .1) (c .before .before .before .before .before .loop .inv))
+    (scan-miss (a .address) (now (a .arena)) (now (a .table)) (now (a .name)) (a .gnu) (a .elf) k (a .count) (c .before .before .before .before .loop-test .taken) (c .before .before .before .link-answer .ensures) (c .before .enum-told .given .1) (c .before .before .before .before .before .loop .inv))
 
 returns-2 : tie.Need-returns-2 Inv-loop μ-loop
 returns-2 c =
