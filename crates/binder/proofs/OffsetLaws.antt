@@ -1,14 +1,12 @@
 -- Where an object goes: at or after the next free offset, at a multiple of its alignment in address, less than its alignment behind; and
 -- within the arena, where it is loaded. Assumes nothing.
-use mathlib.Core.Path.{_≡_, refl, sym, ap, _∙_}
+use mathlib.Core.Path.{_≡_, refl, ap, _∙_}
 use mathlib.Core.Bool.{Bool, true, false}
 use mathlib.Core.List.{List}
 use Prim.Native.Nat.{ℕ, _+_, _-_, _*_, _/_, _%_, _≤_, _<_}
 use native.Mathlib.Omega.{arith}
 use native.Mathlib.Nat.{lt-div-mul-add, div-mul-le-self, mul-mod-left, div-add-mod', mod-lt, add-mul, one-mul}
 use lib.Arith.{digits-div}
-use Rattle.words.specs.Choice.{pick}
-use Rattle.model.specs.Objects.{Obj}
 use Rattle.object.specs.Placed.{objectSpan, objectAlign, segmentsOf, placeRefusal}
 use Rattle.object.specs.Placed as placing
 use Rattle.object.specs.Loaded.{objectRefusal}

@@ -44,7 +44,7 @@ use Rattle.binder.specs.declared.prepare.Loaded.{Loaded}
 use Rattle.binder.specs.declared.prepare.Loaded as loads
 use Rattle.binder.proofs.OutcomeLaws.{refused-not, first-passed, unless-passed}
 use Rattle.binder.proofs.LoadsSame.{loads-same}
-use Rattle.binder.proofs.OffsetLaws.{aligned-some, next-after, offset-after, link-fits}
+use Rattle.binder.proofs.OffsetLaws.{offset-after}
 
 -- ---- one object
 

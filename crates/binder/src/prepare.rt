@@ -75,7 +75,13 @@ fn load_next(arena: &mut [u8], address: u64, free: usize, file: &[u8], host: boo
 
 // Loads the objects that the table of parts names, one after another, writes zeros between them and behind the last, and fills the table of
 // links.
-fn load_all(bytes: &[u8], parts: Parts, arena: &mut [u8], address: u64, table: &mut [u64]) -> Verdict
+fn load_all(
+    bytes: &[u8],
+    parts: Parts,
+    arena: &mut [u8],
+    address: u64,
+    table: &mut [u64],
+) -> Verdict
     requires { ⌜ (parts .count ≤ 64) × (length (inputsIn (now bytes) parts) ≡ parts .count) × (1024 ≤ length (now table)) × (length (now arena) ≤ 2 ^ 28) × (address + length (now arena) ≤ 2 ^ 63) ⌝ }
     ensures { λ r. ⌜ LoadedFiles (settingAt address) (filesOf (inputsIn (now (bytes .entry)) parts)) (now (arena .entry)) (now (arena .exit)) (now (table .exit)) r ⌝ }
 {

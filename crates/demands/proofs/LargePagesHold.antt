@@ -1,8 +1,8 @@
 -- The objects of a set that is not refused stand as document 02, (a), says. Assumes nothing.
 use mathlib.Core.Path.{_≡_, refl, sym, ap, _∙_, subst}
-use mathlib.Core.Bool.{true, false}
+use mathlib.Core.Bool.{false}
 use mathlib.Core.List.{List, [], _∷_, map}
-use Prim.Native.Nat.{ℕ, zero, suc, _+_, _≤_, _<_}
+use Prim.Native.Nat.{ℕ, zero, suc, _+_, _<_}
 use native.Mathlib.Omega.{arith}
 use borrow.Author.Tests.{ne-eqb}
 use lib.ListN.{length, getD, length-map}
@@ -14,7 +14,7 @@ use Rattle.object.specs.Placed.{objectAlign}
 use Rattle.sheet.specs.Sheet.{Input, noInput, setOf}
 use Rattle.sheet.proofs.SheetLonger.{sheet-shape}
 use Rattle.binder.specs.Setting.{Setting}
-use Rattle.binder.specs.Instance.{File, objectAt, nextOffset, offsetOf, objectFrom}
+use Rattle.binder.specs.Instance.{File, objectAt, nextOffset, objectFrom}
 use Rattle.binder.specs.Verdict.{noFile}
 use Rattle.binder.specs.declared.Verdict.the-variants.{Passed}
 use Rattle.binder.specs.Steps.Prepared.{loadFrom}

@@ -32,11 +32,11 @@ twice-power zero b e =
 twice-power (suc k) b e =
     ⊎-elim
     (λ (t : eqb b (2 ^ suc k) ≡ true).
-        let o : b ≡ 2 ^ suc k = eqb-true b (2 ^ suc k) t in
-        let d : b + b ≡ 2 ^ suc (suc k) = omega (arith, o, two-pow-succ (suc k)) in
-        rw (eq-eqb (b + b) (2 ^ suc (suc k)) d))
+    let o : b ≡ 2 ^ suc k = eqb-true b (2 ^ suc k) t in
+    let d : b + b ≡ 2 ^ suc (suc k) = omega (arith, o, two-pow-succ (suc k)) in
+    rw (eq-eqb (b + b) (2 ^ suc (suc k)) d))
     (λ (t : powerUpTo k b ≡ true).
-        either-right (eqb (b + b) (2 ^ suc (suc k))) (powerUpTo (suc k) (b + b)) (twice-power k b t))
+    either-right (eqb (b + b) (2 ^ suc (suc k))) (powerUpTo (suc k) (b + b)) (twice-power k b t))
     (either-true (eqb b (2 ^ suc k)) (powerUpTo k b) e)
 
 one-factor : (n q : ℕ) → n * q ≡ 1 → n ≡ 1
@@ -60,17 +60,17 @@ divisor-power zero n q e = eq-eqb n 1 (one-factor n q e)
 divisor-power (suc k) n q e =
     ⊎-elim
     (λ (h : q ≡ q / 2 + q / 2).
-        let d : n * q ≡ n * (q / 2) + n * (q / 2) = ap (λ (x : ℕ). n * x) h ∙ mul-add n (q / 2) (q / 2) in
-        let p : n * (q / 2) ≡ 2 ^ k = omega (arith, d, e, two-pow-succ k) in
-        either-right (eqb n (2 ^ suc k)) (powerUpTo k n) (divisor-power k n (q / 2) p))
+    let d : n * q ≡ n * (q / 2) + n * (q / 2) = ap (λ (x : ℕ). n * x) h ∙ mul-add n (q / 2) (q / 2) in
+    let p : n * (q / 2) ≡ 2 ^ k = omega (arith, d, e, two-pow-succ k) in
+    either-right (eqb n (2 ^ suc k)) (powerUpTo k n) (divisor-power k n (q / 2) p))
     (λ (h : q ≡ q / 2 + q / 2 + 1).
-        let d : n * q ≡ n * (q / 2) + n * (q / 2) + n =
-        ap (λ (x : ℕ). n * x) h
-        ∙ (mul-add n (q / 2 + q / 2) 1 ∙ rw (mul-add n (q / 2) (q / 2), mul-one n)) in
-        let b : n ≡ n / 2 + n / 2 = omega (arith, d, e, two-pow-succ k) in
-        let f : n * q ≡ n / 2 * q + n / 2 * q = ap (λ (x : ℕ). x * q) b ∙ add-mul (n / 2) (n / 2) q in
-        let p : n / 2 * q ≡ 2 ^ k = omega (arith, f, e, two-pow-succ k) in
-        ap (powerUpTo (suc k)) b ∙ twice-power k (n / 2) (divisor-power k (n / 2) q p))
+    let d : n * q ≡ n * (q / 2) + n * (q / 2) + n =
+    ap (λ (x : ℕ). n * x) h
+    ∙ (mul-add n (q / 2 + q / 2) 1 ∙ rw (mul-add n (q / 2) (q / 2), mul-one n)) in
+    let b : n ≡ n / 2 + n / 2 = omega (arith, d, e, two-pow-succ k) in
+    let f : n * q ≡ n / 2 * q + n / 2 * q = ap (λ (x : ℕ). x * q) b ∙ add-mul (n / 2) (n / 2) q in
+    let p : n / 2 * q ≡ 2 ^ k = omega (arith, f, e, two-pow-succ k) in
+    ap (powerUpTo (suc k)) b ∙ twice-power k (n / 2) (divisor-power k (n / 2) q p))
     (halves q)
 
 -- a power of two up to 2 ^ k divides it
@@ -81,9 +81,9 @@ power-divides (suc k) n e =
     ⊎-elim
     (λ (t : eqb n (2 ^ suc k) ≡ true). (1, mul-one n ∙ eqb-true n (2 ^ suc k) t))
     (λ (t : powerUpTo k n ≡ true).
-        let r = power-divides k n t in
-        let d : n * (r .0 + r .0) ≡ 2 ^ suc k = omega (arith, mul-add n (r .0) (r .0), r .1, two-pow-succ k) in
-        (r .0 + r .0, d))
+    let r = power-divides k n t in
+    let d : n * (r .0 + r .0) ≡ 2 ^ suc k = omega (arith, mul-add n (r .0) (r .0), r .1, two-pow-succ k) in
+    (r .0 + r .0, d))
     (either-true (eqb n (2 ^ suc k)) (powerUpTo k n) e)
 
 -- 21 and as many more
@@ -107,9 +107,9 @@ lower zero n e h = e
 lower (suc d) n e h =
     ⊎-elim
     (λ (t : eqb n (2 ^ suc (above d)) ≡ true).
-        let more : 21 < suc (above d) = omega (arith, above-low d) in
-        let big : 2 ^ 21 < 2 ^ suc (above d) = pow-lt more in
-        absurd (omega (arith, big, h, eqb-true n (2 ^ suc (above d)) t)))
+    let more : 21 < suc (above d) = omega (arith, above-low d) in
+    let big : 2 ^ 21 < 2 ^ suc (above d) = pow-lt more in
+    absurd (omega (arith, big, h, eqb-true n (2 ^ suc (above d)) t)))
     (λ (t : powerUpTo (above d) n ≡ true). lower d n t h)
     (either-true (eqb n (2 ^ suc (above d))) (powerUpTo (above d) n) e)
 

@@ -1,5 +1,4 @@
 -- `binder::prepare::load_next` meets its contract. Assumes nothing.
-use mathlib.Core.Path.{_≡_}
 use native.Mathlib.Omega.{arith}
 use denote.Ref.{now}
 use Rattle.binder.specs.Setting.{settingAt}
