@@ -33,7 +33,7 @@ unfolding after
 after-zero zero rest e = (refl, e)
 after-zero (suc n) rest e = absurd (omega arith)
 
--- two nchain, one after the other, are one
+-- two chains, one after the other, are one
 pub after-twice : (h : ℕ) (t : Bool) (rest : ℕ) → after (after h (require t 7 0)) rest ≡ after h (require t 7 rest)
 unfolding after require
 after-twice zero true rest = refl
