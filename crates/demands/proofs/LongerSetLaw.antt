@@ -24,7 +24,7 @@ use Rattle.binder.proofs.SoundLaws.{set-sound, set-fits}
 use Rattle.binder.proofs.OrderIs.{names-length, order-is}
 
 -- the two stages that a set passed, of its files and its libraries' names
-abbrev Loads : ℕ → ℕ → List File → Type 0
+abbrev Loads : Setting → ℕ → List File → Type 0
 Loads setting size files = loadFrom setting size 0 0 files ≡ Passed
 
 abbrev Relocates : Setting → List File → List (List ℕ) → Type 0
@@ -58,7 +58,7 @@ keeps setting size size′ h p fs f names names′ n n′ v w only v′ w′ =
 
 -- of any two sets of which the second is the first and one object more
 keeps-any :
-    (setting size size′ : ℕ) (os os′ : List Input) → Longer os os′ → Loads setting size (filesOf os)
+    (setting : Setting) (size size′ : ℕ) (os os′ : List Input) → Longer os os′ → Loads setting size (filesOf os)
     → Relocates setting (filesOf os) (namesOf os)
     → OnlyProgramCopies (objectsIn setting os)
     → Loads setting size′ (filesOf os′)
