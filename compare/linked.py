@@ -179,7 +179,7 @@ def hidden_twin(linker):
         int twin_old(void) { return 1; } int twin_new(void) { return 2; }
         int data_old[2] = {1, 2}; int data_new[2] = {3, 4};
         extern int twin(void); int call(void) { return twin(); }""", flags=["-Wl,--version-script=" + versions]))
-    o = Object(bytes(a), 1 << 20, False)
+    o = Object(bytes(a), lambda align: 1 << 20, False)
     for name in (b"twin", b"data"):
         (first, _), (_, _) = o.hits(name)
         a[o.symbols + 24 * first + 4] &= 0xF

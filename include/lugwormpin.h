@@ -6,7 +6,7 @@
  * - answer every call that keeps to "What the caller owes"; what they answer is proved, for any contents of the slices, refused calls too
  *   (crates/export/src/lib.rt, crates/export/specs/Calls.antt);
  * - keep no pointer, allocate nothing, have no global state, and may run in several threads at once over different memory;
- * - use about 52 KiB of stack (lugwormpin_bind) or 44 KiB (lugwormpin_query), whatever the set: the sum of the compiled frames;
+ * - use about 53 KiB of stack (lugwormpin_bind) or 45 KiB (lugwormpin_query), whatever the set: the sum of the compiled frames;
  * - end on every input, but a file can be made so that a call takes seconds (docs/BENCHMARKS.md): bound the size of files of unknown origin,
  *   or the time of the call.
  *
@@ -40,6 +40,7 @@ extern "C" {
  *                 there are over 16 PT_LOAD, or one of them has no memory, more file than memory, bytes past the file's end, an end over
  *                 2^28, offset and address that differ modulo 4,096, no read flag, zero fill without a write flag, or a page that another
  *                 one has too
+ *   21  not 0     after 7 and before 8: a PT_LOAD has a p_align that is not 0 and is no power of two, or is over 2,097,152
  *    8  any       it ends past the arena's end
  *    9  any       no PT_DYNAMIC, or its entries through the first of tag 0 are not inside the object
  *   10  any       no string table or no symbol table
@@ -57,8 +58,8 @@ extern "C" {
  *   19  not 0     the call is strict and an entry is undefined: the first such object in binding order
  *   20  0         the report is too short
  *
- * The first refusal in this order is answered: 4 to 12 object by object, 14 to 18 entry by entry in binding order. lugwormpin_bind answers
- * all but 13, lugwormpin_query 1 to 13. */
+ * The first refusal in this order is answered: 4 to 12 and 21 object by object, 14 to 18 entry by entry in binding order. lugwormpin_bind
+ * answers all but 13, lugwormpin_query 1 to 13 and 21. */
 #define LUGWORMPIN_NUMBER(answer) ((uint32_t)(answer))
 #define LUGWORMPIN_OBJECT(answer) ((uint32_t)((answer) >> 32))
 
@@ -67,7 +68,10 @@ extern "C" {
  * sheet, sheet_len    words of kind (top 4 bits) and length in bytes (low 28): kind 1 the host's image, kind 2 the program's file, then for
  *                     each library kind 3, its file, and kind 4, its name
  * bytes, bytes_len    those images, files and names, end to end, in the sheet's order
- * arena, arena_len    written: the image. Object after object, the host at offset 0, the rest 0. What stood there before does not matter
+ * arena, arena_len    written: the image. Object after object, the host at offset 0, the rest 0. What stood there before does not matter.
+ *                     Each object after the host starts at the next free offset where address + offset is a multiple of the largest p_align
+ *                     of its PT_LOAD headers (4,096 at least), so that a module built for pages of 2 MiB can be mapped with them, at
+ *                     `address`: its first byte stands at such a page. Bytes between objects are 0; an added library moves no other
  * address             the address at which the arena will be mapped
  * strict              0: lenient, undefined entries are reported. Any other number: strict, they are refused (19)
  * report, report_len  written: for each object in binding order 0x50000000 + its number, then for its entries 0x60000000 + entry number

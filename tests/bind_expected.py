@@ -28,7 +28,7 @@ def parts_of(data):
 
 
 class Set:
-    """A set that meets no refusal up to 12."""
+    """A set that meets no refusal up to 12, nor 21."""
 
     def __init__(self, data):
         files, self.names = parts_of(data)
@@ -37,12 +37,17 @@ class Set:
                 raise Stop(3, 2 + k)
         self.objects, self.offsets, self.arena = [], [], bytearray()
         for k, file in enumerate(files):
+
+            def offset(align):
+                return len(self.arena) if k == 0 else -(-(ADDRESS + len(self.arena)) // align) * align - ADDRESS
+
             try:
-                o = Object(file, ARENA - len(self.arena), k == 0)
+                o = Object(file, lambda align: ARENA - offset(align), k == 0)
             except Refused as refusal:
                 raise Stop(refusal.args[0], k) from None
             self.objects.append(o)
             o.dynamic = [s.vaddr for s in headers(file)[1] if s.type == 2][-1]
+            self.arena += bytes(offset(o.align) - len(self.arena))
             self.offsets.append(len(self.arena))
             self.arena += o.image
         self.arena += bytes(ARENA - len(self.arena))

@@ -168,7 +168,7 @@ fn compare(set: &Set, rust: &mut Rust, random: &mut Random, counts: &mut Counts)
         }
     }
     match (bound, asked) {
-        (Err(a), Err(b)) if a == b && a.0 <= 12 => {
+        (Err(a), Err(b)) if a == b && (a.0 <= 12 || a.0 == 21) => {
             if placed.iter().any(|&byte| byte != 0) {
                 return differs("refused", format!("query: {a:?}, and the arena is not clear"));
             }
@@ -179,7 +179,7 @@ fn compare(set: &Set, rust: &mut Rust, random: &mut Random, counts: &mut Counts)
         _ => return differs("bind and query", format!("bind: {bound:?}, query: {asked:?}")),
     }
 
-    let objects = reader::objects(&set.sheet, &set.bytes, &placed);
+    let objects = reader::objects(&set.sheet, &set.bytes, &placed, set.address);
     let names = library_names(set);
     let outside = if names.iter().all(|name| std::str::from_utf8(name).is_ok()) {
         objects.iter().find_map(|object| object.outside(set.address))

@@ -42,7 +42,7 @@ fn elf_hash(name: &[u8]) -> u32 {
 }
 
 /// The objects, from the placed arena.
-pub fn objects<'a>(sheet: &[u32], bytes: &[u8], arena: &'a [u8]) -> Vec<Object<'a>> {
+pub fn objects<'a>(sheet: &[u32], bytes: &[u8], arena: &'a [u8], address: u64) -> Vec<Object<'a>> {
     let (mut at, mut offset) = (0, 0);
     let mut out = Vec::new();
     for (i, word) in sheet.iter().enumerate() {
@@ -55,6 +55,10 @@ pub fn objects<'a>(sheet: &[u32], bytes: &[u8], arena: &'a [u8]) -> Vec<Object<'
         let heads: Vec<usize> =
             (0..number(file, 56, 2) as usize).map(|k| number(file, 32, 8) as usize + 56 * k).collect();
         let end = heads.iter().filter(|&&h| number(file, h, 4) == 1).map(|&h| number(file, h + 16, 8) + number(file, h + 40, 8)).max();
+        let align = heads.iter().filter(|&&h| number(file, h, 4) == 1).map(|&h| number(file, h + 48, 8)).fold(4096, u64::max);
+        if i != 0 {
+            offset = ((address + offset as u64).next_multiple_of(align) - address) as usize;
+        }
         let span = if i == 0 { size } else { end.unwrap_or(0).div_ceil(4096) as usize * 4096 };
         let dynamic = heads.iter().rev().find(|&&h| number(file, h, 4) == 2).map_or(0, |&h| number(file, h + 16, 8) as usize);
         let segments = heads.iter().filter(|&&h| number(file, h, 4) == 1).count();

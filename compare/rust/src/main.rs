@@ -156,6 +156,15 @@ fn definer<'a>(scope: impl Iterator<Item = &'a Numbered<'a>>, name: &str) -> Opt
     None
 }
 
+/// Where the port puts an object (document 02, a): the least offset from the next free one on whose address is a multiple of the largest p_align
+/// of its PT_LOAD headers. The Rust maps an object wherever the kernel does.
+fn aligned(file: &[u8], address: usize, next: usize) -> usize {
+    let number = |at: usize, width: usize| (0..width).rev().fold(0, |sum, i| sum << 8 | *file.get(at + i).unwrap_or(&0) as usize);
+    let heads = (0..number(56, 2)).map(|i| number(32, 8) + 56 * i);
+    let align = heads.filter(|&head| number(head, 4) == 1).map(|head| number(head + 48, 8)).fold(4096, usize::max);
+    (address + next).next_multiple_of(align) - address
+}
+
 unsafe fn child(shared: &Shared) {
     let (address, length) = (shared.get(ADDRESS) as usize, shared.get(ARENA) as usize);
     let count = shared.get(WORDS) as usize;
@@ -194,6 +203,7 @@ unsafe fn child(shared: &Shared) {
     let load = |number: usize, bytes: &[u8]| -> Option<ObjectData> {
         shared.set(STAGE, LOADING + number as u64);
         let file = file_of(bytes);
+        syscall::ARENA.next = aligned(bytes, address, syscall::ARENA.next);
         syscall::ARENA.armed = true;
         let result = ObjectData::from_file(file);
         syscall::ARENA.armed = false;

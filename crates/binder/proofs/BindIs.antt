@@ -19,7 +19,7 @@ use Rattle.sheet.specs.Steps.Parts.{inputsIn, Tabled}
 use Rattle.sheet.specs.declared.sheet.Parts.{Parts}
 use Rattle.sheet.proofs.PartLaws.{handed-in}
 use Rattle.binder.specs.Setting.{Setting}
-use Rattle.binder.specs.Instance.{File, objectAt}
+use Rattle.binder.specs.Instance.{File, objectFrom}
 use Rattle.binder.specs.Verdict.{noFile, orderVerdict}
 use Rattle.binder.specs.declared.Verdict.{Verdict}
 use Rattle.binder.specs.declared.Verdict.the-variants.{Passed, Refused}
@@ -93,7 +93,7 @@ filled n ws l = fits-in n n ws l (omega arith)
 
 module _ (setting : Setting) (size : ℕ) (table : List ℕ) (hf pf : File) (fs : List File) (policy : Policy) (order : List ℕ) (words : ℕ) where
   abbrev S : objects.Objs
-  S = objsOf (objectAt setting) hf pf fs
+  S = objsOf (objectFrom setting) hf pf fs
 
   abbrev files : List File
   files = hf ∷ (pf ∷ fs)
@@ -160,7 +160,7 @@ module _
     fs = map fileOf ls
 
     abbrev made-set : objects.Objs
-    made-set = objsOf (objectAt setting) (hostFile h) (fileOf p) fs
+    made-set = objsOf (objectFrom setting) (hostFile h) (fileOf p) fs
 
     many : objects.count made-set ≡ length ls + 2
     many =

@@ -2,6 +2,7 @@
 pub mod VisitSteps
 pub mod ArrangeSteps
 pub mod ArrangeUses
+pub mod OffsetLaws
 pub mod PrepareLaws
 pub mod OutcomeLaws
 pub mod FileLaws

@@ -26,7 +26,7 @@ use Rattle.object.specs.Loaded as loading
 use Rattle.object.specs.Loaded.{objectRefusal}
 use Rattle.object.proofs.RefusalLaws.{required, after-zero}
 use Rattle.sheet.specs.Sheet.{Input, noInput}
-use Rattle.binder.specs.Instance.{File, fileImage, fileRecord, objectAt}
+use Rattle.binder.specs.Instance.{File, fileImage, fileRecord, objectFrom, offsetOf}
 use Rattle.binder.specs.Setting.{Setting}
 use Rattle.binder.specs.Verdict.{verdict, noFile}
 use Rattle.binder.specs.declared.Verdict.the-variants.{Passed}
@@ -53,15 +53,17 @@ abbrev ReadFrom : File → Type 0
 ReadFrom f = readRefusal (f .host) (fileImage f) (segmentsOf (f .host) (f .bytes)) (dynamicOf (f .bytes)) ≡ 0
 
 read-passed :
-    (size : ℕ) (files : List File) (n off k : ℕ) → loadFrom size n off files ≡ Passed → k < length files → ReadFrom (getD files k noFile)
+    (setting : Setting) (size : ℕ) (files : List File) (n off k : ℕ) → loadFrom setting size n off files ≡ Passed → k < length files
+    → ReadFrom (getD files k noFile)
 unfolding loadFrom loading.objectRefusal
-read-passed size [] n off k v h = absurd (omega arith)
-read-passed size (f ∷ fs) n off zero v h =
-    let a = first-passed (verdict (objectRefusal (f .host) (size - off) (f .bytes)) n) _ v in
-    after-zero (placeRefusal (f .host) (size - off) (f .bytes)) _ (verdict-passed (objectRefusal (f .host) (size - off) (f .bytes)) n (a .0)) .1
-read-passed size (f ∷ fs) n off (suc k) v h =
-    let a = first-passed (verdict (objectRefusal (f .host) (size - off) (f .bytes)) n) _ v in
-    read-passed size fs (n + 1) (off + objectSpan (f .host) (f .bytes)) k (a .1) (omega arith)
+read-passed setting size [] n off k v h = absurd (omega arith)
+read-passed setting size (f ∷ fs) n off zero v h =
+    let a = first-passed (verdict (objectRefusal (f .host) (size - offsetOf setting f off) (f .bytes)) n) _ v in
+    let z = verdict-passed (objectRefusal (f .host) (size - offsetOf setting f off) (f .bytes)) n (a .0) in
+    after-zero (placeRefusal (f .host) (size - offsetOf setting f off) (f .bytes)) _ z .1
+read-passed setting size (f ∷ fs) n off (suc k) v h =
+    let a = first-passed (verdict (objectRefusal (f .host) (size - offsetOf setting f off) (f .bytes)) n) _ v in
+    read-passed setting size fs (n + 1) (offsetOf setting f off + objectSpan (f .host) (f .bytes)) k (a .1) (omega arith)
 
 module _ (host : Bool) (image : List ℕ) (segments : List Segment) where
   -- refusal 11: "over 64 needs"
@@ -90,7 +92,7 @@ numbers-are os f image strings d ei es ed read =
 -- ---- a loaded set
 
 module _
-    (size : ℕ) (table arena : List ℕ) (os : List Input) (loads : loadFrom size 0 0 (filesOf os) ≡ Passed)
+    (setting : Setting) (size : ℕ) (table arena : List ℕ) (os : List Input) (loads : loadFrom setting size 0 0 (filesOf os) ≡ Passed)
     (views : (k : ℕ) → 2 ≤ k → k < length os → linkAt table k .view ≡ viewOf (fileRecord (getD (filesOf os) k noFile)))
     (images : (k : ℕ) → 2 ≤ k → k < length os → imageAt arena (linkAt table k) ≡ fileImage (getD (filesOf os) k noFile))
   where
@@ -98,7 +100,7 @@ module _
     file k = getD (filesOf os) k noFile
 
     read : (k : ℕ) → k < length os → ReadFrom (file k)
-    read k h = read-passed size (filesOf os) 0 0 k loads (omega (arith, files-length os))
+    read k h = read-passed setting size (filesOf os) 0 0 k loads (omega (arith, files-length os))
 
     dynamic : (k : ℕ) → k < length os → dynamicOf (getD os k noInput .file) ≡ dynamicOf (file k .bytes)
     dynamic k h = ap (λ (f : File). dynamicOf (f .bytes)) (sym (file-at os k h))
@@ -129,7 +131,7 @@ module _
 -- in the words of Steady: every object lies at its link, and its bytes are as they were placed
 module _ (setting : Setting) (size : ℕ) (table arena : List ℕ) (h p : Input) (ls : List Input) where
   abbrev objects : ℕ
-  objects = count (objsOf (objectAt setting) (hostFile h) (fileOf p) (map fileOf ls))
+  objects = count (objsOf (objectFrom setting) (hostFile h) (fileOf p) (map fileOf ls))
 
   pub order-loaded :
       LoadedSet setting size table (hostFile h) (fileOf p) (map fileOf ls)
@@ -139,7 +141,7 @@ module _ (setting : Setting) (size : ℕ) (table arena : List ℕ) (h p : Input)
       → take (r .count) (r .list) ≡ setOrder (filesOf (h ∷ (p ∷ ls))) (namesOf (h ∷ (p ∷ ls)))
   unfolding filesOf
   order-loaded s lies bytes =
-      order-read size table arena (h ∷ (p ∷ ls)) (s .loads) (λ k a b. ap (λ (x : Link). x .view) (lies k (many k b) .link))
+      order-read setting size table arena (h ∷ (p ∷ ls)) (s .loads) (λ k a b. ap (λ (x : Link). x .view) (lies k (many k b) .link))
       (λ k a b. bytes k (many k b))
     where
       many : (k : ℕ) → k < length (h ∷ (p ∷ ls)) → k < objects

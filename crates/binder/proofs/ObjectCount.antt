@@ -19,12 +19,13 @@ use Rattle.object.specs.declared.program_header.Segment.{Segment}
 use Rattle.object.specs.declared.program_header.Dynamic.{Dynamic}
 use Rattle.object.specs.declared.program_header.Dynamic.the-variants.{Missing, At}
 use Rattle.object.proofs.RefusalLaws.{required, after-zero}
-use Rattle.binder.specs.Instance.{File}
+use Rattle.binder.specs.Setting.{Setting}
+use Rattle.binder.specs.Instance.{File, offsetOf}
 use Rattle.binder.specs.Verdict.{verdict}
 use Rattle.binder.specs.declared.Verdict.the-variants.{Passed}
 use Rattle.binder.specs.Steps.Prepared.{loadFrom}
 use Rattle.binder.proofs.OutcomeLaws.{first-passed, verdict-passed}
-use Rattle.binder.proofs.SoundLaws.{load-fits}
+use Rattle.binder.proofs.OffsetLaws.{offset-after, link-fits}
 
 -- the entry of tag 0 is inside the span
 end-room : (n : ℕ) (image : List ℕ) (at : ℕ) → endIn n image at ≡ true → 0 < n
@@ -51,12 +52,16 @@ span-some f room e =
     )
 
 -- the files from object `n` on, the first at the offset `off`
-pub few-files : (size : ℕ) (files : List File) (n off : ℕ) → off ≤ size → loadFrom size n off files ≡ Passed → off + length files ≤ size
+pub few-files :
+    (setting : Setting) (size : ℕ) (files : List File) (n off : ℕ) → off ≤ size → loadFrom setting size n off files ≡ Passed → off + length files ≤ size
 unfolding loadFrom
-few-files size [] n off l v = omega arith
-few-files size (f ∷ fs) n off l v =
-    let a = first-passed (verdict (objectRefusal (f .host) (size - off) (f .bytes)) n) _ v in
-    let z = verdict-passed (objectRefusal (f .host) (size - off) (f .bytes)) n (a .0) in
-    let b = load-fits f (size - off) z in
-    let c = span-some f (size - off) z in
-    omega (arith, few-files size fs (n + 1) (off + objectSpan (f .host) (f .bytes)) (omega arith) (a .1))
+few-files setting size [] n off l v = omega arith
+few-files setting size (f ∷ fs) n off l v =
+    let a = first-passed (verdict (objectRefusal (f .host) (size - offsetOf setting f off) (f .bytes)) n) _ v in
+    let z = verdict-passed (objectRefusal (f .host) (size - offsetOf setting f off) (f .bytes)) n (a .0) in
+    let b = offset-after setting f off in
+    let c = span-some f (size - offsetOf setting f off) z in
+    omega (
+      arith,
+      few-files setting size fs (n + 1) (offsetOf setting f off + objectSpan (f .host) (f .bytes)) (link-fits f setting size off l z) (a .1),
+    )

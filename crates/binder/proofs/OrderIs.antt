@@ -10,7 +10,7 @@ use Rattle.model.specs.Layout.{objsOf}
 use Rattle.model.proofs.OrderLaws.{once-each}
 use Rattle.sheet.specs.Sheet.{Input}
 use Rattle.binder.specs.Setting.{Setting}
-use Rattle.binder.specs.Instance.{File, objectAt}
+use Rattle.binder.specs.Instance.{File, objectFrom}
 use Rattle.binder.specs.Verdict.{noFile}
 use Rattle.binder.specs.SetOrder.{neededObjects, setOrder}
 use Rattle.binder.specs.Bind.{namesOf}
@@ -29,7 +29,7 @@ names-length h p ls = length-map ls (λ o. o .name)
 -- of a set: its objects are as many as the names and two
 pub order-is :
     (setting : Setting) (h p : File) (fs : List File) (names : List (List ℕ)) → length names ≡ length fs
-    → OnceEach (count (objsOf (objectAt setting) h p fs)) (setOrder (h ∷ (p ∷ fs)) names)
+    → OnceEach (count (objsOf (objectFrom setting) h p fs)) (setOrder (h ∷ (p ∷ fs)) names)
 order-is setting h p fs names e =
-    let n : length names + 2 ≡ count (objsOf (objectAt setting) h p fs) = omega (arith, count-is setting 0 h p fs) in
+    let n : length names + 2 ≡ count (objsOf (objectFrom setting) h p fs) = omega (arith, count-is setting 0 h p fs) in
     subst (λ (n : ℕ). OnceEach n (setOrder (h ∷ (p ∷ fs)) names)) n (set-order (h ∷ (p ∷ fs)) names)

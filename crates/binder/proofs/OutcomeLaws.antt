@@ -110,7 +110,7 @@ pub record AllPassed (setting : Setting) (sheet bytes : List ℕ) (size words : 
   pub sheet-ok : sheetOk sheet (length bytes) ≡ true
   pub arena-ok : arenaOk size (setting .address) ≡ true
   pub no-duplicate : duplicateOf (setOf sheet bytes) ≡ 0
-  pub loads : loadFrom size 0 0 (filesOf (setOf sheet bytes)) ≡ Passed
+  pub loads : loadFrom setting size 0 0 (filesOf (setOf sheet bytes)) ≡ Passed
   pub relocates : orderVerdict (objectsIn setting (setOf sheet bytes)) (filesOf (setOf sheet bytes)) (orderIn (setOf sheet bytes)) ≡ Passed
   pub arena-is : arena ≡ tab size (bound (objectsIn setting (setOf sheet bytes)) (orderIn (setOf sheet bytes)))
   pub report-is :

@@ -22,7 +22,7 @@ use Rattle.sheet.specs.Steps.Parts.{inputsIn, Tabled}
 use Rattle.sheet.specs.declared.sheet.Parts.{Parts}
 use Rattle.sheet.proofs.PartLaws.{handed-in}
 use Rattle.binder.specs.Setting.{Setting}
-use Rattle.binder.specs.Instance.{File, objectAt}
+use Rattle.binder.specs.Instance.{File, objectFrom}
 use Rattle.binder.specs.Bind.{filesOf, objectsOf, unless, prepareVerdict, replied, replyOf, refusedQuery, repliedOf, askSet, queryOf}
 use Rattle.scope.specs.Steps.ScopeCode.{resolveLinks}
 use Rattle.binder.specs.Steps.ScopeModel.{scopedOf}
@@ -85,7 +85,7 @@ asked setting (h ∷ (p ∷ ls)) count arena arena′ table requester name r two
     fs = map (λ (o : Input). record { host = false; bytes = o .file }) ls
 
     S : objects.Objs
-    S = objsOf (objectAt setting) hf pf fs
+    S = objsOf (objectFrom setting) hf pf fs
 
     same :
         replied (replyOf (resolve (objectsOf setting (filesOf (h ∷ (p ∷ ls)))) requester (byName name)))

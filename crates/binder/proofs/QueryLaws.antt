@@ -20,7 +20,7 @@ use Rattle.object.specs.Loaded.{objectRefusal}
 use Rattle.object.specs.HashTable.{answerIn}
 use Rattle.binder.specs.Setting.{Setting}
 use Rattle.model.specs.Symbols.{byName}
-use Rattle.binder.specs.Instance.{File, fileImage, fileRecord, exportedOf, objectAt}
+use Rattle.binder.specs.Instance.{File, fileImage, fileRecord, exportedOf, objectAt, objectFrom, offsetOf}
 use Rattle.binder.specs.Verdict.{verdict, noFile}
 use Rattle.binder.specs.declared.Verdict.the-variants.{Passed}
 use Rattle.scope.specs.Steps.Links.{linkAt}
@@ -30,25 +30,27 @@ use Rattle.scope.specs.Steps.ScopeCode.{imageAt}
 use Rattle.binder.specs.Steps.ScopeModel.{LinkOf, LinkedFor}
 use Rattle.scope.specs.declared.links.Link.{Link}
 use Rattle.binder.proofs.OutcomeLaws.{first-passed, verdict-passed}
-use Rattle.binder.proofs.SoundLaws.{load-fits, count-is}
+use Rattle.binder.proofs.OffsetLaws.{offset-after, link-fits}
+use Rattle.binder.proofs.SoundLaws.{count-is}
 
 -- ---- placing
 
 -- files placed from `off` on leave what lies before
-before : (fs : List File) (off : ℕ) (m : Mem) (i : ℕ) → i < off → placeFiles fs off m i ≡ m i
+before : (setting : Setting) (fs : List File) (off : ℕ) (m : Mem) (i : ℕ) → i < off → placeFiles setting fs off m i ≡ m i
 unfolding placeFiles
-before [] off m i h = refl
-before (f ∷ fs) off m i h =
-    before fs (off + objectSpan (f .host) (f .bytes)) _ i (omega arith)
-    ∙ write-out m off (objectSpan (f .host) (f .bytes)) (objectBytes (f .host) (f .bytes)) i (inl h)
+before setting [] off m i h = refl
+before setting (f ∷ fs) off m i h =
+    let l = offset-after setting f off in
+    before setting fs (offsetOf setting f off + objectSpan (f .host) (f .bytes)) _ i (omega arith)
+    ∙ write-out m (offsetOf setting f off) (objectSpan (f .host) (f .bytes)) (objectBytes (f .host) (f .bytes)) i (inl (omega arith))
 
 -- they are the model's objects, one after another
-pub place-is : (setting : Setting) (fs : List File) (off : ℕ) (m : Mem) → place (layout (objectAt setting) fs off) m ≡ placeFiles fs off m
-unfolding placeFiles relocation.place layouts.layout objectAt
+pub place-is : (setting : Setting) (fs : List File) (off : ℕ) (m : Mem) → place (layout (objectFrom setting) fs off) m ≡ placeFiles setting fs off m
+unfolding placeFiles relocation.place layouts.layout objectFrom objectAt
 place-is setting [] off m = refl
-place-is setting (f ∷ fs) off m = place-is setting fs (off + objectSpan (f .host) (f .bytes)) _
+place-is setting (f ∷ fs) off m = place-is setting fs (offsetOf setting f off + objectSpan (f .host) (f .bytes)) _
 
-pub placed-is : (setting : Setting) (h p : File) (fs : List File) → placed (objsOf (objectAt setting) h p fs) ≡ placeFiles (h ∷ (p ∷ fs)) 0 (λ _. 0)
+pub placed-is : (setting : Setting) (h p : File) (fs : List File) → placed (objsOf (objectFrom setting) h p fs) ≡ placeFiles setting (h ∷ (p ∷ fs)) 0 (λ _. 0)
 unfolding relocation.placed layouts.objsOf layouts.layout
 placed-is setting h p fs = place-is setting (h ∷ (p ∷ fs)) 0 (λ _. 0)
 
@@ -76,50 +78,50 @@ same n off m arena fits bytes =
 
 module _ (setting : Setting) (size : ℕ) (table : List ℕ) where
   sits :
-      (files : List File) (n off j : ℕ) (d : Obj) (m : Mem) → off ≤ size → loadFrom size n off files ≡ Passed → Linked table n off files
+      (files : List File) (n off j : ℕ) (d : Obj) (m : Mem) → off ≤ size → loadFrom setting size n off files ≡ Passed → Linked setting table n off files
       → j < length files
-      → Sits setting size table (placeFiles files off m) (n + j) (getD files j noFile) (getD (layout (objectAt setting) files off) j d)
-  unfolding loadFrom layouts.layout objectAt Linked placeFiles
+      → Sits setting size table (placeFiles setting files off m) (n + j) (getD files j noFile) (getD (layout (objectFrom setting) files off) j d)
+  unfolding loadFrom layouts.layout objectFrom objectAt Linked placeFiles
   sits [] n off j d m l v s h = absurd (omega arith)
   sits (f ∷ fs) n off zero d m l v s h =
-      let a = first-passed (verdict (objectRefusal (f .host) (size - off) (f .bytes)) n) _ v in
-      let c = verdict-passed (objectRefusal (f .host) (size - off) (f .bytes)) n (a .0) in
-      let b = load-fits f (size - off) c in
+      let o : ℕ = offsetOf setting f off in
+      let a = first-passed (verdict (objectRefusal (f .host) (size - offsetOf setting f off) (f .bytes)) n) _ v in
+      let c = verdict-passed (objectRefusal (f .host) (size - offsetOf setting f off) (f .bytes)) n (a .0) in
       let e : n + 0 ≡ n = omega arith in
       record {
-        off = off;
+        off = offsetOf setting f off;
         is = refl;
-        fits = omega arith;
+        fits = link-fits f setting size off l c;
         link = ap (linkAt table) e ∙ s .0;
         bytes = λ i g.
-            before fs (off + objectSpan (f .host) (f .bytes)) _ (off + i) (omega arith)
-            ∙ (write-in m off (objectSpan (f .host) (f .bytes)) (objectBytes (f .host) (f .bytes)) (off + i) (omega arith)
+            before setting fs (o + objectSpan (f .host) (f .bytes)) _ (o + i) (omega arith)
+            ∙ (write-in m o (objectSpan (f .host) (f .bytes)) (objectBytes (f .host) (f .bytes)) (o + i) (omega arith)
             ∙ ap (objectBytes (f .host) (f .bytes)) (omega arith));
         loads = c;
       }
   sits (f ∷ fs) n off (suc j) d m l v s h =
-      let a = first-passed (verdict (objectRefusal (f .host) (size - off) (f .bytes)) n) _ v in
-      let b = load-fits f (size - off) (verdict-passed (objectRefusal (f .host) (size - off) (f .bytes)) n (a .0)) in
+      let a = first-passed (verdict (objectRefusal (f .host) (size - offsetOf setting f off) (f .bytes)) n) _ v in
+      let c = verdict-passed (objectRefusal (f .host) (size - offsetOf setting f off) (f .bytes)) n (a .0) in
       let e : n + 1 + j ≡ n + suc j = omega arith in
       subst
-      (λ (k : ℕ). Sits setting size table (placeFiles (f ∷ fs) off m) k (getD fs j noFile)
-      (getD (layout (objectAt setting) fs (off + objectSpan (f .host) (f .bytes))) j d))
+      (λ (k : ℕ). Sits setting size table (placeFiles setting (f ∷ fs) off m) k (getD fs j noFile)
+      (getD (layout (objectFrom setting) fs (offsetOf setting f off + objectSpan (f .host) (f .bytes))) j d))
       e
-      (sits fs (n + 1) (off + objectSpan (f .host) (f .bytes)) j d _ (omega arith) (a .1) (s .1) (omega arith))
+      (sits fs (n + 1) (offsetOf setting f off + objectSpan (f .host) (f .bytes)) j d _ (link-fits f setting size off l c) (a .1) (s .1) (omega arith))
 
   -- object `k` of a loaded set
   pub sits-at :
-      (h p : File) (fs : List File) (m : Mem) → loadFrom size 0 0 (h ∷ (p ∷ fs)) ≡ Passed → Linked table 0 0 (h ∷ (p ∷ fs))
-      → (k : ℕ) → k < count (objsOf (objectAt setting) h p fs)
-      → Sits setting size table (placeFiles (h ∷ (p ∷ fs)) 0 m) k (getD (h ∷ (p ∷ fs)) k noFile) (obj (objsOf (objectAt setting) h p fs) k)
-  unfolding layouts.objsOf layouts.layout objectAt
+      (h p : File) (fs : List File) (m : Mem) → loadFrom setting size 0 0 (h ∷ (p ∷ fs)) ≡ Passed → Linked setting table 0 0 (h ∷ (p ∷ fs))
+      → (k : ℕ) → k < count (objsOf (objectFrom setting) h p fs)
+      → Sits setting size table (placeFiles setting (h ∷ (p ∷ fs)) 0 m) k (getD (h ∷ (p ∷ fs)) k noFile) (obj (objsOf (objectFrom setting) h p fs) k)
+  unfolding layouts.objsOf layouts.layout objectFrom objectAt
   sits-at h p fs m v s k l =
       let e : 0 + k ≡ k = omega arith in
       subst
-      (λ (n : ℕ). Sits setting size table (placeFiles (h ∷ (p ∷ fs)) 0 m) n (getD (h ∷ (p ∷ fs)) k noFile)
-      (obj (objsOf (objectAt setting) h p fs) k))
+      (λ (n : ℕ). Sits setting size table (placeFiles setting (h ∷ (p ∷ fs)) 0 m) n (getD (h ∷ (p ∷ fs)) k noFile)
+      (obj (objsOf (objectFrom setting) h p fs) k))
       e
-      (sits (h ∷ (p ∷ fs)) 0 0 k (objectAt setting h 0) m (omega arith) v s (omega (arith, count-is setting size h p fs)))
+      (sits (h ∷ (p ∷ fs)) 0 0 k (objectFrom setting h 0) m (omega arith) v s (omega (arith, count-is setting size h p fs)))
 
   -- its part of an arena with the placed bytes is its image
   pub image-at :
@@ -151,11 +153,11 @@ module _ (setting : Setting) (size : ℕ) (table : List ℕ) where
   -- every object of a loaded set has its link, and is asked there
   pub linked-for :
       (h p : File) (fs : List File) (arena : List ℕ) (m : Mem) → length arena ≡ size → setting .address + size < 2 ^ 64
-      → loadFrom size 0 0 (h ∷ (p ∷ fs)) ≡ Passed → Linked table 0 0 (h ∷ (p ∷ fs)) → mem arena ≡ placeFiles (h ∷ (p ∷ fs)) 0 m
-      → LinkedFor (setting .address) arena table (objsOf (objectAt setting) h p fs)
+      → loadFrom setting size 0 0 (h ∷ (p ∷ fs)) ≡ Passed → Linked setting table 0 0 (h ∷ (p ∷ fs)) → mem arena ≡ placeFiles setting (h ∷ (p ∷ fs)) 0 m
+      → LinkedFor (setting .address) arena table (objsOf (objectFrom setting) h p fs)
   linked-for h p fs arena m len small v s e k l =
       let f : File = getD (h ∷ (p ∷ fs)) k noFile in
       let t = sits-at h p fs m v s k l in
-      link-of k f (obj (objsOf (objectAt setting) h p fs) k) (t .off) arena (t .is) (t .link) (omega (arith, t .fits))
+      link-of k f (obj (objsOf (objectFrom setting) h p fs) k) (t .off) arena (t .is) (t .link) (omega (arith, t .fits))
       (λ name. ap (λ (image : List ℕ). answerIn image (viewOf (fileRecord f)) name)
-      (image-at k f (obj (objsOf (objectAt setting) h p fs) k) (placeFiles (h ∷ (p ∷ fs)) 0 m) t arena len e))
+      (image-at k f (obj (objsOf (objectFrom setting) h p fs) k) (placeFiles setting (h ∷ (p ∷ fs)) 0 m) t arena len e))

@@ -170,7 +170,7 @@ module _ (setting : Setting) (size : ℕ) (table : List ℕ) (h pr : File) (fs :
   unfolding bound
   relocated-is L os inputs order once n a report at len zeros p′ a′ report′ e =
       let small : count S ≤ 2 ^ 28 =
-      omega (arith, count-is setting size h pr fs, few-files size fl 0 0 (omega arith) (L .loads), L .small) in
+      omega (arith, count-is setting size h pr fs, few-files setting size fl 0 0 (omega arith) (L .loads), L .small) in
       let placed-at = starts setting size table h pr fs L a (λ _. 0) len (at ∙ placed-is setting h pr fs) in
       let turns = turns-of (count S) order (omega arith) once in
       let begins : Going [] 0 n started report =

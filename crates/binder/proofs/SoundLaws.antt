@@ -18,25 +18,18 @@ use Rattle.model.specs.Layout as layouts
 use Rattle.model.proofs.Laid.{objs-apart}
 use Rattle.model.proofs.OrderLaws.{decide}
 use Rattle.object.specs.TableBytes.{inWritable}
-use Rattle.object.specs.Placed.{objectSpan, placeRefusal}
+use Rattle.object.specs.Placed.{objectSpan}
 use Rattle.object.specs.Loaded.{objectRefusal}
-use Rattle.object.specs.Loaded as loading
-use Rattle.object.proofs.RefusalLaws.{after-zero}
-use Rattle.object.proofs.LoadedLaws.{place-fits}
 use Rattle.binder.specs.Setting.{Setting}
-use Rattle.binder.specs.Instance.{File, fileImage, fileRecord, placesOf, namedWords, relasOf, entryOf, objectAt}
+use Rattle.binder.specs.Instance.{File, fileImage, fileRecord, placesOf, namedWords, relasOf, entryOf, objectAt, offsetOf, objectFrom}
 use Rattle.binder.specs.Verdict.{verdict, noFile, wordsVerdict, entriesVerdict, objectVerdict, orderVerdict}
 use Rattle.binder.specs.declared.Verdict.the-variants.{Passed}
 use Rattle.binder.specs.Steps.Prepared.{loadFrom}
 use Rattle.binder.proofs.OutcomeLaws.{first-passed, verdict-passed}
+use Rattle.binder.proofs.OffsetLaws.{made-after, link-fits}
 use Rattle.binder.proofs.InsideLaws.{writable-inside, words-inside, entries-inside}
 
 -- ---- where an object stands
-
--- refusal 8 passed
-pub load-fits : (f : File) (room : ℕ) → objectRefusal (f .host) room (f .bytes) ≡ 0 → objectSpan (f .host) (f .bytes) ≤ room
-unfolding loading.objectRefusal
-load-fits f room e = place-fits (f .host) (f .bytes) room (after-zero (placeRefusal (f .host) room (f .bytes)) _ e .0)
 
 -- `o` is the object of the file `f` at an offset, and ends within the arena
 record Stands (setting : Setting) (size : ℕ) (f : File) (o : Obj) : Type 0 where
@@ -46,38 +39,38 @@ record Stands (setting : Setting) (size : ℕ) (f : File) (o : Obj) : Type 0 whe
 
 module _ (setting : Setting) (size : ℕ) where
   stands :
-      (files : List File) (n off k : ℕ) (d : Obj) → off ≤ size → loadFrom size n off files ≡ Passed → k < length files
-      → Stands setting size (getD files k noFile) (getD (layout (objectAt setting) files off) k d)
-  unfolding loadFrom layouts.layout objectAt
+      (files : List File) (n off k : ℕ) (d : Obj) → off ≤ size → loadFrom setting size n off files ≡ Passed → k < length files
+      → Stands setting size (getD files k noFile) (getD (layout (objectFrom setting) files off) k d)
+  unfolding loadFrom layouts.layout objectFrom objectAt
   stands [] n off k d l v h = absurd (omega arith)
   stands (f ∷ fs) n off zero d l v h =
-      let a = first-passed (verdict (objectRefusal (f .host) (size - off) (f .bytes)) n) _ v in
-      let b = load-fits f (size - off) (verdict-passed (objectRefusal (f .host) (size - off) (f .bytes)) n (a .0)) in
-      record { off = off; is = refl; fits = omega arith }
+      let a = first-passed (verdict (objectRefusal (f .host) (size - offsetOf setting f off) (f .bytes)) n) _ v in
+      let z = verdict-passed (objectRefusal (f .host) (size - offsetOf setting f off) (f .bytes)) n (a .0) in
+      record { off = offsetOf setting f off; is = refl; fits = link-fits f setting size off l z }
   stands (f ∷ fs) n off (suc k) d l v h =
-      let a = first-passed (verdict (objectRefusal (f .host) (size - off) (f .bytes)) n) _ v in
-      let b = load-fits f (size - off) (verdict-passed (objectRefusal (f .host) (size - off) (f .bytes)) n (a .0)) in
-      stands fs (n + 1) (off + objectSpan (f .host) (f .bytes)) k d (omega arith) (a .1) (omega arith)
+      let a = first-passed (verdict (objectRefusal (f .host) (size - offsetOf setting f off) (f .bytes)) n) _ v in
+      let z = verdict-passed (objectRefusal (f .host) (size - offsetOf setting f off) (f .bytes)) n (a .0) in
+      stands fs (n + 1) (offsetOf setting f off + objectSpan (f .host) (f .bytes)) k d (link-fits f setting size off l z) (a .1) (omega arith)
 
-  layout-length : (files : List File) (off : ℕ) → length (layout (objectAt setting) files off) ≡ length files
+  layout-length : (files : List File) (off : ℕ) → length (layout (objectFrom setting) files off) ≡ length files
   unfolding layouts.layout
   layout-length [] off = refl
   layout-length (f ∷ fs) off = ap suc (layout-length fs _)
 
-  pub count-is : (h p : File) (fs : List File) → count (objsOf (objectAt setting) h p fs) ≡ length fs + 2
+  pub count-is : (h p : File) (fs : List File) → count (objsOf (objectFrom setting) h p fs) ≡ length fs + 2
   unfolding layouts.objsOf
-  count-is h p fs = omega (arith, layout-length fs (layouts.nextFree (objectAt setting) p (layouts.nextFree (objectAt setting) h 0)))
+  count-is h p fs = omega (arith, layout-length fs (layouts.nextFree (objectFrom setting) p (layouts.nextFree (objectFrom setting) h 0)))
 
   object-is :
-      (h p : File) (fs : List File) → loadFrom size 0 0 (h ∷ (p ∷ fs)) ≡ Passed → (k : ℕ) → k < count (objsOf (objectAt setting) h p fs)
-      → Stands setting size (getD (h ∷ (p ∷ fs)) k noFile) (obj (objsOf (objectAt setting) h p fs) k)
+      (h p : File) (fs : List File) → loadFrom setting size 0 0 (h ∷ (p ∷ fs)) ≡ Passed → (k : ℕ) → k < count (objsOf (objectFrom setting) h p fs)
+      → Stands setting size (getD (h ∷ (p ∷ fs)) k noFile) (obj (objsOf (objectFrom setting) h p fs) k)
   unfolding layouts.objsOf layouts.layout
   object-is h p fs v k l =
-      stands (h ∷ (p ∷ fs)) 0 0 k (objectAt setting h 0) (omega arith) v (omega (arith, layout-length (h ∷ (p ∷ fs)) 0))
+      stands (h ∷ (p ∷ fs)) 0 0 k (objectFrom setting h 0) (omega arith) v (omega (arith, layout-length (h ∷ (p ∷ fs)) 0))
 
   -- the objects fit the arena
   pub set-fits :
-      (h p : File) (fs : List File) → loadFrom size 0 0 (h ∷ (p ∷ fs)) ≡ Passed → Fits (objsOf (objectAt setting) h p fs) size
+      (h p : File) (fs : List File) → loadFrom setting size 0 0 (h ∷ (p ∷ fs)) ≡ Passed → Fits (objsOf (objectFrom setting) h p fs) size
   unfolding objectAt
   set-fits h p fs v k l =
       let s = object-is h p fs v k l in
@@ -125,11 +118,11 @@ from-pick false xs m = m
 
 -- ---- the set
 
-module _ (setting : Setting) (size : ℕ) (h p : File) (fs : List File) (v : loadFrom size 0 0 (h ∷ (p ∷ fs)) ≡ Passed) (order : List ℕ)
-    (once : OnceEach (count (objsOf (objectAt setting) h p fs)) order)
-    (w : orderVerdict (objsOf (objectAt setting) h p fs) (h ∷ (p ∷ fs)) order ≡ Passed) where
+module _ (setting : Setting) (size : ℕ) (h p : File) (fs : List File) (v : loadFrom setting size 0 0 (h ∷ (p ∷ fs)) ≡ Passed) (order : List ℕ)
+    (once : OnceEach (count (objsOf (objectFrom setting) h p fs)) order)
+    (w : orderVerdict (objsOf (objectFrom setting) h p fs) (h ∷ (p ∷ fs)) order ≡ Passed) where
   abbrev set : Objs
-  set = objsOf (objectAt setting) h p fs
+  set = objsOf (objectFrom setting) h p fs
 
   abbrev file : ℕ → File
   file k = getD (h ∷ (p ∷ fs)) k noFile
@@ -150,11 +143,11 @@ module _ (setting : Setting) (size : ℕ) (h p : File) (fs : List File) (v : loa
       let s = ap (λ (o : Obj). o .span) (object-is setting size h p fs v k b .is) in
       omega (arith, writable-inside (file k .host) (file k .bytes) q n e)
 
-  pub set-sound : Sound (objsOf (objectAt setting) h p fs)
+  pub set-sound : Sound (objsOf (objectFrom setting) h p fs)
   unfolding objectAt
   set-sound =
       record {
-        apart = objs-apart (objectAt setting) (λ f off. omega arith) h p fs;
+        apart = objs-apart (objectFrom setting) (made-after setting) h p fs;
         words-in = λ k a b q m.
             let s = object-is setting size h p fs v k b in
             let ws : List ℕ = placesOf (namedWords (fileImage (file k)) (fileRecord (file k))) in

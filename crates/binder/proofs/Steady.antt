@@ -14,7 +14,7 @@ use Rattle.object.specs.Invariant.{SameReadings}
 use Rattle.object.specs.Placed.{objectSpan}
 use Rattle.object.specs.declared.hash_tables.Definition.{Definition}
 use Rattle.model.specs.Symbols.{byName}
-use Rattle.binder.specs.Instance.{File, fileImage, fileRecord, definitionOf, objectAt}
+use Rattle.binder.specs.Instance.{File, fileImage, fileRecord, definitionOf, objectAt, objectFrom}
 use Rattle.binder.specs.Setting.{Setting}
 use Rattle.binder.specs.Verdict.{noFile, copyOk}
 use Rattle.binder.specs.declared.Verdict.the-variants.{Passed}
@@ -35,13 +35,13 @@ module _ (setting : Setting) (size : ℕ) (table : List ℕ) (h p : File) (fs : 
   fileAt k = getD files k noFile
 
   abbrev pub set : Objs
-  set = objsOf (objectAt setting) h p fs
+  set = objsOf (objectFrom setting) h p fs
 
-  -- refusals 2 and 4 to 12 were passed, and the table has the links, the count and the address
+  -- refusals 2, 4 to 12 and 21 were passed, and the table has the links, the count and the address
   pub record LoadedSet : Type 0 where
     pub others : (k : ℕ) → 1 ≤ k → k < count set → fileAt k .host ≡ false
-    pub loads : loadFrom size 0 0 files ≡ Passed
-    pub links : Linked table 0 0 files
+    pub loads : loadFrom setting size 0 0 files ≡ Passed
+    pub links : Linked setting table 0 0 files
     pub counted : countIn table ≡ count set
     pub addressed : addressIn table ≡ address
     pub end : address + size ≤ 2 ^ 63
@@ -76,7 +76,7 @@ module _ (setting : Setting) (size : ℕ) (table : List ℕ) (h p : File) (fs : 
 
   -- the placed arena
   abbrev pub Starts : Type 0
-  Starts = LoadedSet → (a : List ℕ) (m : Mem) → length a ≡ size → mem a ≡ placeFiles files 0 m → (k : ℕ) → k < count set → PlacedAt a k
+  Starts = LoadedSet → (a : List ℕ) (m : Mem) → length a ≡ size → mem a ≡ placeFiles setting files 0 m → (k : ℕ) → k < count set → PlacedAt a k
 
   abbrev pub PlacedSteady : Type 0
   PlacedSteady = LoadedSet → (a : List ℕ) → length a ≡ size → ((k : ℕ) → k < count set → PlacedAt a k) → Steady a

@@ -41,7 +41,7 @@ use Rattle.object.proofs.LoadedLaws.{record-span}
 use Rattle.object.proofs.Ranges.{spares, seg-in, below-at, table-inside}
 use Rattle.object.proofs.RefusalLaws.{required, after-zero}
 use Rattle.object.proofs.ReadingsSame.{invariance}
-use Rattle.binder.specs.Instance.{File, fileImage, fileRecord, objectAt}
+use Rattle.binder.specs.Instance.{File, fileImage, fileRecord, objectAt, objectFrom}
 use Rattle.binder.specs.Setting.{Setting}
 use Rattle.binder.specs.Verdict.{noFile, copyOk}
 use Rattle.scope.specs.Steps.Links.{linkAt}
@@ -50,6 +50,7 @@ use Rattle.scope.specs.Steps.ScopeCode.{imageAt}
 use Rattle.binder.specs.Steps.ScopeModel.{LinkedFor}
 use Rattle.binder.specs.Steps.Relocating.{copyFits, againRefusal}
 use Rattle.scope.specs.declared.links.Link.{Link}
+use Rattle.binder.proofs.OffsetLaws.{made-after}
 use Rattle.binder.proofs.InsideLaws as inside
 use Rattle.binder.proofs.ScopeIs.{resolve-is, resolve-copy-is}
 use Rattle.binder.proofs.QueryLaws.{Sits, sits-at, image-at, link-of}
@@ -166,7 +167,7 @@ module _ (setting : Setting) (size : ℕ) (table : List ℕ) (h p : File) (fs : 
   address = setting .address
 
   abbrev set : Objs
-  set = objsOf (objectAt setting) h p fs
+  set = objsOf (objectFrom setting) h p fs
 
   abbrev fileAt : ℕ → File
   fileAt k = getD (h ∷ (p ∷ fs)) k noFile
@@ -182,7 +183,7 @@ module _ (setting : Setting) (size : ℕ) (table : List ℕ) (h p : File) (fs : 
 
   -- ---- where an object lies
 
-  sits : LoadedSet → (m : Mem) (k : ℕ) → k < count set → Sits setting size table (placeFiles (h ∷ (p ∷ fs)) 0 m) k (fileAt k) (obj set k)
+  sits : LoadedSet → (m : Mem) (k : ℕ) → k < count set → Sits setting size table (placeFiles setting (h ∷ (p ∷ fs)) 0 m) k (fileAt k) (obj set k)
   sits s m k l = sits-at setting size table h p fs m (s .loads) (s .links) k l
 
   pub lies : steady.Lies setting size table h p fs
@@ -198,7 +199,7 @@ module _ (setting : Setting) (size : ℕ) (table : List ℕ) (h p : File) (fs : 
             ∙ (mod-eq-of-lt (omega (arith, t .fits, s .end)) ∙ sym (ap (λ (o : Obj). o .base) (t .is))));
       }
     where
-      t : Sits setting size table (placeFiles (h ∷ (p ∷ fs)) 0 (λ _. 0)) k (fileAt k) (obj set k)
+      t : Sits setting size table (placeFiles setting (h ∷ (p ∷ fs)) 0 (λ _. 0)) k (fileAt k) (obj set k)
       t = sits s (λ _. 0) k l
 
       off : (obj set k) .offset ≡ t .off
@@ -213,7 +214,7 @@ module _ (setting : Setting) (size : ℕ) (table : List ℕ) (h p : File) (fs : 
   -- ---- an arena with the placed bytes
 
   pub starts : steady.Starts setting size table h p fs
-  starts s a m len e k l = image-at setting size table k (fileAt k) (obj set k) (placeFiles (h ∷ (p ∷ fs)) 0 m) (sits s m k l) a len e
+  starts s a m len e k l = image-at setting size table k (fileAt k) (obj set k) (placeFiles setting (h ∷ (p ∷ fs)) 0 m) (sits s m k l) a len e
 
   pub placed-steady : steady.PlacedSteady setting size table h p fs
   placed-steady s a len placed =
@@ -261,8 +262,8 @@ module _ (setting : Setting) (size : ℕ) (table : List ℕ) (h p : File) (fs : 
       span i x = ap (λ (o : Obj). o .span) (lies s i x .is)
 
       go : Dec (j < k) → ((obj set j) .offset + spanAt j ≤ (obj set k) .offset) ⊎ ((obj set k) .offset + spanAt k ≤ (obj set j) .offset)
-      go (yes x) = inl (omega (arith, span j l, objs-apart (objectAt setting) (λ f off. omega arith) h p fs j k x g))
-      go (no x) = inr (omega (arith, span k g, objs-apart (objectAt setting) (λ f off. omega arith) h p fs k j (omega arith) l))
+      go (yes x) = inl (omega (arith, span j l, objs-apart (objectFrom setting) (made-after setting) h p fs j k x g))
+      go (no x) = inr (omega (arith, span k g, objs-apart (objectFrom setting) (made-after setting) h p fs k j (omega arith) l))
 
   -- a byte of object `j`, in an arena
   byte-at :

@@ -22,7 +22,7 @@ use Rattle.binder.specs.declared.Reply.{Reply}
 use Rattle.binder.specs.declared.Reply as replies
 use Rattle.sheet.specs.Sheet.{Input, sheetOk, setOf, arenaOk, duplicateOf}
 use Rattle.binder.specs.Setting.{Setting}
-use Rattle.binder.specs.Instance.{File, objectAt}
+use Rattle.binder.specs.Instance.{File, objectFrom}
 use Rattle.binder.specs.Verdict.{first, noFile, loadVerdict, orderVerdict}
 use Rattle.binder.specs.declared.Verdict.{Verdict}
 use Rattle.binder.specs.declared.Verdict.the-variants.{Passed, Refused}
@@ -39,9 +39,9 @@ unfoldable pub namesOf : List Input → List (List ℕ)
 namesOf os = map (λ o. o .name) (drop 2 os)
 
 unfoldable pub objectsOf : Setting → List File → Objs
-objectsOf setting [] = objsOf (objectAt setting) noFile noFile []
-objectsOf setting (h ∷ []) = objsOf (objectAt setting) h noFile []
-objectsOf setting (h ∷ (p ∷ fs)) = objsOf (objectAt setting) h p fs
+objectsOf setting [] = objsOf (objectFrom setting) noFile noFile []
+objectsOf setting (h ∷ []) = objsOf (objectFrom setting) h noFile []
+objectsOf setting (h ∷ (p ∷ fs)) = objsOf (objectFrom setting) h p fs
 
 -- ---- the refusals, in checking order
 
@@ -49,7 +49,7 @@ objectsOf setting (h ∷ (p ∷ fs)) = objsOf (objectAt setting) h p fs
 unfoldable pub unless : Bool → ℕ → ℕ → Verdict
 unless t n k = pick t Passed (Refused n k)
 
--- 2 to 12 of a set, which a query meets too
+-- 2 to 12 and 21 of a set, which a query meets too
 unfoldable pub prepareVerdict : Setting → List Input → ℕ → Verdict
 prepareVerdict setting os size =
     first (unless (arenaOk size (setting .address)) 2 0)
@@ -118,7 +118,7 @@ unfoldable pub repliedOf : ℕ → Verdict → Reply → List ℕ → Replied
 repliedOf size (Refused n k) reply arena = refusedQuery size n k
 repliedOf size Passed reply arena = replied reply arena
 
--- a set that is asked: it "meets only refusals 1 to 13", 2 to 13 here
+-- a set that is asked: it "meets only refusals 1 to 13", 2 to 13 here, and 21
 unfoldable pub askSet : Setting → List Input → ℕ → ℕ → List ℕ → Replied
 askSet setting os size requester name =
     repliedOf size (first (prepareVerdict setting os size) (unless (ltb requester (length os)) 13 0))

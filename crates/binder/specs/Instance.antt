@@ -1,9 +1,9 @@
 -- The objects of a set as the model has them: its objects made of files by the reader's definitions. Document 01, "Placed bytes" ("base =
--- arena address + offset"), "An address for a name", "Relocated bytes and report". An object depends on its file, on whether it is the
--- host's, on its offset and on the setting, and on nothing else. Assumes nothing.
+-- arena address + offset"), "An address for a name", "Relocated bytes and report"; document 02, (a). An object depends on its file, on whether
+-- it is the host's, on its offset and on the setting, and on nothing else. Assumes nothing.
 use mathlib.Core.Bool.{Bool, true, false}
 use mathlib.Core.List.{List, [], _∷_, _++_, map}
-use Prim.Native.Nat.{ℕ, _+_}
+use Prim.Native.Nat.{ℕ, _+_, _-_, _*_, _/_}
 use lib.ListN.{length}
 use Rattle.words.specs.Choice.{pick}
 use Rattle.model.specs.Symbols.{Wanted, byName, none, hit}
@@ -19,7 +19,7 @@ use Rattle.object.specs.RelocationTypes.{Row, noSearch, inScope, ignored, passe
 use Rattle.object.specs.Entries.{relasFrom, relrsFrom, Location, Word, place, nowhere, relrWords}
 use Rattle.object.specs.Entries as entries
 use Rattle.object.specs.Record.{Record, viewOf}
-use Rattle.object.specs.Placed.{objectSpan, objectBytes, objectImage}
+use Rattle.object.specs.Placed.{objectSpan, objectAlign, objectBytes, objectImage}
 use Rattle.object.specs.Loaded.{objectRecord}
 use Rattle.binder.specs.Setting.{Setting}
 
@@ -85,3 +85,21 @@ objectAt setting f off =
       words = pick (f .host) [] (placesOf (namedWords (fileImage f) (fileRecord f)));
       entries = pick (f .host) [] (map (entryOf (fileImage f) (fileRecord f) (setting .address + off)) (relasOf (fileImage f) (fileRecord f)));
     }
+
+-- ---- where an object goes: "Each object after the host goes to the next free offset where arena address plus offset is a multiple of" its
+-- alignment
+
+-- the least multiple of `align` that is no less
+abbrev pub multipleFrom : ℕ → ℕ → ℕ
+multipleFrom align a = (a + (align - 1)) / align * align
+
+-- the offset of an object of that alignment, `free` being the next free offset
+unfoldable pub nextOffset : Bool → ℕ → ℕ → ℕ → ℕ
+nextOffset host align address free = pick host free (multipleFrom align (address + free) - address)
+
+abbrev pub offsetOf : Setting → File → ℕ → ℕ
+offsetOf setting f free = nextOffset (f .host) (objectAlign (f .host) (f .bytes)) (setting .address) free
+
+-- the object of a file, `free` being the next free offset
+unfoldable pub objectFrom : Setting → File → ℕ → Obj
+objectFrom setting f free = objectAt setting f (offsetOf setting f free)

@@ -1,4 +1,4 @@
--- Refusals of a set, each with its object: 4 to 12 object by object, 14 to 18 entry by entry in binding order. Document 01, "Refused, in
+-- Refusals of a set, each with its object: 4 to 12 and 21 object by object, 14 to 18 entry by entry in binding order. Document 01, "Refused, in
 -- checking order". All are functions of the placed images. Assumes nothing.
 use mathlib.Core.Bool.{Bool, true, false, not}
 use mathlib.Core.List.{List, [], _∷_}
@@ -33,7 +33,7 @@ first (Refused n k) v = Refused n k
 unfoldable pub verdict : ℕ → ℕ → Verdict
 verdict n k = pick (eqb n 0) Passed (Refused n k)
 
--- ---- 4 to 12: "object by object"
+-- ---- 4 to 12 and 21: "object by object"
 
 -- the files from object `k` on, each at its object's offset in an arena of `size` bytes
 unfoldable pub loadVerdict : Objs → ℕ → ℕ → List File → Verdict

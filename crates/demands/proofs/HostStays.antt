@@ -1,6 +1,7 @@
 -- The host's part of the arena is the host's file. Assumes nothing.
 use mathlib.Core.Path.{_≡_, refl, sym, ap, _∙_}
 use mathlib.Core.Logic.{inl, _≢_}
+use mathlib.Core.Bool.{true}
 use mathlib.Core.List.{List, [], _∷_, map}
 use Prim.Native.Nat.{ℕ, _+_, _-_, _≤_, _<_}
 use native.Mathlib.Omega.{arith}
@@ -22,7 +23,7 @@ use Rattle.binder.specs.declared.Policy.{Policy}
 use Rattle.binder.specs.declared.Reply as replies
 use Rattle.binder.specs.declared.Reply.{Reply}
 use Rattle.binder.specs.Setting.{Setting}
-use Rattle.binder.specs.Instance.{File, objectAt}
+use Rattle.binder.specs.Instance.{File, objectAt, nextOffset, offsetOf, objectFrom}
 use Rattle.binder.specs.Verdict.{orderVerdict}
 use Rattle.binder.specs.declared.Verdict.{Verdict}
 use Rattle.binder.specs.declared.Verdict.the-variants.{Passed, Refused}
@@ -30,6 +31,7 @@ use Rattle.binder.specs.SetOrder.{setOrder}
 use Rattle.binder.specs.Steps.Prepared.{loadFrom, placeFiles}
 use Rattle.binder.specs.Bind.{filesOf, namesOf, objectsOf, replied, repliedOf, queryOf}
 use Rattle.binder.proofs.FileLaws.{hostFile, fileOf, files-are}
+use Rattle.binder.proofs.OffsetLaws.{offset-after}
 use Rattle.binder.proofs.OutcomeLaws.{objectsIn, orderIn, sheetVerdict, query-one, bound-passed, first-passed}
 use Rattle.binder.proofs.OrderIs.{names-length, order-is}
 use Rattle.binder.proofs.QueryLaws.{placed-is}
@@ -40,23 +42,24 @@ use Rattle.demands.specs.Refusals.{HostIn, HostKept}
 
 -- ---- placing and binding leave the bytes of the first object
 
-place-below : (fs : List File) (off : ℕ) (m : Mem) (i : ℕ) → i < off → placeFiles fs off m i ≡ m i
+place-below : (setting : Setting) (fs : List File) (off : ℕ) (m : Mem) (i : ℕ) → i < off → placeFiles setting fs off m i ≡ m i
 unfolding placeFiles
-place-below [] off m i h = refl
-place-below (f ∷ fs) off m i h =
-    place-below fs (off + objectSpan (f .host) (f .bytes)) _ i (omega arith)
-    ∙ write-out m off (objectSpan (f .host) (f .bytes)) (objectBytes (f .host) (f .bytes)) i (inl h)
+place-below setting [] off m i h = refl
+place-below setting (f ∷ fs) off m i h =
+    let l = offset-after setting f off in
+    place-below setting fs (offsetOf setting f off + objectSpan (f .host) (f .bytes)) _ i (omega arith)
+    ∙ write-out m (offsetOf setting f off) (objectSpan (f .host) (f .bytes)) (objectBytes (f .host) (f .bytes)) i (inl (omega arith))
 
 placed-first :
-    (setting : Setting) (h p : File) (fs : List File) (i : ℕ) → i < objectSpan (h .host) (h .bytes)
-    → placed (objsOf (objectAt setting) h p fs) i ≡ objectBytes (h .host) (h .bytes) i
-unfolding placeFiles
+    (setting : Setting) (h : Input) (p : File) (fs : List File) (i : ℕ) → i < objectSpan true (h .file)
+    → placed (objsOf (objectFrom setting) (hostFile h) p fs) i ≡ objectBytes true (h .file) i
+unfolding placeFiles nextOffset
 placed-first setting h p fs i l =
     let start : i - 0 ≡ i = omega arith in
-    ap (λ (m : Mem). m i) (placed-is setting h p fs)
-    ∙ (place-below (p ∷ fs) (0 + objectSpan (h .host) (h .bytes)) _ i (omega arith)
-    ∙ (write-in (λ _. 0) 0 (objectSpan (h .host) (h .bytes)) (objectBytes (h .host) (h .bytes)) i (omega arith)
-    ∙ ap (objectBytes (h .host) (h .bytes)) start))
+    ap (λ (m : Mem). m i) (placed-is setting (hostFile h) p fs)
+    ∙ (place-below setting (p ∷ fs) (0 + objectSpan true (h .file)) _ i (omega arith)
+    ∙ (write-in (λ _. 0) 0 (objectSpan true (h .file)) (objectBytes true (h .file)) i (omega arith)
+    ∙ ap (objectBytes true (h .file)) start))
 
 -- no library is the host, and neither is the program
 bound-first : (S : Objs) → Sound S → (order : List ℕ) → Order S order → (i : ℕ) → i < (obj S 0) .span → (obj S 0) .offset ≡ 0 → bound S order i ≡ placed S i
@@ -81,36 +84,36 @@ first-bytes file size m l same =
     many : length (take (length file) (tab size m)) ≡ length file
     many = simp (length-take, length-tab) (omega arith)
 
-module _ (setting : Setting) (size : ℕ) (h p : Input) (ls : List Input) (v : loadFrom size 0 0 (filesOf (h ∷ (p ∷ ls))) ≡ Passed) where
+module _ (setting : Setting) (size : ℕ) (h p : Input) (ls : List Input) (v : loadFrom setting size 0 0 (filesOf (h ∷ (p ∷ ls))) ≡ Passed) where
   abbrev fs : List File
   fs = map fileOf ls
 
-  loads : loadFrom size 0 0 (hostFile h ∷ (fileOf p ∷ fs)) ≡ Passed
+  loads : loadFrom setting size 0 0 (hostFile h ∷ (fileOf p ∷ fs)) ≡ Passed
   loads = rw (files-are h p ls) at v
 
   fits : length (h .file) ≤ size
-  unfolding layouts.objsOf objectAt objectSpan
+  unfolding layouts.objsOf objectFrom objectAt nextOffset objectSpan
   fits = omega (arith, set-fits setting size (hostFile h) (fileOf p) fs loads 0 (omega arith))
 
   placed-host : (i : ℕ) → i < length (h .file) → placed (objectsOf setting (filesOf (h ∷ (p ∷ ls)))) i ≡ mem (h .file) i
   unfolding objectsOf objectSpan objectBytes
-  placed-host i l = rw (files-are h p ls) (placed-first setting (hostFile h) (fileOf p) fs i l)
+  placed-host i l = rw (files-are h p ls) (placed-first setting h (fileOf p) fs i l)
 
   bound-host :
       orderVerdict (objectsIn setting (h ∷ (p ∷ ls))) (filesOf (h ∷ (p ∷ ls))) (orderIn (h ∷ (p ∷ ls))) ≡ Passed
       → (i : ℕ) → i < length (h .file)
       → bound (objectsIn setting (h ∷ (p ∷ ls))) (orderIn (h ∷ (p ∷ ls))) i ≡ mem (h .file) i
-  unfolding objectsOf objectSpan objectAt layouts.objsOf
+  unfolding objectsOf objectSpan objectFrom objectAt nextOffset layouts.objsOf
   bound-host w i l =
       let order : List ℕ = setOrder (hostFile h ∷ (fileOf p ∷ fs)) (namesOf (h ∷ (p ∷ ls))) in
       let o = order-is setting (hostFile h) (fileOf p) fs (namesOf (h ∷ (p ∷ ls))) (names-length h p ls ∙ sym (length-map ls fileOf)) in
       let sound = set-sound setting size (hostFile h) (fileOf p) fs loads order o (rw (files-are h p ls) at w) in
       rw (files-are h p ls)
-      (bound-first (objsOf (objectAt setting) (hostFile h) (fileOf p) fs) sound order o i l refl) ∙ placed-host i l
+      (bound-first (objsOf (objectFrom setting) (hostFile h) (fileOf p) fs) sound order o i l refl) ∙ placed-host i l
 
 -- ---- of a set
 
-module _ (setting : Setting) (size : ℕ) (os : List Input) (s : Shape os) (v : loadFrom size 0 0 (filesOf os) ≡ Passed) where
+module _ (setting : Setting) (size : ℕ) (os : List Input) (s : Shape os) (v : loadFrom setting size 0 0 (filesOf os) ≡ Passed) where
   -- an arena whose first bytes are the host's
   host-in : (m : Mem) → ((i : ℕ) → i < length (s .host .file) → m i ≡ mem (s .host .file) i) → HostIn os (tab size m)
   host-in m same =

@@ -7,6 +7,7 @@ pub mod OrderReported
 pub mod RefusalNumbers
 pub mod RefusalsHold
 pub mod HostStays
+pub mod LargePagesHold
 pub mod PairFiles
 pub mod PairHolds
 pub mod ObjectRunsHold

@@ -20,7 +20,7 @@ use Rattle.binder.specs.declared.Policy.{Policy}
 use Rattle.binder.specs.declared.Reply.{Reply}
 use Rattle.binder.specs.declared.Reply.the-variants.{Found}
 use Rattle.binder.specs.Setting.{Setting}
-use Rattle.binder.specs.Instance.{File, objectAt}
+use Rattle.binder.specs.Instance.{File, objectFrom}
 use Rattle.binder.specs.declared.Verdict.{Verdict}
 use Rattle.binder.specs.declared.Verdict.the-variants.{Passed, Refused}
 use Rattle.binder.specs.Bind.{filesOf, objectsOf, unless, prepareVerdict, replied, replyOf, repliedOf, askSet, queryOf}
@@ -60,7 +60,7 @@ kept setting os os′ l r small name k s a e pos =
     let n : length os ≡ length fs + 2 = ap length (l .is) ∙ omega (arith, length-map (l .libs) fileOf) in
     let n′ : length os′ ≡ length fs + 3 =
     ap length (l .longer) ∙ omega (arith, length-map (l .libs) fileOf, length-append (l .libs) (l .added ∷ [])) in (
-      rw (files′, objs-longer (objectAt setting) (hostFile (l .host)) (fileOf (l .program)) fs (fileOf (l .added)))
+      rw (files′, objs-longer (objectFrom setting) (hostFile (l .host)) (fileOf (l .program)) fs (fileOf (l .added)))
           (resolve-kept _ _ r (omega (arith, count-is setting 0 (hostFile (l .host)) (fileOf (l .program)) fs)) (byName name) k s a (rw files at e) pos),
       omega arith,
     )

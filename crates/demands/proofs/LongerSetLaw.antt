@@ -10,7 +10,7 @@ use Rattle.model.specs.Longer.{OnlyProgramCopies, Kept}
 use Rattle.model.proofs.Files.{longer-files}
 use Rattle.sheet.specs.Sheet.{Input, setOf}
 use Rattle.binder.specs.Setting.{Setting}
-use Rattle.binder.specs.Instance.{File, objectAt}
+use Rattle.binder.specs.Instance.{File, objectFrom}
 use Rattle.binder.specs.Verdict.{orderVerdict}
 use Rattle.binder.specs.declared.Verdict.the-variants.{Passed}
 use Rattle.binder.specs.Steps.Prepared.{loadFrom}
@@ -24,8 +24,8 @@ use Rattle.binder.proofs.SoundLaws.{set-sound, set-fits}
 use Rattle.binder.proofs.OrderIs.{names-length, order-is}
 
 -- the two stages that a set passed, of its files and its libraries' names
-abbrev Loads : ℕ → List File → Type 0
-Loads size files = loadFrom size 0 0 files ≡ Passed
+abbrev Loads : Setting → ℕ → List File → Type 0
+Loads setting size files = loadFrom setting size 0 0 files ≡ Passed
 
 abbrev Relocates : Setting → List File → List (List ℕ) → Type 0
 Relocates setting files names = orderVerdict (objectsOf setting files) files (setOrder files names) ≡ Passed
@@ -41,10 +41,10 @@ Keeps setting size files names size′ files′ names′ =
 keeps :
     (setting : Setting) (size size′ : ℕ) (h p : File) (fs : List File) (f : File) (names names′ : List (List ℕ)) → length names ≡ length fs
     → length names′ ≡ length (fs ++ (f ∷ []))
-    → Loads size (h ∷ (p ∷ fs))
+    → Loads setting size (h ∷ (p ∷ fs))
     → Relocates setting (h ∷ (p ∷ fs)) names
     → OnlyProgramCopies (objectsOf setting (h ∷ (p ∷ fs)))
-    → Loads size′ (h ∷ (p ∷ (fs ++ (f ∷ []))))
+    → Loads setting size′ (h ∷ (p ∷ (fs ++ (f ∷ []))))
     → Relocates setting (h ∷ (p ∷ (fs ++ (f ∷ [])))) names′
     → Keeps setting size (h ∷ (p ∷ fs)) names size′ (h ∷ (p ∷ (fs ++ (f ∷ [])))) names′
 unfolding objectsOf
@@ -53,15 +53,15 @@ keeps setting size size′ h p fs f names names′ n n′ v w only v′ w′ =
     let order′ : List ℕ = setOrder (h ∷ (p ∷ (fs ++ (f ∷ [])))) names′ in
     let o = order-is setting h p fs names n in
     let o′ = order-is setting h p (fs ++ (f ∷ [])) names′ n′ in
-    longer-files (objectAt setting) h p fs order size (set-sound setting size h p fs v order o w) o (set-fits setting size h p fs v) only
+    longer-files (objectFrom setting) h p fs order size (set-sound setting size h p fs v order o w) o (set-fits setting size h p fs v) only
     f order′ size′ (set-sound setting size′ h p (fs ++ (f ∷ [])) v′ order′ o′ w′) o′ (set-fits setting size′ h p (fs ++ (f ∷ [])) v′)
 
 -- of any two sets of which the second is the first and one object more
 keeps-any :
-    (setting : Setting) (size size′ : ℕ) (os os′ : List Input) → Longer os os′ → Loads size (filesOf os)
+    (setting : Setting) (size size′ : ℕ) (os os′ : List Input) → Longer os os′ → Loads setting size (filesOf os)
     → Relocates setting (filesOf os) (namesOf os)
     → OnlyProgramCopies (objectsIn setting os)
-    → Loads size′ (filesOf os′)
+    → Loads setting size′ (filesOf os′)
     → Relocates setting (filesOf os′) (namesOf os′)
     → Keeps setting size (filesOf os) (namesOf os) size′ (filesOf os′) (namesOf os′)
 keeps-any setting size size′ os os′ l v w only v′ w′ =

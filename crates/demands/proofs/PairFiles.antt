@@ -32,7 +32,8 @@ use Rattle.object.specs.Segments.{
   placeSegments,
   placedOf,
 }
-use Rattle.object.specs.Placed.{segmentsOf, objectSpan, objectBytes, fileRefusal, placeRefusal, objectImage}
+use Rattle.object.specs.Alignment.{powerUpTo, alignOk, alignOf}
+use Rattle.object.specs.Placed.{segmentsOf, objectSpan, objectAlign, objectBytes, fileRefusal, placeRefusal, objectImage}
 use Rattle.object.specs.DynamicArray.{itemsIn, endIn, lastValue, firstOf, allOf}
 use Rattle.object.specs.DynamicFields.{fieldOf}
 use Rattle.object.specs.TableBytes.{isTable, tableBytes, tableName}
@@ -111,6 +112,7 @@ zeros file m at n i l same = go (in-or-out at n i)
 
 pub record Reads (host : Bool) (file : List ℕ) (span : ℕ) (image : List ℕ) (r : Record) : Type 0 where
   pub span-is : objectSpan host file ≡ span
+  pub align-is : objectAlign host file ≡ 0x1000
   pub image-is : objectImage host file ≡ image
   pub record-is : objectRecord host file ≡ r
   pub loads : (room : ℕ) → span ≤ room → objectRefusal host room file ≡ 0
@@ -120,6 +122,8 @@ record Computed (host : Bool) (file : List ℕ) (segments : List Segment) (at n 
   header : headerRefusal file ≡ 0
   segments-are : segmentsOf host file ≡ segments
   segments-ok : pick host (eqb (length file % pageSize) 0) (segmentsOk file (loadsOf file)) ≡ true
+  aligned : every alignOk segments ≡ true
+  align-of : alignOf segments ≡ 0x1000
   array : dynamicOf file ≡ At at
   record-of : recordAt (file ++ replicate n 0) segments (At at) ≡ r
   tables-ok : readRefusal host (file ++ replicate n 0) segments (At at) ≡ 0
@@ -131,13 +135,14 @@ module _ (host : Bool) (file : List ℕ) (segments : List Segment) (at n span : 
 
   places : (room : ℕ) → span ≤ room → placeRefusal host room file ≡ 0
   unfolding placeRefusal fileRefusal require after
-  places room l = rw (c .header, c .segments-ok, long, le-leb span room l)
+  places room l = rw (c .header, c .segments-ok, c .segments-are, c .aligned, long, le-leb span room l)
 
   file-reads : Reads host file span (file ++ replicate n 0) r
-  unfolding objectRecord objectRefusal
+  unfolding objectRecord objectRefusal objectAlign
   file-reads =
       record {
         span-is = long;
+        align-is = rw (c .segments-are) (c .align-of);
         image-is = image-padded;
         record-is = rw (image-padded, c .segments-are, c .array) (c .record-of);
         loads = λ room l. after-none (placeRefusal host room file) _ (places room l) ∙ rw (image-padded, c .segments-are, c .array) (c .tables-ok);
@@ -154,6 +159,7 @@ hostRecord =
       segments = [];
       needed = [];
       span = 0x1000;
+      align = 0x1000;
       strings = 0;
       symbols = 0;
       table = Without;
@@ -168,8 +174,8 @@ hostRecord =
 
 abbrev programSegments : List Segment
 programSegments =
-    record { flags = 4; offset = 0; vaddr = 0; filesz = 440; memsz = 440 }
-    ∷ record { flags = 6; offset = 0; vaddr = 0x1000; filesz = 0; memsz = 16 } ∷ []
+    record { flags = 4; offset = 0; vaddr = 0; filesz = 440; memsz = 440; align = 0 }
+    ∷ record { flags = 6; offset = 0; vaddr = 0x1000; filesz = 0; memsz = 16; align = 0 } ∷ []
 
 abbrev pub programImage : List ℕ
 programImage = programFile ++ replicate (0x2000 - 440) 0
@@ -180,6 +186,7 @@ programRecord =
       segments = programSegments;
       needed = [];
       span = 0x2000;
+      align = 0x1000;
       strings = 0x180;
       symbols = 0x138;
       table = Without;
@@ -193,7 +200,7 @@ programRecord =
     }
 
 abbrev librarySegments : List Segment
-librarySegments = record { flags = 4; offset = 0; vaddr = 0; filesz = 320; memsz = 320 } ∷ []
+librarySegments = record { flags = 4; offset = 0; vaddr = 0; filesz = 320; memsz = 320; align = 0 } ∷ []
 
 abbrev pub libraryImage : ℕ → List ℕ
 libraryImage c = libraryFile c ++ replicate (0x1000 - 320) 0
@@ -204,6 +211,7 @@ libraryRecord =
       segments = librarySegments;
       needed = [];
       span = 0x1000;
+      align = 0x1000;
       strings = 0x120;
       symbols = 0xF0;
       table = SysV 0x128 1 2;
@@ -229,13 +237,13 @@ computed : AllComputed
 unfolding wordBytes every some below tab mem byteOf leAt untilZero require after isSharedObject isX86 headersInside headerRefusal loadsIn segmentAt dynamicIn segmentsOk holdsHeaders
     sizesOk addressOk flagsOk segmentOk pagesApart allApart segmentsOf itemsIn endIn lastValue firstOf allOf fieldOf isTable tableBytes tableName walk walkFrom numbersOk
     bucketOk lengthOk chainOk symbolOk walkOk tableOk tableIn tableCount countOf recordIn recordAt sizesRefusal fieldsRefusal needsOk relocationsOk tablesOk
-    readRefusal
+    readRefusal powerUpTo alignOk alignOf
 computed =
     record {
-      of-host = record { header = refl; segments-are = refl; segments-ok = refl; array = refl; record-of = refl; tables-ok = refl };
-      of-program = record { header = refl; segments-are = refl; segments-ok = refl; array = refl; record-of = refl; tables-ok = refl };
-      of-a = record { header = refl; segments-are = refl; segments-ok = refl; array = refl; record-of = refl; tables-ok = refl };
-      of-b = record { header = refl; segments-are = refl; segments-ok = refl; array = refl; record-of = refl; tables-ok = refl };
+      of-host = record { header = refl; segments-are = refl; segments-ok = refl; aligned = refl; align-of = refl; array = refl; record-of = refl; tables-ok = refl };
+      of-program = record { header = refl; segments-are = refl; segments-ok = refl; aligned = refl; align-of = refl; array = refl; record-of = refl; tables-ok = refl };
+      of-a = record { header = refl; segments-are = refl; segments-ok = refl; aligned = refl; align-of = refl; array = refl; record-of = refl; tables-ok = refl };
+      of-b = record { header = refl; segments-are = refl; segments-ok = refl; aligned = refl; align-of = refl; array = refl; record-of = refl; tables-ok = refl };
     }
 
 -- ---- the host

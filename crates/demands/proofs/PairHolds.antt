@@ -36,7 +36,7 @@ use Rattle.sheet.specs.Sheet.{Input, pairOk, libWords, total, sheetOk, cut, lib
 use Rattle.sheet.specs.Sheet as sheets
 use Rattle.binder.specs.declared.Policy.the-variants.{Lenient}
 use Rattle.binder.specs.declared.Answer.the-variants.{Bound}
-use Rattle.binder.specs.Instance.{File, exportedOf, placesOf, namedWords, relasOf, entryBy, objectAt}
+use Rattle.binder.specs.Instance.{File, exportedOf, placesOf, namedWords, relasOf, entryBy, objectAt, multipleFrom, nextOffset, objectFrom}
 use Rattle.binder.specs.Verdict.{verdict, refusalBy, wordsVerdict, entriesVerdict, objectVerdict, orderVerdict}
 use Rattle.binder.specs.declared.Verdict.the-variants.{Passed}
 use Rattle.binder.specs.Steps.Prepared.{loadFrom}
@@ -118,21 +118,21 @@ programObj =
 abbrev libraryObj : ℕ → ℕ → Obj
 libraryObj c off = objectOf false (libraryFile c) off 0x1000 (libraryImage c) libraryRecord []
 
-host-is : objectAt setting (file true hostFile) 0 ≡ hostObj
-unfolding objectAt
+host-is : objectFrom setting (file true hostFile) 0 ≡ hostObj
+unfolding objectFrom objectAt nextOffset
 host-is = rw (host-reads .image-is, host-reads .record-is, host-reads .span-is)
 
-program-is : objectAt setting (file false programFile) 0x1000 ≡ programObj
-unfolding objectAt wordBytes tab mem byteOf leAt untilZero placesOf namedWords relrWords relrsFrom relasOf relasFrom relaAt entryBy rowOf
-program-is = rw (program-reads .image-is, program-reads .record-is, program-reads .span-is)
+program-is : objectFrom setting (file false programFile) 0x1000 ≡ programObj
+unfolding objectFrom objectAt nextOffset wordBytes tab mem byteOf leAt untilZero placesOf namedWords relrWords relrsFrom relasOf relasFrom relaAt entryBy rowOf
+program-is = rw (program-reads .align-is, program-reads .image-is, program-reads .record-is, program-reads .span-is)
 
-a-is : objectAt setting (file false (libraryFile 97)) 0x3000 ≡ libraryObj 97 0x3000
-unfolding objectAt placesOf namedWords relrWords relrsFrom relasOf relasFrom
-a-is = rw (a-reads .image-is, a-reads .record-is, a-reads .span-is)
+a-is : objectFrom setting (file false (libraryFile 97)) 0x3000 ≡ libraryObj 97 0x3000
+unfolding objectFrom objectAt nextOffset placesOf namedWords relrWords relrsFrom relasOf relasFrom
+a-is = rw (a-reads .align-is, a-reads .image-is, a-reads .record-is, a-reads .span-is)
 
-b-is : objectAt setting (file false (libraryFile 98)) 0x4000 ≡ libraryObj 98 0x4000
-unfolding objectAt placesOf namedWords relrWords relrsFrom relasOf relasFrom
-b-is = rw (b-reads .image-is, b-reads .record-is, b-reads .span-is)
+b-is : objectFrom setting (file false (libraryFile 98)) 0x4000 ≡ libraryObj 98 0x4000
+unfolding objectFrom objectAt nextOffset placesOf namedWords relrWords relrsFrom relasOf relasFrom
+b-is = rw (b-reads .align-is, b-reads .image-is, b-reads .record-is, b-reads .span-is)
 
 abbrev S : Objs
 S = record { host = hostObj; program = programObj; libs = libraryObj 97 0x3000 ∷ [] }
@@ -154,31 +154,40 @@ T-is : objectsOf setting longerFiles ≡ T
 unfolding objectsOf layouts.objsOf layouts.layout
 T-is = rw (host-is, program-is, a-is, b-is)
 
--- ---- refusals 4 to 12
+-- ---- refusals 4 to 12 and 21
 
 load-next :
-    (size k off span : ℕ) (host : Bool) (bs image : List ℕ) (r : Record) (fs : List File) → Reads host bs span image r → span ≤ size - off
-    → loadFrom size (k + 1) (off + span) fs ≡ Passed
-    → loadFrom size k off (file host bs ∷ fs) ≡ Passed
+    (size k off span : ℕ) (host : Bool) (bs image : List ℕ) (r : Record) (fs : List File) → Reads host bs span image r
+    → nextOffset host 0x1000 0x10000000 off ≡ off
+    → span ≤ size - off
+    → loadFrom setting size (k + 1) (off + span) fs ≡ Passed
+    → loadFrom setting size k off (file host bs ∷ fs) ≡ Passed
 unfolding loadFrom verdict
-load-next size k off span host bs image r fs reads fits rest = rw (reads .loads (size - off) fits, reads .span-is) rest
+load-next size k off span host bs image r fs reads next fits rest =
+    rw (reads .align-is, next, reads .loads (size - off) fits, reads .span-is) rest
 
-load-end : (size k off : ℕ) → loadFrom size k off [] ≡ Passed
+-- offsets that are multiples of 4,096
+next-page : (host : Bool) (off : ℕ) → multipleFrom 0x1000 (0x10000000 + off) ≡ 0x10000000 + off → nextOffset host 0x1000 0x10000000 off ≡ off
+unfolding nextOffset
+next-page true off e = refl
+next-page false off e = omega (arith, e)
+
+load-end : (size k off : ℕ) → loadFrom setting size k off [] ≡ Passed
 unfolding loadFrom
 load-end size k off = refl
 
-S-loads : loadFrom 0x4000 0 0 files ≡ Passed
+S-loads : loadFrom setting 0x4000 0 0 files ≡ Passed
 S-loads =
-    load-next 0x4000 0 0 0x1000 true hostFile hostImage hostRecord _ host-reads (omega arith)
-    (load-next 0x4000 1 0x1000 0x2000 false programFile programImage programRecord _ program-reads (omega arith)
-    (load-next 0x4000 2 0x3000 0x1000 false (libraryFile 97) (libraryImage 97) libraryRecord _ a-reads (omega arith) (load-end 0x4000 3 0x4000)))
+    load-next 0x4000 0 0 0x1000 true hostFile hostImage hostRecord _ host-reads (next-page true 0 refl) (omega arith)
+    (load-next 0x4000 1 0x1000 0x2000 false programFile programImage programRecord _ program-reads (next-page false 0x1000 refl) (omega arith)
+    (load-next 0x4000 2 0x3000 0x1000 false (libraryFile 97) (libraryImage 97) libraryRecord _ a-reads (next-page false 0x3000 refl) (omega arith) (load-end 0x4000 3 0x4000)))
 
-T-loads : loadFrom 0x5000 0 0 longerFiles ≡ Passed
+T-loads : loadFrom setting 0x5000 0 0 longerFiles ≡ Passed
 T-loads =
-    load-next 0x5000 0 0 0x1000 true hostFile hostImage hostRecord _ host-reads (omega arith)
-    (load-next 0x5000 1 0x1000 0x2000 false programFile programImage programRecord _ program-reads (omega arith)
-    (load-next 0x5000 2 0x3000 0x1000 false (libraryFile 97) (libraryImage 97) libraryRecord _ a-reads (omega arith)
-    (load-next 0x5000 3 0x4000 0x1000 false (libraryFile 98) (libraryImage 98) libraryRecord _ b-reads (omega arith) (load-end 0x5000 4 0x5000))))
+    load-next 0x5000 0 0 0x1000 true hostFile hostImage hostRecord _ host-reads (next-page true 0 refl) (omega arith)
+    (load-next 0x5000 1 0x1000 0x2000 false programFile programImage programRecord _ program-reads (next-page false 0x1000 refl) (omega arith)
+    (load-next 0x5000 2 0x3000 0x1000 false (libraryFile 97) (libraryImage 97) libraryRecord _ a-reads (next-page false 0x3000 refl) (omega arith)
+    (load-next 0x5000 3 0x4000 0x1000 false (libraryFile 98) (libraryImage 98) libraryRecord _ b-reads (next-page false 0x4000 refl) (omega arith) (load-end 0x5000 4 0x5000))))
 
 S-prepared : PassesLoading setting sheet bytes 0x4000
 unfolding prepareVerdict unless arenaOk duplicateFrom some filesOf

@@ -1,4 +1,4 @@
--- A set that meets none of refusals 1 to 12: its sheet, its counts, and the objects of its order. Assumes nothing.
+-- A set that meets none of refusals 1 to 12 and 21: its sheet, its counts, and the objects of its order. Assumes nothing.
 use mathlib.Core.Path.{_≡_, sym, ap, _∙_}
 use mathlib.Core.Bool.{true}
 use mathlib.Core.Logic.{⊎-elim}
@@ -27,11 +27,11 @@ module _ (sheet bytes : List ℕ) where
   abbrev os : List Input
   os = setOf sheet bytes
 
-  pub record Loads (size : ℕ) : Type 0 where
+  pub record Loads (setting : Setting) (size : ℕ) : Type 0 where
     pub sheet-ok : sheetOk sheet (length bytes) ≡ true
-    pub loads : loadFrom size 0 0 (filesOf os) ≡ Passed
+    pub loads : loadFrom setting size 0 0 (filesOf os) ≡ Passed
 
-  pub prepared : (setting : Setting) (size : ℕ) → PassesLoading setting sheet bytes size → Loads size
+  pub prepared : (setting : Setting) (size : ℕ) → PassesLoading setting sheet bytes size → Loads setting size
   unfolding prepareVerdict
   prepared setting size v =
       let b = first-passed (unless (arenaOk size (setting .address)) 2 0) _ (v .1) in

@@ -1,14 +1,15 @@
 -- Which numbers and which objects refusals have. Assumes nothing.
 use mathlib.Core.Path.{_≡_, refl}
 use mathlib.Core.Bool.{Bool, true, false}
-use mathlib.Core.Logic.{⊎-elim, _≢_}
+use mathlib.Core.Logic.{_⊎_, inl, inr, ⊎-elim, _≢_}
 use mathlib.Core.List.{List, [], _∷_}
 use Prim.Native.Nat.{ℕ, zero, suc, _+_, _-_, _≤_, _<_, min}
 use native.Mathlib.Omega.{arith}
+use native.Mathlib.Decide.{decLe}
 use borrow.Author.Tests.{eqb-true, eqb-false}
 use lib.Dec.{eqb}
 use lib.ListN.{length, getD, take, drop, length-drop}
-use Rattle.words.specs.Choice.{pick}
+use Rattle.words.specs.Choice.{pick, every}
 use Rattle.words.specs.Choice as choice
 use Rattle.model.specs.Order.{has}
 use Rattle.model.specs.Objects.{Objs, obj}
@@ -17,7 +18,8 @@ use Rattle.model.specs.Symbols.{Resolved, absent, answer}
 use Rattle.model.proofs.OrderLaws.{decide, clash, has-head, has-cons}
 use Rattle.object.specs.Refusal.{require, after}
 use Rattle.object.specs.Header.{headerRefusal}
-use Rattle.object.specs.ProgramHeader.{dynamicOf}
+use Rattle.object.specs.ProgramHeader.{loadsOf, dynamicOf}
+use Rattle.object.specs.Alignment.{alignOk}
 use Rattle.object.specs.Placed.{segmentsOf, objectImage, fileRefusal, placeRefusal}
 use Rattle.object.specs.Record.{Record, sizesRefusal, fieldsRefusal, readRefusal, checkedSymbol, indexOk, isTableOf, nameOf}
 use Rattle.object.specs.Symbol.{symbolAt}
@@ -62,6 +64,29 @@ module _ (low high : ℕ) where
   last-range : (t : Bool) (n : ℕ) → low ≤ n → n ≤ high → Range low high (require t n 0)
   last-range t n l h = required-range t n 0 l h (λ z. absurd (omega arith))
 
+-- ---- a number of which something holds, where it is one
+
+abbrev Told : (ℕ → Type 0) → ℕ → Type 0
+Told Q n = 0 < n → Q n
+
+module _ (Q : ℕ → Type 0) where
+  required-told : (t : Bool) (n rest : ℕ) → Q n → Told Q rest → Told Q (require t n rest)
+  unfolding require
+  required-told true n rest q r = r
+  required-told false n rest q r = λ z. q
+
+  after-told : (n rest : ℕ) → Told Q n → Told Q rest → Told Q (after n rest)
+  unfolding after
+  after-told zero rest q r = r
+  after-told (suc n) rest q r = q
+
+-- 4 to 12, or 21 of an object that is not the host
+abbrev LoadNumber : Bool → ℕ → Type 0
+LoadNumber host n = ((4 ≤ n) × (n ≤ 12)) ⊎ ((n ≡ 21) × (host ≡ false))
+
+from-range : (host : Bool) (n : ℕ) → Range 4 12 n → Told (LoadNumber host) n
+from-range host n r = λ z. inl (r z)
+
 -- 4 to 6
 header-range : (file : List ℕ) → Range 4 12 (headerRefusal file)
 unfolding headerRefusal
@@ -69,16 +94,24 @@ header-range file =
     required-range 4 12 _ 4 _ (omega arith) (omega arith)
     (required-range 4 12 _ 5 _ (omega arith) (omega arith) (last-range 4 12 _ 6 (omega arith) (omega arith)))
 
--- 7 and 8
-file-range : (host : Bool) (file : List ℕ) → Range 4 12 (fileRefusal host file)
-unfolding fileRefusal
-file-range host file =
-    after-range 4 12 (headerRefusal file) _ (header-range file) (last-range 4 12 _ 7 (omega arith) (omega arith))
+-- 21
+align-number : (host : Bool) (file : List ℕ) → Told (LoadNumber host) (require (every alignOk (segmentsOf host file)) 21 0)
+unfolding segmentsOf every require
+align-number true file = λ z. absurd (omega arith)
+align-number false file = required-told (LoadNumber false) (every alignOk (loadsOf file)) 21 0 (inr (refl, refl)) (λ z. absurd (omega arith))
 
-place-range : (host : Bool) (room : ℕ) (file : List ℕ) → Range 4 12 (placeRefusal host room file)
+-- 7, 21 and 8
+file-number : (host : Bool) (file : List ℕ) → Told (LoadNumber host) (fileRefusal host file)
+unfolding fileRefusal
+file-number host file =
+    after-told (LoadNumber host) (headerRefusal file) _ (from-range host (headerRefusal file) (header-range file))
+    (required-told (LoadNumber host) _ 7 _ (inl (omega arith, omega arith)) (align-number host file))
+
+place-number : (host : Bool) (room : ℕ) (file : List ℕ) → Told (LoadNumber host) (placeRefusal host room file)
 unfolding placeRefusal
-place-range host room file =
-    after-range 4 12 (fileRefusal host file) _ (file-range host file) (last-range 4 12 _ 8 (omega arith) (omega arith))
+place-number host room file =
+    after-told (LoadNumber host) (fileRefusal host file) _ (file-number host file)
+    (required-told (LoadNumber host) _ 8 0 (inl (omega arith, omega arith)) (λ z. absurd (omega arith)))
 
 -- 9 to 12
 fields-range : (ended : Bool) (f : Fields) → Range 4 12 (fieldsRefusal ended f)
@@ -97,11 +130,11 @@ read-range host image segments (At at) =
     after-range 4 12 (fieldsRefusal (endsInside image at) (fieldsOf image at)) _ (fields-range (endsInside image at) (fieldsOf image at))
     (required-range 4 12 _ 11 _ (omega arith) (omega arith) (last-range 4 12 _ 12 (omega arith) (omega arith)))
 
-object-range : (host : Bool) (room : ℕ) (file : List ℕ) → Range 4 12 (objectRefusal host room file)
+object-number : (host : Bool) (room : ℕ) (file : List ℕ) → Told (LoadNumber host) (objectRefusal host room file)
 unfolding objectRefusal
-object-range host room file =
-    after-range 4 12 (placeRefusal host room file) _ (place-range host room file)
-    (read-range host (objectImage host file) (segmentsOf host file) (dynamicOf file))
+object-number host room file =
+    after-told (LoadNumber host) (placeRefusal host room file) _ (place-number host room file)
+    (from-range host _ (read-range host (objectImage host file) (segmentsOf host file) (dynamicOf file)))
 
 -- 17
 written-range : (r : Record) (p n : ℕ) → Range 14 18 (writtenRefusal r p n)
@@ -151,6 +184,11 @@ entry-range S k image r e copies =
     symbol-range image r (e .symbol) (λ y. copyRefusal S k r (e .place) (y .size) (resolveCopy S (wantedBy image r (e .symbol))))
     (λ y. copy-range S k r (e .place) (y .size) (resolveCopy S (wantedBy image r (e .symbol))))
 
+-- the first file is the host's
+abbrev pub HostFirst : List File → Type 0
+HostFirst [] = Unit {0}
+HostFirst (f ∷ fs) = f .host ≡ true
+
 -- ---- verdicts: what holds of the number and the object, where there is a refusal
 
 abbrev pub Meets : (ℕ → ℕ → Type 0) → Verdict → Type 0
@@ -172,30 +210,43 @@ module _ (P : ℕ → ℕ → Type 0) where
   unless-meets true n k h = tt
   unless-meets false n k h = h refl
 
-  -- of numbers in a range
-  verdict-meets : (low high n k : ℕ) → Range low high n → (low ≤ n → n ≤ high → P n k) → Meets P (verdict n k)
+  -- of a number of which something holds
+  verdict-told : (Q : ℕ → Type 0) (n k : ℕ) → Told Q n → (Q n → P n k) → Meets P (verdict n k)
   unfolding verdict
-  verdict-meets low high n k r h = go (eqb n 0) refl
+  verdict-told Q n k r h = go (eqb n 0) refl
     where
       go : (t : Bool) → eqb n 0 ≡ t → Meets P (pick t Passed (Refused n k))
       go true e = tt
       go false e =
           let ne = eqb-false n 0 e in
-          let z = r (omega arith) in
-          h (z .0) (z .1)
+          h (r (omega arith))
 
-  -- 4 to 12, of the objects from `k` on
+  -- of numbers in a range
+  verdict-meets : (low high n k : ℕ) → Range low high n → (low ≤ n → n ≤ high → P n k) → Meets P (verdict n k)
+  verdict-meets low high n k r h = verdict-told (λ m. (low ≤ m) × (m ≤ high)) n k r (λ z. h (z .0) (z .1))
+
+  -- 4 to 12 and 21, of the objects from `k` on; the first of all is the host
   pub load-meets :
-      (S : Objs) (size k : ℕ) (files : List File) → ((n j : ℕ) → 4 ≤ n → n ≤ 12 → j < k + length files → P n j)
+      (S : Objs) (size k : ℕ) (files : List File) → (k ≡ 0 → HostFirst files)
+      → ((n j : ℕ) → ((4 ≤ n) × (n ≤ 12)) ⊎ ((n ≡ 21) × (1 ≤ j)) → j < k + length files → P n j)
       → Meets P (loadVerdict S size k files)
   unfolding loadVerdict
-  load-meets S size k [] h = tt
-  load-meets S size k (f ∷ fs) h =
+  load-meets S size k [] first h = tt
+  load-meets S size k (f ∷ fs) first h =
       let room : ℕ = size - (obj S k) .offset in
+      let number : ℕ = objectRefusal (f .host) (size - (obj S k) .offset) (f .bytes) in
       first-meets (verdict (objectRefusal (f .host) room (f .bytes)) k) _
-      (verdict-meets 4 12 (objectRefusal (f .host) room (f .bytes)) k (object-range (f .host) room (f .bytes))
-      (λ l g. h _ k l g (omega arith)))
-      (load-meets S size (k + 1) fs (λ n j l g b. h n j l g (omega arith)))
+      (verdict-told (LoadNumber (f .host)) (objectRefusal (f .host) room (f .bytes)) k (object-number (f .host) room (f .bytes))
+      (λ q. h number k
+      (⊎-elim
+      (λ (r : (4 ≤ number) × (number ≤ 12)). inl r)
+      (λ (r : (number ≡ 21) × (f .host ≡ false)). inr (r .0, not-first (decLe 1 k) (r .1)))
+      q) (omega arith)))
+      (load-meets S size (k + 1) fs (λ z. absurd (omega arith)) (λ n j l b. h n j l (omega arith)))
+    where
+      not-first : Dec (1 ≤ k) → f .host ≡ false → 1 ≤ k
+      not-first (yes l) e = l
+      not-first (no l) e = absurd (clash (first (omega arith)) e)
 
   -- 14 to 18, of object `k`
   module _ (S : Objs) (k : ℕ) (h : (n : ℕ) → 14 ≤ n → n ≤ 18 → P n k) where

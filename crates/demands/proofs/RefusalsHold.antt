@@ -1,8 +1,8 @@
 -- Demand 1's statements on refusals hold. Assumes nothing.
 use mathlib.Core.Path.{_≡_, refl, sym, ap, _∙_}
 use mathlib.Core.Bool.{true, false, true≢false}
-use mathlib.Core.Logic.{_⊎_, inl, inr, _≢_}
-use mathlib.Core.List.{List, _++_}
+use mathlib.Core.Logic.{_⊎_, inl, inr, ⊎-elim, _≢_}
+use mathlib.Core.List.{List, [], _∷_, _++_}
 use Prim.Native.Nat.{ℕ, _+_, _-_, _≤_, _<_}
 use native.Mathlib.Omega.{arith}
 use borrow.Author.Tests.{ne-eqb, eqb-false, leb-true}
@@ -47,6 +47,7 @@ use Rattle.binder.proofs.PrepareLaws.{files-length}
 use Rattle.demands.specs.Refusals.{withoutObject, ObjectOf, BindNumber, BindRefusals, QueryNumber, QueryRefusals, Answered, Lengths}
 use Rattle.demands.proofs.PassedSet.{sheet-prepared, counts, order-objects}
 use Rattle.demands.proofs.RefusalNumbers.{
+  HostFirst,
   Meets,
   first-meets,
   first-then,
@@ -64,13 +65,14 @@ abbrev Right : (ℕ → Type 0) → ℕ → ℕ → ℕ → Type 0
 Right N count n k = N n × ObjectOf count n k
 
 -- a refusal without an object
-without : (count n : ℕ) → has n withoutObject ≡ true → n ≢ 3 → (14 ≤ n → n ≤ 19 → ⊥) → ObjectOf count n 0
-without count n e three entry =
+without : (count n : ℕ) → has n withoutObject ≡ true → n ≢ 3 → (14 ≤ n → n ≤ 19 → ⊥) → n ≢ 21 → ObjectOf count n 0
+without count n e three entry aligned =
     record {
       zero = λ _. refl;
       object = λ f. absurd (clash e f);
       later = λ z. absurd (three z);
       entry = λ l h. absurd (entry l h);
+      aligned = λ z. absurd (aligned z);
     }
 
 not-without : (n : ℕ) → n ≢ 1 → n ≢ 2 → n ≢ 13 → n ≢ 20 → has n withoutObject ≡ false
@@ -78,44 +80,59 @@ not-without n a b c d = rw (ne-eqb n 1 a, ne-eqb n 2 b, ne-eqb n 13 c, ne-eqb n 
 
 -- a refusal of object `k`
 of-object :
-    (count n k : ℕ) → n ≢ 1 → n ≢ 2 → n ≢ 13 → n ≢ 20 → k < count → (n ≡ 3 → 3 ≤ k) → (14 ≤ n → n ≤ 19 → 1 ≤ k) → ObjectOf count n k
-of-object count n k a b c d small later entry =
+    (count n k : ℕ) → n ≢ 1 → n ≢ 2 → n ≢ 13 → n ≢ 20 → k < count → (n ≡ 3 → 3 ≤ k) → (14 ≤ n → n ≤ 19 → 1 ≤ k) → (n ≡ 21 → 1 ≤ k)
+    → ObjectOf count n k
+of-object count n k a b c d small later entry aligned =
     record {
       zero = λ e. absurd (clash e (not-without n a b c d));
       object = λ _. omega arith;
       later = λ e. omega (arith, later e);
       entry = λ l h. omega (arith, entry l h);
+      aligned = λ e. omega (arith, aligned e);
     }
+
+host-first : (os : List Input) → HostFirst (filesOf os)
+unfolding filesOf
+host-first [] = tt
+host-first (h ∷ os) = refl
 
 module _ (setting : Setting) (sheet bytes : List ℕ) (size : ℕ) where
   abbrev os : List Input
   os = setOf sheet bytes
 
-  -- 1 to 12
+  -- 1 to 12, and 21
   prepare-right :
-      (N : ℕ → Type 0) → ((n : ℕ) → 1 ≤ n → n ≤ 12 → N n) → Meets (Right N (length os)) (sheetVerdict setting sheet bytes size)
+      (N : ℕ → Type 0) → ((n : ℕ) → 1 ≤ n → n ≤ 12 → N n) → N 21 → Meets (Right N (length os)) (sheetVerdict setting sheet bytes size)
   unfolding prepareVerdict
-  prepare-right N ok =
+  prepare-right N ok aligned =
       first-meets (Right N (length os)) (unless (sheetOk sheet (length bytes)) 1 0) _
       (unless-meets (Right N (length os)) (sheetOk sheet (length bytes)) 1 0
-      (λ _. (ok 1 (omega arith) (omega arith), without (length os) 1 refl (λ e. omega arith) (λ l h. omega arith))))
+      (λ _. (ok 1 (omega arith) (omega arith), without (length os) 1 refl (λ e. omega arith) (λ l h. omega arith) (λ e. omega arith))))
       (first-meets (Right N (length os)) (unless (arenaOk size (setting .address)) 2 0) _
       (unless-meets (Right N (length os)) (arenaOk size (setting .address)) 2 0
-      (λ _. (ok 2 (omega arith) (omega arith), without (length os) 2 refl (λ e. omega arith) (λ l h. omega arith))))
+      (λ _. (ok 2 (omega arith) (omega arith), without (length os) 2 refl (λ e. omega arith) (λ l h. omega arith) (λ e. omega arith))))
       (first-meets (Right N (length os)) (unless (eqb (duplicateOf os) 0) 3 (duplicateOf os)) _
       (unless-meets (Right N (length os)) (eqb (duplicateOf os) 0) 3 (duplicateOf os)
       (λ e.
       let t = duplicate-later os (eqb-false (duplicateOf os) 0 e) in (
         ok 3 (omega arith) (omega arith),
         of-object (length os) 3 (duplicateOf os) (λ e. omega arith) (λ e. omega arith) (λ e. omega arith) (λ e. omega arith) (t .1) (λ _. t .0)
-            (λ l h. absurd (omega arith)),
+            (λ l h. absurd (omega arith)) (λ z. absurd (omega arith)),
       )))
-      (load-meets (Right N (length os)) (objectsIn setting os) size 0 (filesOf os)
-      (λ n j l h b. (
+      (load-meets (Right N (length os)) (objectsIn setting os) size 0 (filesOf os) (λ z. host-first os)
+      (λ n j q b.
+      ⊎-elim
+      (λ (r : (4 ≤ n) × (n ≤ 12)). (
         ok n (omega arith) (omega arith),
         of-object (length os) n j (λ e. omega arith) (λ e. omega arith) (λ e. omega arith) (λ e. omega arith)
-            (omega (arith, files-length os)) (λ e. absurd (omega arith)) (λ g i. absurd (omega arith)),
-      )))))
+            (omega (arith, files-length os)) (λ e. absurd (omega arith)) (λ g i. absurd (omega arith)) (λ e. absurd (omega arith)),
+      ))
+      (λ (r : (n ≡ 21) × (1 ≤ j)). (
+        rw (r .0) aligned,
+        of-object (length os) n j (λ e. omega arith) (λ e. omega arith) (λ e. omega arith) (λ e. omega arith)
+            (omega (arith, files-length os)) (λ e. absurd (omega arith)) (λ g i. absurd (omega arith)) (λ e. r .1),
+      ))
+      q))))
 
   -- 14 to 20
   relocate-right :
@@ -135,7 +152,7 @@ module _ (setting : Setting) (sheet bytes : List ℕ) (size : ℕ) where
       let b : (1 ≤ u) × (u < length (namesOf os) + 2) = order-objects (filesOf os) (namesOf os) u m in
       (ok 19 (omega arith) (omega arith), entry-of 19 u (omega arith) (omega arith) (b .0) (b .1))))
       (unless-meets (Right N (length os)) (leb (length (orderWords (objectsIn setting os) (filesOf os) (orderIn os))) words) 20 0
-      (λ _. (ok 20 (omega arith) (omega arith), without (length os) 20 refl (λ e. omega arith) (λ l h. omega arith)))))
+      (λ _. (ok 20 (omega arith) (omega arith), without (length os) 20 refl (λ e. omega arith) (λ l h. omega arith) (λ e. omega arith)))))
     where
       u : ℕ
       u = firstUndefined (objectsIn setting os) (filesOf os) (orderIn os)
@@ -143,7 +160,7 @@ module _ (setting : Setting) (sheet bytes : List ℕ) (size : ℕ) where
       entry-of : (n k : ℕ) → 14 ≤ n → n ≤ 19 → 1 ≤ k → k < length (namesOf os) + 2 → ObjectOf (length os) n k
       entry-of n k l h pos small =
           of-object (length os) n k (λ e. omega arith) (λ e. omega arith) (λ e. omega arith) (λ e. omega arith)
-          (omega (arith, counts sheet bytes good)) (λ e. absurd (omega arith)) (λ g i. pos)
+          (omega (arith, counts sheet bytes good)) (λ e. absurd (omega arith)) (λ g i. pos) (λ e. pos)
 
       undefined : (policy : Policy) → allows policy u ≡ false → u ≢ 0
       undefined Strict e = eqb-false u 0 e
@@ -155,7 +172,7 @@ module _ (setting : Setting) (sheet bytes : List ℕ) (size : ℕ) where
       (first (sheetVerdict setting sheet bytes size) (relocateVerdict (objectsIn setting os) (filesOf os) (orderIn os) policy words))
   bind-right policy words =
       first-then (Right BindNumber (length os)) (sheetVerdict setting sheet bytes size) _
-      (prepare-right BindNumber (λ n l h. omega arith))
+      (prepare-right BindNumber (λ n l h. omega arith) (omega arith))
       (λ v. relocate-right BindNumber (λ n l h. omega arith) (sheet-prepared sheet bytes setting size v .0) policy words)
 
   query-right :
@@ -164,9 +181,9 @@ module _ (setting : Setting) (sheet bytes : List ℕ) (size : ℕ) where
       (first (sheetVerdict setting sheet bytes size) (unless (ltb requester (length os)) 13 0))
   query-right requester =
       first-then (Right QueryNumber (length os)) (sheetVerdict setting sheet bytes size) _
-      (prepare-right QueryNumber (λ n l h. omega arith))
+      (prepare-right QueryNumber (λ n l h. inl (l, omega arith)) (inr refl))
       (λ v. unless-meets (Right QueryNumber (length os)) (ltb requester (length os)) 13 0
-      (λ _. (omega arith, without (length os) 13 refl (λ e. omega arith) (λ l h. omega arith))))
+      (λ _. (inl (omega arith, omega arith), without (length os) 13 refl (λ e. omega arith) (λ l h. omega arith) (λ e. omega arith))))
 
 -- ---- what is left
 

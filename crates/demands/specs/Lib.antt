@@ -3,6 +3,7 @@ pub mod LongerSet
 pub mod OrderReport
 pub mod Cases
 pub mod Refusals
+pub mod LargePages
 pub mod PairOfSheets
 pub mod ObjectRuns
 pub mod WalksEnd

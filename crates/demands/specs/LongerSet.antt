@@ -42,13 +42,13 @@ LongerSet =
 
 -- ---- the same for the public query
 
--- the set meets none of refusals 1 to 12 in an arena of `size` bytes: only 13 is left to a query
+-- the set meets none of refusals 1 to 12 and 21 in an arena of `size` bytes: only 13 is left to a query
 abbrev pub PassesLoading : Setting → List ℕ → List ℕ → ℕ → Type 0
 PassesLoading setting sheet bytes size =
     (sheetOk sheet (length bytes) ≡ true) × (prepareVerdict setting (setOf sheet bytes) size ≡ Passed)
 
 -- demand 3's clause on names, for what `query` answers; document 01: "An answer is what a lookup yields". S and T are asked in arenas of any
--- sizes in which they meet none of refusals 1 to 12. They need not be bound; a set that is bound can be asked in the arena of that call.
+-- sizes in which they meet none of refusals 1 to 12 and 21. They need not be bound; a set that is bound can be asked in the arena of that call.
 pub record LongerQuery : Type 0 where
   pub bound-loaded :
       (setting : Setting) (sheet bytes : List ℕ) (size : ℕ) (policy : Policy) (words : ℕ) (arena report : List ℕ)

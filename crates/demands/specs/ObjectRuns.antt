@@ -1,6 +1,6 @@
--- What is proved of the runs that placing an object writes (object/specs/Runs), of a file that passes refusals 4 to 7. Document 02, (d): "The
--- runs of file bytes and zeros that placing an object writes become a definition: each byte of its span is shown to lie in exactly one".
--- Assumes nothing.
+-- What is proved of the runs that placing an object writes (object/specs/Runs), of a file that passes refusals 4 to 7 and 21. Document 02, (d):
+-- "The runs of file bytes and zeros that placing an object writes become a definition: each byte of its span is shown to lie in exactly
+-- one". Assumes nothing.
 use mathlib.Core.Bool.{Bool, true}
 use mathlib.Core.List.{List}
 use mathlib.Core.Path.{_≡_}

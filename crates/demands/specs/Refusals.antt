@@ -1,7 +1,7 @@
 -- Demand 1 for `bind` and `query`: "The answer to every sheet, file, address and policy, damaged ones included, is a bound arena with its
 -- report, or one numbered refusal with an object number; a refusal leaves zeros in arena and report". Document 01, "Refused, in checking
 -- order": "Object number 0 for 1, 2, 13, 20"; "What is handed in": "The host plays the part of `miros`: already mapped, never written".
--- Assumes nothing.
+-- Document 02, (a): "21, after 7, a PT_LOAD p_align, the host's excepted, ..; a query meets it too". Assumes nothing.
 use mathlib.Core.Bool.{true, false}
 use mathlib.Core.List.{List, [], _∷_}
 use mathlib.Core.Logic.{_⊎_, _≢_}
@@ -36,10 +36,12 @@ pub record ObjectOf (count n k : ℕ) : Type 0 where
   pub later : n ≡ 3 → 3 ≤ k
   -- 14 to 19 are of entries, and the host's are not read
   pub entry : 14 ≤ n → n ≤ 19 → 1 ≤ k
+  -- 21: "the host's excepted"
+  pub aligned : n ≡ 21 → 1 ≤ k
 
--- the numbers of `bind`: 1 to 12, and 14 to 20
+-- the numbers of `bind`: 1 to 12, and 14 to 21
 abbrev pub BindNumber : ℕ → Type 0
-BindNumber n = (1 ≤ n) × (n ≤ 20) × (n ≢ 13)
+BindNumber n = (1 ≤ n) × (n ≤ 21) × (n ≢ 13)
 
 -- what a refused call to `bind` answers, and leaves
 pub record BindRefused (sheet bytes : List ℕ) (size words n k : ℕ) (arena report : List ℕ) : Type 0 where
@@ -54,9 +56,9 @@ BindRefusals =
     → bindOf setting sheet bytes size policy words ≡ outcome (answers.the-variants.Refused n k) arena report
     → BindRefused sheet bytes size words n k arena report
 
--- a query "meets only refusals 1 to 13"
+-- a query "meets only refusals 1 to 13", and 21
 abbrev pub QueryNumber : ℕ → Type 0
-QueryNumber n = (1 ≤ n) × (n ≤ 13)
+QueryNumber n = ((1 ≤ n) × (n ≤ 13)) ⊎ (n ≡ 21)
 
 -- what a refused query answers, and leaves
 pub record QueryRefused (sheet bytes : List ℕ) (size n k : ℕ) (arena : List ℕ) : Type 0 where

@@ -3,6 +3,7 @@ pub mod ListTests
 pub mod RefusalLaws
 pub mod LoadLaws
 pub mod SegmentLaws
+pub mod AlignLaws
 pub mod OrderedSegments
 pub mod RunLaws
 pub mod ObjectRuns

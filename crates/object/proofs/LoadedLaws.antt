@@ -2,7 +2,7 @@
 use mathlib.Core.Path.{_≡_, sym, ap, _∙_}
 use mathlib.Core.Bool.{Bool}
 use mathlib.Core.List.{List}
-use Prim.Native.Nat.{ℕ, _≤_}
+use Prim.Native.Nat.{ℕ, _≤_, _<_}
 use native.Mathlib.Omega.{arith}
 use borrow.Author.Tests.{leb-true}
 use lib.Dec.{leb}
@@ -19,7 +19,7 @@ use Rattle.object.specs.declared.program_header.Dynamic.the-variants.{Mi
 use Rattle.object.specs.declared.object_data.Placed.{Placed}
 use Rattle.object.specs.declared.dynamic_fields.Read.{Read}
 use Rattle.object.proofs.RefusalLaws.{required, after-met, after-none, after-zero}
-use Rattle.object.proofs.PlaceLaws.{part-placed}
+use Rattle.object.proofs.PlaceLaws.{part-placed, place-file, place-eight}
 
 module _ (host : Bool) (file : List ℕ) where
   -- refusal 8 passed: there is room for the span
@@ -29,6 +29,24 @@ module _ (host : Bool) (file : List ℕ) where
       let a = after-zero (fileRefusal host file) _ e in
       let c = required (leb (objectSpan host file) room) 7 _ (a .1) in
       leb-true (objectSpan host file) room (c .0)
+
+  -- a refusal by the headers, and refusal 8
+  pub load-headers : (room : ℕ) → (fileRefusal host file ≡ 0 → ⊥) → objectRefusal host room file ≡ fileRefusal host file
+  unfolding objectRefusal
+  load-headers room ne =
+      let p : placeRefusal host room file ≡ fileRefusal host file = place-file host file room ne in
+      after-met (placeRefusal host room file) _ (λ z. ne (sym p ∙ z)) ∙ p
+
+  pub load-eight : (room : ℕ) → fileRefusal host file ≡ 0 → room < objectSpan host file → objectRefusal host room file ≡ 8
+  unfolding objectRefusal
+  load-eight room z h =
+      let p : placeRefusal host room file ≡ 8 = place-eight host file room z h in
+      after-met (placeRefusal host room file) _ (λ (g : placeRefusal host room file ≡ 0). omega (arith, p, g)) ∙ p
+
+  -- what is loaded passed the header checks
+  pub load-checked : (room : ℕ) → objectRefusal host room file ≡ 0 → fileRefusal host file ≡ 0
+  unfolding objectRefusal placeRefusal
+  load-checked room e = after-zero (fileRefusal host file) _ (after-zero (placeRefusal host room file) _ e .0) .0
 
   -- the image read after placing is the file's own
   pub image-placed :

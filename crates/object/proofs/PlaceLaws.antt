@@ -1,8 +1,8 @@
--- Refusals 7 and 8, and what placing leaves. Assumes nothing.
-use mathlib.Core.Path.{_≡_, sym, ap, _∙_}
+-- Refusals 7, 21 and 8, and what placing leaves. Assumes nothing.
+use mathlib.Core.Path.{_≡_, refl, sym, ap, _∙_}
 use mathlib.Core.Bool.{Bool, true, false}
-use mathlib.Core.List.{List, []}
-use Prim.Native.Nat.{ℕ, _-_, _%_, _≤_, _<_}
+use mathlib.Core.List.{List, [], _∷_}
+use Prim.Native.Nat.{ℕ, _+_, _-_, _%_, _≤_, _<_, max}
 use native.Mathlib.Omega.{arith}
 use borrow.Author.Tests.{eq-eqb, ne-eqb, le-leb, lt-leb, leb-true}
 use lib.Dec.{eqb, leb}
@@ -14,13 +14,17 @@ use Rattle.words.proofs.Choice.{both-true}
 use Rattle.words.proofs.Slices.{patch-same}
 use Rattle.object.specs.Refusal.{require, after}
 use Rattle.object.specs.Header.{headerRefusal, tableEnd}
-use Rattle.object.proofs.RefusalLaws.{after-met, after-twice}
+use Rattle.object.proofs.RefusalLaws.{required, after-met, after-zero, after-twice}
+use Rattle.object.proofs.SegmentLaws.{sound}
+use Rattle.object.proofs.AlignLaws.{align-least, align-largest}
+use Rattle.object.proofs.MarkLaws.{never}
 use Rattle.object.proofs.RunLaws.{written, write-between}
 use Rattle.object.proofs.ObjectRuns.{fine, passed-seven, tiled-object, runs-say}
 use Rattle.object.specs.ProgramHeader.{loadsOf}
 use Rattle.object.specs.Steps.LoadTable.{segmentsIn, SegmentsIn}
-use Rattle.object.specs.Segments.{holdsHeaders, segmentOk, allApart, segmentsOk, spanOf}
-use Rattle.object.specs.Placed.{segmentsOf, objectSpan, objectBytes, fileRefusal, placeRefusal, placedPart, CheckedBy, PlacedBy}
+use Rattle.object.specs.Segments.{holdsHeaders, segmentOk, allApart, segmentsOk, endOf, spanOf}
+use Rattle.object.specs.Alignment.{alignOk, alignOf}
+use Rattle.object.specs.Placed.{segmentsOf, objectSpan, objectAlign, objectBytes, fileRefusal, placeRefusal, placedPart, CheckedBy, PlacedBy}
 use Rattle.object.specs.Runs.{fileFrom, byAddress, runsFrom, runsOf, saidBy}
 use Rattle.object.specs.Steps.WriteRuns.{writeRuns}
 use Rattle.object.specs.declared.program_header.Segment.{Segment}
@@ -73,11 +77,14 @@ module _ (file : List ℕ) (ss : List Segment) (l : Loads) (loaded : SegmentsIn 
     pub ok-every : every (segmentOk (length file)) (segmentsIn l) ≡ true
     ok-every = rw ok-table (tests .1)
 
--- ---- refusals 4 to 8
+-- ---- refusals 4 to 8 and 21
 
 module _ (host : Bool) (file : List ℕ) where
   abbrev pub Passes : Bool → Type 0
   Passes t = pick host (eqb (length file % pageSize) 0) (segmentsOk file (loadsOf file)) ≡ t
+
+  abbrev pub Aligned : Bool → Type 0
+  Aligned t = every alignOk (segmentsOf host file) ≡ t
 
   pub refusal-header : (headerRefusal file ≡ 0 → ⊥) → fileRefusal host file ≡ headerRefusal file
   unfolding fileRefusal
@@ -88,9 +95,26 @@ module _ (host : Bool) (file : List ℕ) where
     unfolding fileRefusal after require
     refusal-seven e = rw (z, e)
 
-    pub refusal-none : Passes true → fileRefusal host file ≡ 0
+    pub refusal-align : Passes true → Aligned false → fileRefusal host file ≡ 21
     unfolding fileRefusal after require
-    refusal-none e = rw (z, e)
+    refusal-align e g = rw (z, e, g)
+
+    pub refusal-none : Passes true → Aligned true → fileRefusal host file ≡ 0
+    unfolding fileRefusal after require
+    refusal-none e g = rw (z, e, g)
+
+  -- what refusal 21 lets through
+  pub aligned : fileRefusal host file ≡ 0 → Aligned true
+  unfolding fileRefusal
+  aligned e =
+      let a = after-zero (headerRefusal file) _ e in
+      let b = required (pick host (eqb (length file % pageSize) 0) (segmentsOk file (loadsOf file))) 6 _ (a .1) in
+      required (every alignOk (segmentsOf host file)) 20 0 (b .1) .0
+
+  -- the alignment of an object that passes 21
+  pub object-align : fileRefusal host file ≡ 0 → (4096 ≤ objectAlign host file) × (objectAlign host file ≤ 2097152)
+  unfolding objectAlign
+  object-align e = (align-least (segmentsOf host file), align-largest (segmentsOf host file) (aligned e))
 
   module _ (room : ℕ) where
     pub place-file : (fileRefusal host file ≡ 0 → ⊥) → placeRefusal host room file ≡ fileRefusal host file
@@ -106,15 +130,16 @@ module _ (host : Bool) (file : List ℕ) where
       unfolding placeRefusal after require
       place-none h = rw (z, le-leb (objectSpan host file) room h)
 
-    -- 4 to 8 as one chain
+    -- 4 to 8 and 21 as one chain
     pub place-chain : placeRefusal host room file
         ≡ after (headerRefusal file)
         (require (pick host (eqb (length file % pageSize) 0) (segmentsOk file (loadsOf file))) 7
-        (require (leb (objectSpan host file) room) 8 0))
+        (require (every alignOk (segmentsOf host file)) 21
+        (require (leb (objectSpan host file) room) 8 0)))
     unfolding placeRefusal fileRefusal
     place-chain =
         after-twice (headerRefusal file) (pick host (eqb (length file % pageSize) 0) (segmentsOk file (loadsOf file)))
-        (require (leb (objectSpan host file) room) 8 0)
+        (every alignOk (segmentsOf host file)) (require (leb (objectSpan host file) room) 8 0)
 
 -- ---- the answers of the header checks and of placing
 
@@ -126,6 +151,7 @@ checked-no host file r n ne p e s z =
     record {
       refusal = e ∙ sym p;
       span = λ h. absurd (ne (sym e ∙ h));
+      align = λ h. absurd (ne (sym e ∙ h));
       segments = λ h. absurd (ne (sym e ∙ h));
       few = omega arith;
       none = λ h. (s, ap (λ (k : ℕ). take k (r .loads .list)) z);
@@ -133,11 +159,12 @@ checked-no host file r n ne p e s z =
 
 pub checked-yes :
     (host : Bool) (file : List ℕ) (r : Placed) → fileRefusal host file ≡ 0 → r .refusal ≡ 0 → r .span ≡ objectSpan host file
+    → r .align ≡ objectAlign host file
     → segmentsIn (r .loads) ≡ segmentsOf host file
     → r .loads .count ≤ 16
     → CheckedBy host file r
-checked-yes host file r p e s l f =
-    record { refusal = e ∙ sym p; span = λ h. s; segments = λ h. l; few = f; none = λ h. absurd (h e) }
+checked-yes host file r p e s g l f =
+    record { refusal = e ∙ sym p; span = λ h. s; align = λ h. g; segments = λ h. l; few = f; none = λ h. absurd (h e) }
 
 -- ---- what placing leaves
 
@@ -207,10 +234,12 @@ module _ (file : List ℕ) (z : headerRefusal file ≡ 0) where
   pub host-seven : (length file % pageSize ≡ 0 → ⊥) → fileRefusal true file ≡ 7
   host-seven ne = refusal-seven true file z (ne-eqb (length file % pageSize) 0 ne)
 
-  pub host-checked : (r : Placed) → length file % pageSize ≡ 0 → r .refusal ≡ 0 → r .span ≡ length file → r .loads .count ≡ 0 → CheckedBy true file r
-  unfolding objectSpan segmentsOf
-  host-checked r whole e s k =
-      checked-yes true file r (refusal-none true file z (eq-eqb (length file % pageSize) 0 whole)) e s (ap (λ (n : ℕ). take n (r .loads .list)) k)
+  pub host-checked :
+      (r : Placed) → length file % pageSize ≡ 0 → r .refusal ≡ 0 → r .span ≡ length file → r .align ≡ 4096 → r .loads .count ≡ 0
+      → CheckedBy true file r
+  unfolding objectSpan objectAlign segmentsOf alignOf every
+  host-checked r whole e s g k =
+      checked-yes true file r (refusal-none true file z (eq-eqb (length file % pageSize) 0 whole) refl) e s g (ap (λ (n : ℕ). take n (r .loads .list)) k)
       (omega (arith, k))
 
 pub host-runs : (file entry : List ℕ) {exit : List ℕ} → exit ≡ patch entry 0 (length file) (from 0 (mem file)) → exit ≡ writeRuns file (runsOf true file) entry
@@ -225,12 +254,23 @@ module _ (file : List ℕ) (l : Loads) (loaded : SegmentsIn (loadsOf file) l) (z
   pub file-seven : segmentsOk file (loadsOf file) ≡ false → fileRefusal false file ≡ 7
   file-seven e = refusal-seven false file z e
 
+  module _ (ok : segmentsOk file (loadsOf file) ≡ true) where
+    pub file-align : every alignOk (segmentsIn l) ≡ false → fileRefusal false file ≡ 21
+    unfolding segmentsOf
+    file-align e = refusal-align false file z ok (ap (every alignOk) (sym (ok-table file (loadsOf file) l loaded ok)) ∙ e)
+
   pub file-checked :
-      (r : Placed) → segmentsOk file (loadsOf file) ≡ true → r .refusal ≡ 0 → r .span ≡ spanOf (segmentsIn l) → r .loads ≡ l → CheckedBy false file r
-  unfolding objectSpan segmentsOf
-  file-checked r ok e s k =
-      checked-yes false file r (refusal-none false file z ok) e
+      (r : Placed) → segmentsOk file (loadsOf file) ≡ true → every alignOk (segmentsIn l) ≡ true → r .refusal ≡ 0
+      → r .span ≡ spanOf (segmentsIn l)
+      → r .align ≡ alignOf (segmentsIn l)
+      → r .loads ≡ l
+      → CheckedBy false file r
+  unfolding objectSpan objectAlign segmentsOf
+  file-checked r ok al e s g k =
+      checked-yes false file r
+      (refusal-none false file z ok (ap (every alignOk) (sym (ok-table file (loadsOf file) l loaded ok)) ∙ al)) e
       (s ∙ ap (λ (ss : List Segment). spanOf ss) (ok-table file (loadsOf file) l loaded ok))
+      (g ∙ ap alignOf (ok-table file (loadsOf file) l loaded ok))
       (ap (λ (t : Loads). segmentsIn t) k ∙ ok-table file (loadsOf file) l loaded ok) (rw k (ok-count file (loadsOf file) l loaded ok))
 
 module _ (file : List ℕ) (l : Loads) (same : segmentsIn l ≡ segmentsOf false file) where
@@ -243,3 +283,17 @@ module _ (file : List ℕ) (l : Loads) (same : segmentsIn l ≡ segmentsOf false
       → exit ≡ writeRuns file (runsOf false file) entry
   unfolding segmentsOf runsOf
   file-runs entry x = x ∙ ap (λ (ss : List Segment). writeRuns file (runsFrom (length file) 0 (byAddress ss)) entry) same
+
+-- the span of a file that is not refused is not empty
+pub file-span : (file : List ℕ) → fileRefusal false file ≡ 0 → 0 < objectSpan false file
+unfolding objectSpan segmentsOk some every endOf
+file-span file z = go (loadsOf file) (passed-seven false file z)
+  where
+    go : (ss : List Segment) → segmentsOk file ss ≡ true → 0 < spanOf ss
+    go [] ok = never ok
+    go (s ∷ ss) ok =
+        let a = both-true (leb (length (s ∷ ss)) 16) _ ok in
+        let b = both-true (some (holdsHeaders (tableEnd file)) (s ∷ ss)) _ (a .1) in
+        let c = both-true (every (segmentOk (length file)) (s ∷ ss)) _ (b .1) in
+        let d = both-true (segmentOk (length file) s) _ (c .0) in
+        omega (arith, sound (length file) s (d .0) .some-bytes)

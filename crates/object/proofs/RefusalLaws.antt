@@ -34,11 +34,13 @@ after-zero zero rest e = (refl, e)
 after-zero (suc n) rest e = absurd (omega arith)
 
 -- two chains, one after the other, are one
-pub after-twice : (h : ℕ) (t : Bool) (rest : ℕ) → after (after h (require t 7 0)) rest ≡ after h (require t 7 rest)
+pub after-twice :
+    (h : ℕ) (t u : Bool) (rest : ℕ) → after (after h (require t 7 (require u 21 0))) rest ≡ after h (require t 7 (require u 21 rest))
 unfolding after require
-after-twice zero true rest = refl
-after-twice zero false rest = refl
-after-twice (suc h) t rest = refl
+after-twice zero true true rest = refl
+after-twice zero true false rest = refl
+after-twice zero false u rest = refl
+after-twice (suc h) t u rest = refl
 
 -- the header table lies in the file
 pub table-inside : (file : List ℕ) → headerRefusal file ≡ 0 → tableEnd file ≤ length file

@@ -3,6 +3,7 @@ pub mod Header
 pub mod ProgramHeader
 pub mod TableBytes
 pub mod Segments
+pub mod Alignment
 pub mod Placed
 pub mod Runs
 pub mod DynamicArray

@@ -1,4 +1,4 @@
--- One object, from its file: refusals 4 to 12, the placed bytes and the record. Document 01, "Refused, in checking order": "4 to 12 run
+-- One object, from its file: refusals 4 to 12 and 21, the placed bytes and the record. Document 01, "Refused, in checking order": "4 to 12 run
 -- object by object". All of it hangs on the file, on whether it is the host's, and, for refusal 8, on the room that is left; nothing on
 -- where in the arena the object is placed. Assumes nothing.
 use mathlib.Core.Bool.{Bool}
@@ -16,7 +16,7 @@ use Rattle.object.specs.declared.dynamic_fields.Read.{Read}
 unfoldable pub objectRecord : Bool → List ℕ → Record
 objectRecord host file = recordAt (objectImage host file) (segmentsOf host file) (dynamicOf file)
 
--- refusals 4 to 12, where `room` bytes are left in the arena
+-- refusals 4 to 12 and 21, where `room` bytes are left in the arena
 unfoldable pub objectRefusal : Bool → ℕ → List ℕ → ℕ
 objectRefusal host room file =
     after (placeRefusal host room file) (readRefusal host (objectImage host file) (segmentsOf host file) (dynamicOf file))

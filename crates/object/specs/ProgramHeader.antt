@@ -1,4 +1,4 @@
--- The program headers. System V gABI, "Program Header" (Elf64_Phdr: p_type, p_flags, p_offset, p_vaddr, p_filesz, p_memsz; PF_X 1,
+-- The program headers. System V gABI, "Program Header" (Elf64_Phdr: p_type, p_flags, p_offset, p_vaddr, p_filesz, p_memsz, p_align; PF_X 1,
 -- PF_W 2, PF_R 4). Document 01, "PT_LOAD (1)", "The last PT_DYNAMIC (2) counts". Assumes nothing.
 use mathlib.Core.Bool.{Bool}
 use mathlib.Core.List.{List, [], _∷_, _++_}
@@ -25,6 +25,7 @@ segmentAt file i =
       vaddr = leAt 8 (mem file) (tableStart file + (56 * i + 16));
       filesz = leAt 8 (mem file) (tableStart file + (56 * i + 32));
       memsz = leAt 8 (mem file) (tableStart file + (56 * i + 40));
+      align = leAt 8 (mem file) (tableStart file + (56 * i + 48));
     }
 
 -- the PT_LOAD headers among the first `n`, in their order

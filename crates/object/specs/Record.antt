@@ -1,4 +1,4 @@
--- The object record, and refusals 9 to 12. Document 01, "The object record"; System V gABI, "Dynamic Section". "Pointers are offsets
+-- The object record, and refusals 9 to 12. Document 01, "The object record"; document 02, (a); System V gABI, "Dynamic Section". "Pointers are offsets
 -- from base." Sums of offsets are natural numbers: a table that starts outside the span is outside. Assumes nothing.
 use mathlib.Core.Bool.{Bool, true}
 use mathlib.Core.List.{List, []}
@@ -27,6 +27,7 @@ use Rattle.object.specs.DynamicArray.{endsInside}
 use Rattle.object.specs.DynamicTags as DT
 use Rattle.object.specs.DynamicFields.{Fields, fieldsOf, neededOffsets}
 use Rattle.object.specs.TableBytes.{isTable, tableBytes, tableName}
+use Rattle.object.specs.Alignment.{alignOf}
 use Rattle.object.specs.HashTable.{sysvAt, gnuAt}
 use Rattle.object.specs.Symbol.{symbolAt}
 use Rattle.object.specs.HashCheck.{symbolOk, tableOk}
@@ -39,6 +40,8 @@ pub record Record : Type 0 where
   pub segments : List Segment
   pub needed : List ℕ
   pub span : ℕ
+  -- document 02, (a): "the largest p_align of its PT_LOAD headers"
+  pub align : ℕ
   -- the string table and the symbol table
   pub strings : ℕ
   pub symbols : ℕ
@@ -60,6 +63,7 @@ heldBy o =
       segments = take (o .count) (o .segments);
       needed = take (o .needs) (o .needed);
       span = o .span;
+      align = o .align;
       strings = o .strings;
       symbols = o .symbols;
       table = o .table;
@@ -79,6 +83,7 @@ noRecord =
       segments = [];
       needed = [];
       span = 0;
+      align = 0;
       strings = 0;
       symbols = 0;
       table = Without;
@@ -111,6 +116,7 @@ recordIn image segments f needs =
       segments = segments;
       needed = needs;
       span = length image;
+      align = alignOf segments;
       strings = f DT.STRTAB .value;
       symbols = f DT.SYMTAB .value;
       table = tableIn image f;

@@ -31,14 +31,15 @@ use crate::program_header::Loads;
 use crate::program_header::Segment;
 use crate::table_bytes::Bounds;
 
-// The record of an object: the first `count` of `segments`, of which the host has none, and the first `needs` of `needed`; the string and
-// symbol tables, the chosen hash table, the symbol count, and the relocation tables with their counts. Pointers are offsets in the span.
+// The record of an object: the first `count` of `segments`, of which the host has none, and the first `needs` of `needed`; the span and the
+// alignment; the string and symbol tables, the chosen hash table, the symbol count, and the relocation tables with their counts. Pointers are offsets in the span.
 pub struct ObjectData {
     pub segments: [Segment; 16],
     pub count: usize,
     pub needed: [usize; 64],
     pub needs: usize,
     pub span: usize,
+    pub align: usize,
     pub strings: usize,
     pub symbols: usize,
     pub table: HashTable,
@@ -133,8 +134,10 @@ fn table_in(image: &[u8], slots: &Slots) -> HashTable
 
 // The record of an image.
 fn object_in(image: &[u8], l: Loads, slots: &Slots, n: Needs) -> ObjectData
+    requires { ⌜ l .count ≤ 16 ⌝ }
     ensures { λ r. ⌜ (heldBy r ≡ recordIn (now (image .entry)) (segmentsIn l) (fieldIn (now (image .entry)) (now (slots .entry))) (take (n .count) (n .list))) × (r .needs ≡ n .count) × RelocationCounts r ⌝ }
 {
+    let align = crate::alignment::align_of(l);
     let segments = l.list;
     let needed = n.list;
     let strtab = field_in(image, slots, DT_STRTAB);
@@ -161,6 +164,7 @@ fn object_in(image: &[u8], l: Loads, slots: &Slots, n: Needs) -> ObjectData
         needed: needed,
         needs: n.count,
         span: image.len(),
+        align: align,
         strings: strtab.value,
         symbols: symtab.value,
         table: table,
@@ -257,6 +261,7 @@ pub(crate) fn refused(number: u32) -> Read
         filesz: 0,
         memsz: 0,
         flags: 0,
+        align: 0,
     };
     let segments = [none; 16];
     let needed = [0usize; 64];
@@ -268,6 +273,7 @@ pub(crate) fn refused(number: u32) -> Read
         needed: needed,
         needs: 0,
         span: 0,
+        align: 0,
         strings: 0,
         symbols: 0,
         table: table,
@@ -287,6 +293,7 @@ pub(crate) fn refused(number: u32) -> Read
 
 // Reads the record of an image, the placed bytes of an object's span, whose dynamic array stands at `d`.
 pub fn read_object(image: &[u8], l: Loads, d: Dynamic, host: bool) -> Read
+    requires { ⌜ l .count ≤ 16 ⌝ }
     ensures { λ r. ⌜ ReadBy host (now (image .entry)) (segmentsIn l) d r ⌝ }
 {
     let Dynamic::At(at) = d else {

@@ -1,4 +1,5 @@
 // Reading one object: port of elf/* and objects/object_data/*. It knows nothing of sets.
+pub mod alignment;
 pub mod check;
 pub mod dynamic_array;
 pub mod dynamic_fields;

@@ -11,11 +11,12 @@ ghost use Rattle.object.specs.Loaded.{LoadedBy};
 use crate::dynamic_fields::Read;
 use crate::program_header::Loads;
 
-// The answer of the header checks, and of placing: a refusal with no span and no segments, or 0 with the span and the load segments, of
-// which the host has none.
+// The answer of the header checks, and of placing: a refusal with no span and no segments, or 0 with the span, the alignment and the load
+// segments, of which the host has none.
 pub struct Placed {
     pub refusal: u32,
     pub span: usize,
+    pub align: usize,
     pub loads: Loads,
 }
 
@@ -25,6 +26,7 @@ fn refused(number: u32) -> Placed
     Placed {
         refusal: number,
         span: 0,
+        align: 0,
         loads: crate::program_header::no_loads(),
     }
 }
@@ -41,6 +43,7 @@ fn check_host(file: &[u8]) -> Placed
     Placed {
         refusal: 0,
         span: n,
+        align: 4096,
         loads: crate::program_header::no_loads(),
     }
 }
@@ -54,15 +57,20 @@ fn check_file(file: &[u8]) -> Placed
     if !crate::segments::segments_ok(file, l) {
         return refused(7);
     }
+    if !crate::alignment::aligns_ok(l) {
+        return refused(21);
+    }
+    let align = crate::alignment::align_of(l);
     let span = crate::segments::span_of(l, file.len());
     Placed {
         refusal: 0,
         span: span,
+        align: align,
         loads: l,
     }
 }
 
-// Checks an object by its headers, which its file alone decides: refusals 4 to 7.
+// Checks an object by its headers, which its file alone decides: refusals 4 to 7, and 21.
 pub fn check_headers(file: &[u8], host: bool) -> Placed
     ensures { λ r. ⌜ CheckedBy host (now (file .entry)) r ⌝ }
 {
@@ -88,14 +96,11 @@ fn place_runs(part: &mut [u8], file: &[u8], host: bool, l: Loads)
     crate::segments::place_segments(part, file, l);
 }
 
-// Checks an object by its headers and places it at the start of `part`, the arena from the object's offset to its end.
-pub fn place(part: &mut [u8], file: &[u8], host: bool) -> Placed
+// Places an object whose headers were checked at the start of `part`, the arena from the object's offset to its end: refusal 8.
+pub fn place(part: &mut [u8], file: &[u8], host: bool, p: Placed) -> Placed
+    requires { ⌜ CheckedBy host (now file) p × (p .refusal ≡ 0) ⌝ }
     ensures { λ r. ⌜ PlacedBy host (now (file .entry)) (now (part .entry)) (now (part .exit)) r ⌝ }
 {
-    let p = check_headers(file, host);
-    if p.refusal != 0 {
-        return p;
-    }
     let span = p.span;
     if part.len() < span {
         return refused(8);
@@ -105,11 +110,13 @@ pub fn place(part: &mut [u8], file: &[u8], host: bool) -> Placed
     p
 }
 
-// Checks an object, places it at the start of `part`, the arena from the object's offset to its end, and reads its record: refusals 4 to 12.
-pub fn load(part: &mut [u8], file: &[u8], host: bool) -> Read
+// Places an object whose headers were checked at the start of `part`, the arena from the object's offset to its end, and reads its record:
+// refusals 8 to 12.
+pub fn load(part: &mut [u8], file: &[u8], host: bool, checked: Placed) -> Read
+    requires { ⌜ CheckedBy host (now file) checked × (checked .refusal ≡ 0) ⌝ }
     ensures { λ r. ⌜ LoadedBy host (now (file .entry)) (now (part .entry)) (now (part .exit)) r ⌝ }
 {
-    let p = place(part, file, host);
+    let p = place(part, file, host, checked);
     if p.refusal != 0 {
         return crate::dynamic_fields::refused(p.refusal);
     }

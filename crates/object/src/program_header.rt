@@ -15,6 +15,7 @@ pub struct Segment {
     pub filesz: usize,
     pub memsz: usize,
     pub flags: u32,
+    pub align: usize,
 }
 
 // Where the dynamic array stands: p_vaddr of PT_DYNAMIC.
@@ -49,6 +50,7 @@ fn segment_at(file: &[u8], start: usize, i: usize) -> Segment
         filesz: words::bytes::u64_off(file, start, k + 32) as usize,
         memsz: words::bytes::u64_off(file, start, k + 40) as usize,
         flags: words::bytes::u32_off(file, start, k + 4),
+        align: words::bytes::u64_off(file, start, k + 48) as usize,
     }
 }
 
@@ -62,6 +64,7 @@ pub(crate) fn no_loads() -> Loads
         filesz: 0,
         memsz: 0,
         flags: 0,
+        align: 0,
     };
     Loads {
         list: [none; 16],

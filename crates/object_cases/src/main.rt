@@ -87,6 +87,7 @@ fn show_entries(o: ObjectData) {
     size(o.plts);
     size(o.relr);
     size(o.relrs);
+    size(o.align);
 }
 
 // A definition, and its address in an object at 0x10000000.
@@ -196,6 +197,7 @@ fn show_segment(o: ObjectData, i: usize) {
         size(s.filesz);
         size(s.memsz);
         small(s.flags);
+        size(s.align);
     }
 }
 
@@ -320,7 +322,13 @@ fn refused(n: u32) {
 // Loads the file into the room, and prints the case's line.
 fn load(room: &mut [u8], file: &[u8], flags: u8, input: &[u8], base: usize, own: usize, count: u8) {
     stain(room, input);
-    let r = object::object_data::load(room, file, flags % 2 == 1);
+    let host = flags % 2 == 1;
+    let c = object::object_data::check_headers(file, host);
+    if c.refusal != 0 {
+        refused(c.refusal);
+        return;
+    }
+    let r = object::object_data::load(room, file, host, c);
     if r.refusal != 0 {
         refused(r.refusal);
         return;

@@ -19,7 +19,7 @@ pub record LastZero (m : Mem) (end r : ℕ) : Type 0 where
 
 -- so for each segment's first byte, and for the end of the span
 abbrev pub none-segment : Segment
-none-segment = record { vaddr = 0; memsz = 0; offset = 0; filesz = 0; flags = 0 }
+none-segment = record { vaddr = 0; memsz = 0; offset = 0; filesz = 0; flags = 0; align = 0 }
 
 abbrev pub LastZeros : Mem → ℕ → List Segment → List ℕ → Type 0
 LastZeros m span segments zeros =

@@ -9,7 +9,7 @@ use Rattle.object.specs.declared.program_header.Loads.{Loads}
 
 -- what a read past the end of the array would give
 abbrev pub noSegment : Segment
-noSegment = record { offset = 0; vaddr = 0; filesz = 0; memsz = 0; flags = 0 }
+noSegment = record { offset = 0; vaddr = 0; filesz = 0; memsz = 0; flags = 0; align = 0 }
 
 -- the segments that the table holds
 abbrev pub segmentsIn : Loads → List Segment

@@ -17,7 +17,7 @@ returns c =
 returns-2 : tie.Need-returns-2
 returns-2 c =
     let a = c .before .before .before .before .before .before .before .before .before .args in
-    linked-at (a .host) (now (a .file)) (a .off) (now (a .arena)) (c .before .before .before .before .before .load .last .0) (c .before .before .before .before .before .load .result) (c .before .before .before .before .before .load .ensures) (c .view-of .result) (c .before .before .before .before .before .before .before .before .before .pre) (c .before .before .if1 .left) (c .view-of .ensures)
+    linked-at (a .host) (now (a .file)) (a .off) (now (a .arena)) (c .before .before .before .before .before .load .last .0) (c .before .before .before .before .before .load .result) (c .before .before .before .before .before .load .ensures) (c .view-of .result) (c .before .before .before .before .before .before .before .before .before .pre .0) (c .before .before .if1 .left) (c .view-of .ensures)
 
 pub load-at-spec : {M : Type 1} → statement M
 load-at-spec =

@@ -4,7 +4,7 @@ use native.Mathlib.Omega.{arith}
 use borrow.Author.Tests.{not-true, not-false}
 use denote.Ref.{now}
 use Rattle.sheet.specs.Steps.Parts.{inputsIn}
-use Rattle.binder.proofs.PrepareLaws.{prepare-two, prepare-three, prepare-loads}
+use Rattle.binder.proofs.PrepareLaws.{arena-bounds, prepare-two, prepare-three, prepare-loads}
 use Rattle.binder.specs.Setting.{settingAt}
 use borrow.Author.Needs.{needs}
 use Rattle.binder.proofs.prepare.prepare.Statement.{statement}
@@ -20,6 +20,12 @@ returns-2 c =
     let a = c .before .before .before .before .before .before .before .args in
     prepare-three (settingAt (a .address)) (inputsIn (now (a .bytes)) (a .parts)) (now (a .arena))
     (sym (c .before .before .before .arena-ok .ensures) ∙ not-false _ (c .before .before .if1 .left)) (c .before .duplicate .result) (c .before .duplicate .ensures .0) (c .if2 .taken) _ _
+
+load-all-requires : tie.Need-load-all-requires
+load-all-requires c κs =
+    let a = c .before .before .before .before .before .before .before .before .before .args in
+    let b = arena-bounds _ (a .address) (sym (c .before .before .before .before .before .arena-ok .ensures) ∙ not-false _ (c .before .before .before .before .if1 .left)) in
+    (c .before .before .before .before .before .before .before .before .before .pre .0, c .before .before .before .before .before .before .before .before .before .pre .1, omega (arith, c .before .before .before .before .before .before .before .before .before .pre .2), b .0, b .1)
 
 returns-3 : tie.Need-returns-3
 returns-3 c =
@@ -37,8 +43,8 @@ prepare-spec =
     (λ c κs. search needs)
     (λ c. search needs)
     returns-2
-    (λ c κs. (c .before .before .before .before .before .before .before .before .before .pre .0, c .before .before .before .before .before .before .before .before .before .pre .1, omega (arith, c .before .before .before .before .before .before .before .before .before .pre .2)))
-    (λ c κs. (omega (arith, c .before .before .before .before .before .load-all .kept .1 .1 .1 .0, c .before .before .before .before .before .before .before .before .before .before .before .before .before .before .before .pre .2), c .before .before .before .before .before .before .before .before .before .before .before .before .before .before .before .pre .0))
+    load-all-requires
+    (λ c κs. (omega (arith, c .before .before .before .before .before .load-all .kept .1 .1 .1 .1 .0, c .before .before .before .before .before .before .before .before .before .before .before .before .before .before .before .pre .2), c .before .before .before .before .before .before .before .before .before .before .before .before .before .before .before .pre .0))
     (λ c. search needs)
-    (λ c. c .before .before .put-set .kept .0 ∙ c .before .before .before .before .before .before .before .before .load-all .kept .1 .1 .1 .0)
+    (λ c. c .before .before .put-set .kept .0 ∙ c .before .before .before .before .before .before .before .before .load-all .kept .1 .1 .1 .1 .0)
     returns-3)

@@ -13,6 +13,7 @@ returns c =
     let h2 : 24 * c .before .entry-count2 .result < 2 ^ 64 = omega (arith, c .before .entry-count2 .ensures .1) in
     let h3 : 8 * c .entry-count3 .result < 2 ^ 64 = omega (arith, c .entry-count3 .ensures .1) in (
       rw (
+        ← c .before .before .before .before .before .before .before .before .before .before .before .before .before .before .before .align-of .ensures,
         ← c .before .before .before .before .before .before .before .before .before .before .before .before .field-in .ensures,
         ← c .before .before .before .before .before .before .before .before .before .before .before .field-in2 .ensures,
         ← c .before .before .before .before .before .before .before .before .before .before .field-in3 .ensures,
@@ -35,6 +36,7 @@ pub object-in-spec : {M : Type 1} → statement M
 object-in-spec =
     tie.close
     (tie.spec
+    (λ c κs. search needs)
     (λ c κs. search needs)
     (λ c κs. search needs)
     (λ c κs. search needs)

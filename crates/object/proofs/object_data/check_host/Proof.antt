@@ -12,7 +12,7 @@ returns c =
 
 returns-2 : tie.Need-returns-2
 returns-2 c =
-    host-checked (now (c .before .before .before .args .file)) (c .before .before .before .pre) _ (c .before .if1 .left) refl refl (c .no-loads .ensures .0)
+    host-checked (now (c .before .before .before .args .file)) (c .before .before .before .pre) _ (c .before .if1 .left) refl refl refl (c .no-loads .ensures .0)
 
 pub check-host-spec : {M : Type 1} → statement M
 check-host-spec = tie.close (tie.spec (λ c κs. search needs) returns (λ c κs. search needs) returns-2)

@@ -25,6 +25,10 @@ slice-aggregate-read-object : tie.Need-slice-aggregate-read-object
 slice-aggregate-read-object c =
     sym (length-take-le (c .before .before .before .before .before .before .before .place .result .span) (c .before .before .before .before .before .before .before .place .last .0) (load-fits (c .before .before .before .before .before .before .before .before .before .before .before .args .host) (now (c .before .before .before .before .before .before .before .before .before .before .before .args .file)) (now (c .before .before .before .before .before .before .before .before .before .before .before .args .part)) (c .before .before .before .before .before .before .before .place .last .0) (c .before .before .before .before .before .before .before .place .result) (c .before .before .before .before .before .before .before .place .ensures) (c .before .before .before .if1 .left)))
 
+read-object-requires : tie.Need-read-object-requires
+read-object-requires c κs =
+    c .before .before .before .before .before .before .before .place .ensures .few
+
 returns-2 : tie.Need-returns-2
 returns-2 c =
     load-read (c .before .before .before .before .before .before .before .before .before .before .before .before .args .host) (now (c .before .before .before .before .before .before .before .before .before .before .before .before .args .file)) (now (c .before .before .before .before .before .before .before .before .before .before .before .before .args .part)) (c .before .before .before .before .before .before .before .before .place .last .0) (c .before .before .before .before .before .before .before .before .place .result) (c .before .before .before .before .before .before .before .before .place .ensures) (c .before .before .before .before .if1 .left) _ _ (c .before .before .dynamic-at .ensures) (c .read-object .ensures)
@@ -40,6 +44,6 @@ load-spec =
     (λ c κs. search needs)
     slice-reshare-prefix-read-object
     slice-aggregate-read-object
-    (λ c κs. search needs)
+    read-object-requires
     (λ c. search needs)
     returns-2)

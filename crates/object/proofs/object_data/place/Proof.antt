@@ -1,4 +1,4 @@
-use Rattle.object.proofs.PlaceLaws.{placed-refused, placed-eight, placed-runs}
+use Rattle.object.proofs.PlaceLaws.{placed-eight, placed-runs}
 use denote.Ref.{now}
 use mathlib.Core.Path.{sym, _∙_}
 use borrow.Author.Needs.{needs}
@@ -7,20 +7,18 @@ use Rattle.object.proofs.object_data.place.Tie as tie
 
 returns : tie.Need-returns
 returns c =
-    placed-refused (c .before .before .before .before .before .args .host) (now (c .before .before .before .before .before .args .file)) (now (c .before .before .before .before .before .args .part)) _ (c .before .before .check-headers .ensures) (c .if1 .taken)
-
-returns-2 : tie.Need-returns-2
-returns-2 c =
-    placed-eight (c .before .before .before .before .before .before .before .args .host) (now (c .before .before .before .before .before .before .before .args .file)) (now (c .before .before .before .before .before .before .before .args .part)) _ (c .before .before .before .before .check-headers .ensures) (c .before .before .if1 .left) _ (c .before .if2 .taken) (c .refused .ensures .0) (c .refused .ensures .1) (c .refused .ensures .2)
+    let a = c .before .before .before .before .args in
+    placed-eight (a .host) (now (a .file)) (now (a .part)) _ (c .before .before .before .before .pre .0) (c .before .before .before .before .pre .1) _ (c .before .if1 .taken) (c .refused .ensures .0) (c .refused .ensures .1) (c .refused .ensures .2)
 
 place-runs-requires : tie.Need-place-runs-requires
 place-runs-requires c κs =
-    let k = c .before .before .before .before .before .check-headers .ensures in
-    (sym (k .refusal) ∙ c .before .before .before .if1 .left, k .segments (c .before .before .before .if1 .left), k .few)
+    let k = c .before .before .before .before .before .pre .0 in
+    (sym (k .refusal) ∙ c .before .before .before .before .before .pre .1, k .segments (c .before .before .before .before .before .pre .1), k .few)
 
-returns-3 : tie.Need-returns-3
-returns-3 c =
-    placed-runs (c .before .before .before .before .before .before .before .before .before .before .before .args .host) (now (c .before .before .before .before .before .before .before .before .before .before .before .args .file)) (now (c .before .before .before .before .before .before .before .before .before .before .before .args .part)) _ (c .before .before .before .before .before .before .before .before .check-headers .ensures) (c .before .before .before .before .before .before .if1 .left) (c .before .before .before .before .before .if2 .left) (c .before .before .place-runs .ensures)
+returns-2 : tie.Need-returns-2
+returns-2 c =
+    let a = c .before .before .before .before .before .before .before .before .args in
+    placed-runs (a .host) (now (a .file)) (now (a .part)) _ (c .before .before .before .before .before .before .before .before .pre .0) (c .before .before .before .before .before .before .before .before .pre .1) (c .before .before .before .before .before .if1 .left) (c .before .before .place-runs .ensures)
 
 pub place-spec : {M : Type 1} → statement M
 place-spec =
@@ -28,8 +26,6 @@ place-spec =
     (tie.spec
     (λ c κs. search needs)
     returns
-    (λ c κs. search needs)
-    returns-2
     place-runs-requires
     (λ c. search needs)
-    returns-3)
+    returns-2)
