@@ -500,17 +500,25 @@ fn symbolics(
     p
 }
 
+// Whether the loops above may do entries of a type.
+fn in_runs(rtype: u32) -> bool {
+    let a = object::relocate::action_of(rtype);
+    match a {
+        Action::Relative => true,
+        Action::Symbolic(f) => true,
+        _ => false,
+    }
+}
+
 // The range to be used after an entry: after one that the loops above do, the segment of its place.
 fn range_after(w: Writable, b: Bounds, rtype: u32, place: usize) -> Writable
     requires { ⌜ WritableRange (take (b .count) (b .segments)) (w .low) (w .high) ⌝ }
     ensures { λ r. ⌜ WritableRange (take (b .count) (b .segments)) (r .low) (r .high) ⌝ }
 {
-    let a = object::relocate::action_of(rtype);
-    match a {
-        Action::Relative => object::table_bytes::writable_at(b, place, 8),
-        Action::Symbolic(f) => object::table_bytes::writable_at(b, place, 8),
-        _ => w,
+    if !in_runs(rtype) {
+        return w;
     }
+    object::table_bytes::writable_at(b, place, 8)
 }
 
 // The table of `count` entries at `at`, of which the first has the number `first`.
