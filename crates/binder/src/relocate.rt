@@ -385,7 +385,13 @@ fn symbols_in(t: Turn, y: Symbols) -> bool
 // test: its field, its place, its symbol, the symbol's name and the addend.
 pub enum SymbolEntry {
     Other,
-    Here { field: Field, place: usize, index: u32, name: u32, addend: u64 },
+    Here {
+        field: Field,
+        place: usize,
+        index: u32,
+        name: u32,
+        addend: u64,
+    },
 }
 
 // The entry that stands at `k` of the arena.
@@ -480,7 +486,14 @@ fn symbolics(
     let mut k = t.offset + at + 24 * (s.next as usize);
     while p.next < n {
         let e = symbol_entry(arena, t, y, k, w.low, w.high);
-        let SymbolEntry::Here { field, place, index, name, addend } = e else {
+        let SymbolEntry::Here {
+            field,
+            place,
+            index,
+            name,
+            addend,
+        } = e
+        else {
             return p;
         };
         let number = index as u64 + 1;
