@@ -1,7 +1,7 @@
 -- An object's part of the arena, from its offset to the arena's end, that is lent and comes back as `x`: the arena is `withPart t a x` then,
 -- and a write in the part is one in the arena. Assumes nothing.
 use mathlib.Core.Path.{_≡_, refl, sym, ap, _∙_}
-use mathlib.Core.List.{List, [], _++_, append-nil}
+use mathlib.Core.List.{List, _++_, append-nil}
 use Prim.Native.Nat.{ℕ, _+_, _-_, _≤_, _<_, min}
 use native.Mathlib.Omega.{arith}
 use native.Mathlib.Decide.{decLt}

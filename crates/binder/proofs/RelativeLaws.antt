@@ -1,6 +1,6 @@
 -- A run of entries that are Relative whose places lie in one writable segment, in the object's part of the arena, is one of the arena:
 -- specs/RunSteps.antt. Assumes nothing.
-use mathlib.Core.Path.{_≡_, refl, sym, ap, subst, _∙_}
+use mathlib.Core.Path.{_≡_, refl, sym, ap, _∙_}
 use mathlib.Core.Bool.{true}
 use mathlib.Core.List.{List}
 use Prim.Native.Nat.{ℕ, zero, suc, _+_, _-_, _*_, _%_, _^_, _≤_, _<_, min}
@@ -23,7 +23,7 @@ use Rattle.object.specs.declared.relocate.Rela.{Rela}
 use Rattle.binder.specs.declared.report.Progress.{Progress}
 use Rattle.binder.specs.declared.turn.Turn.{Turn}
 use Rattle.binder.specs.Steps.Relocating.{left, imageIn, partOf, withPart, fixedOf, runAction}
-use Rattle.binder.specs.Steps.RunSteps.{InReach, RelativeWritten, RelativesWritten, EntriesPassed}
+use Rattle.binder.specs.Steps.RunSteps.{RelativeWritten, RelativesWritten, EntriesPassed}
 use Rattle.binder.proofs.PartLaws.{lent, given-back, with-same, part-with, with-again, with-patch, long-with}
 use Rattle.binder.proofs.RunLaws.{entry-goes}
 use Rattle.binder.proofs.KeptLaws.{kept-none, kept-then, entry-kept}

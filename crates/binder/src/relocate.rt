@@ -139,14 +139,15 @@ fn sought(
         return Sought::Known(p.address);
     }
     let s = search(arena, table, t, o.strings, y.name);
-    match s {
-        Resolved::Absent => Sought::Missing(y),
-        Resolved::Found {
-            object: _,
-            definition: _,
-            address: found,
-        } => Sought::Searched(found),
-    }
+    let Resolved::Found {
+        object: _,
+        definition: _,
+        address,
+    } = s
+    else {
+        return Sought::Missing(y);
+    };
+    Sought::Searched(address)
 }
 
 // The field of the entry with number `i` by what its symbol came to: what was found is kept; what was found nowhere is 0, and a word of the

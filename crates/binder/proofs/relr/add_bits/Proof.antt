@@ -10,7 +10,6 @@ use mathlib.Core.List.{List}
 use borrow.Author.Tests.{eq-eqb, ne-eqb, not-true, not-false}
 use Rattle.object.specs.TableBytes.{inWritable}
 use Rattle.object.specs.declared.program_header.Segment.{Segment}
-use Rattle.binder.specs.declared.turn.Turn.{Turn}
 use Rattle.binder.specs.Steps.Relocating.{summed, far, wordAdded, addBits}
 use Rattle.binder.proofs.BitLaws.{bit-0, bit-1, refused, none}
 use Rattle.binder.proofs.relr.add_bits.Statement.{statement}
