@@ -33,11 +33,11 @@ fn show_sysv(at: usize, buckets: u32, nchain: u32) {
     small(nchain);
 }
 
-fn show_gnu(at: usize, buckets: u32, first: u32, bloomwords: u32, shift: u32) {
+fn show_gnu(at: usize, buckets: u32, symoffset: u32, bloomwords: u32, shift: u32) {
     word(b" gnu");
     size(at);
     small(buckets);
-    small(first);
+    small(symoffset);
     small(bloomwords);
     small(shift);
 }
@@ -53,10 +53,10 @@ fn show_table(t: HashTable) {
         HashTable::Gnu {
             at,
             buckets,
-            first,
+            symoffset,
             bloomwords,
             shift,
-        } => show_gnu(at, buckets, first, bloomwords, shift),
+        } => show_gnu(at, buckets, symoffset, bloomwords, shift),
     }
 }
 

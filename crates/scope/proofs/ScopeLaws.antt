@@ -24,12 +24,12 @@ use Rattle.scope.proofs.BloomLaws.{Past}
 -- ---- a table that is not System V's has no use for the System V hash
 
 no-use :
-    (image : List ℕ) (symbols strings : ℕ) (b : Bool) (at n first bloomwords shift : ℕ) (name : List ℕ) (g e e′ : ℕ)
+    (image : List ℕ) (symbols strings : ℕ) (b : Bool) (at n symoffset bloomwords shift : ℕ) (name : List ℕ) (g e e′ : ℕ)
     → findBy image symbols strings (pick b (Gnu at n symoffset bloomwords shift) Without) name g e
     ≡ findBy image symbols strings (pick b (Gnu at n symoffset bloomwords shift) Without) name g e′
 unfolding hash.findBy hash.mayHold
-no-use image symbols strings true at n first bloomwords shift name g e e′ = refl
-no-use image symbols strings false at n first bloomwords shift name g e e′ = refl
+no-use image symbols strings true at n symoffset bloomwords shift name g e e′ = refl
+no-use image symbols strings false at n symoffset bloomwords shift name g e e′ = refl
 
 module _ (arena table : List ℕ) (k : ℕ) (name : List ℕ) (g e e′ : ℕ) (same : wordAt table k 4 ≡ 1 → e ≡ e′) where
   answer-any : answerAt arena (linkAt table k) name g e ≡ answerAt arena (linkAt table k) name g e′

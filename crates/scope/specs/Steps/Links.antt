@@ -1,7 +1,7 @@
 -- The table of links: where each object lies, and what a lookup reads of its record. Document 01, "What must change shape": "Pointers become
 -- offsets. `IndexMap` and `Vec` become fixed arrays of records"; "The object record": "The record holds which hash table was chosen, SysV or
 -- GNU, with its numbers". Object k has the 16 words from 16 * k on: offset, span, symbols, strings, kind of hash table (1 SysV, 2 GNU, else
--- none), at, buckets, nchain or first, bloomwords, shift; three words that only repeat what a search tests of a bloom filter (where its words stand
+-- none), at, buckets, nchain or symoffset, bloomwords, shift; three words that only repeat what a search tests of a bloom filter (where its words stand
 -- in the arena, the logarithm of their number, the shift); and three zeros. Behind the words of 64 objects stand the set's count and the arena's
 -- address. Assumes nothing.
 use Prim.Native.Nat.{ℕ, zero, suc, _+_, _*_, _%_, _^_, _≤_, _<_}
