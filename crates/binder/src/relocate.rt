@@ -112,7 +112,7 @@ fn symbol_refusal(c: CheckedSymbol) -> u32
 }
 
 // What the symbol of an entry with the field `f` comes to.
-fn sought(
+fn seek(
     arena: &[u8],
     p: Progress,
     table: &[u64],
@@ -236,7 +236,7 @@ fn run_action(
         Action::Irelative => crate::report::refused(p, t, 16),
         Action::Relative => relative(arena, p, t, object::dynamic_fields::bounds_of(o), e),
         Action::Symbolic(f) => {
-            let s = sought(arena, p, table, t, o, e, f);
+            let s = seek(arena, p, table, t, o, e, f);
             write_sought(arena, report, p, t, i, e, f, s)
         }
         Action::Copy => copying(arena, report, p, table, t, o, i, e),
