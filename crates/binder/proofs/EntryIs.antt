@@ -11,7 +11,7 @@ use lib.ListN.{length}
 use Rattle.words.specs.Choice.{pick, both}
 use Rattle.words.specs.Memory.{Mem, mem, from, write, patch}
 use Rattle.words.proofs.Memory.{write-none}
-use Rattle.model.specs.Symbols.{absent, answer}
+use Rattle.model.specs.Symbols.{Wanted, absent, answer}
 use Rattle.model.specs.Symbols as model
 use Rattle.model.specs.Objects.{Entry, fixed, symbol, Objs, count, obj}
 use Rattle.model.specs.Scope.{resolve, resolveCopy}

@@ -57,18 +57,18 @@ module _ (table : List ℕ) (t : Turn) (r : Record) (e : Rela) (searched : ℕ �
       -- it is: the symbol is not searched
       pub sought-zero : c ≡ false → Known 0 ≡ sought-now
       unfolding soughtOf
-      sought-zero no = rw (← hx, hy, ← hs, ← hw, ← hb, so, ← hc, no)
+      sought-zero un = rw (← hx, hy, ← hs, ← hw, ← hb, so, ← hc, un)
 
       -- the kept answer is the symbol's, or it is not
       pub sought-kept : c ≡ true → p .last ≡ e .symbol + 1 → Known (p .address) ≡ sought-now
       unfolding soughtOf
-      sought-kept yes same = rw (← hx, hy, ← hs, ← hw, ← hb, so, ← hc, yes, eq-eqb _ _ same)
+      sought-kept sc same = rw (← hx, hy, ← hs, ← hw, ← hb, so, ← hc, sc, eq-eqb _ _ same)
 
       pub sought-new :
           {s : Resolved} {out : Sought} → c ≡ true → (p .last ≡ e .symbol + 1 → ⊥) → s ≡ soughtFor table t a (nameOf (imageIn a t) r y)
           → out ≡ soughtBy y s → out ≡ sought-now
       unfolding soughtOf
-      sought-new yes other hf is = rw (← hx, hy, ← hs, ← hw, ← hb, so, ← hc, yes, ne-eqb _ _ other, ← hf) is
+      sought-new sc other hf is = rw (← hx, hy, ← hs, ← hw, ← hb, so, ← hc, sc, ne-eqb _ _ other, ← hf) is
 
 module _ (table : List ℕ) (t : Turn) (r : Record) (e : Rela) (i : ℕ) (p : Progress) (a report : List ℕ) {x : CheckedSymbol}
     (hx : x ≡ checkedSymbol (imageIn a t) r (e .symbol)) where

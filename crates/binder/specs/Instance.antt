@@ -6,7 +6,7 @@ use mathlib.Core.List.{List, [], _∷_, _++_, map}
 use Prim.Native.Nat.{ℕ, _+_}
 use lib.ListN.{length}
 use Rattle.words.specs.Choice.{pick}
-use Rattle.model.specs.Symbols.{none, hit}
+use Rattle.model.specs.Symbols.{Wanted, byName, none, hit}
 use Rattle.model.specs.Symbols as model
 use Rattle.model.specs.Objects.{Entry, fixed, symbol, copy, pass, Obj}
 use Rattle.object.specs.declared.relocate.Rela.{Rela}
