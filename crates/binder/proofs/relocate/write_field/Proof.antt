@@ -31,7 +31,7 @@ refused-requires c κs = search needs
 returns : tie.Need-returns
 unfolding fieldOf
 returns c =
-    rw (← c .before .before .before .value-of .ensures, ← c .before .before .fits2 .ensures, not-true _ (c .before .if1 .taken), c .refused .ensures)
+    rw (← c .before .before .before .value-of .ensures, ← c .before .before .fits2 .ensures, not-true (c .before .before .fits2 .result) (c .before .if1 .taken), c .refused .ensures)
 
 width-of-requires : tie.Need-width-of-requires
 width-of-requires c κs = search needs
@@ -46,7 +46,7 @@ same-length c =
 returns-2 : tie.Need-returns-2
 unfolding fieldOf
 returns-2 c =
-    rw (← c .before .before .before .before .before .before .before .before .value-of .ensures, ← c .before .before .before .before .before .before .before .fits2 .ensures, not-false _ (c .before .before .before .before .before .before .if1 .left), ← c .before .before .before .before .before .width-of .ensures, c .before .before .before .before .if2 .taken, c .before .before .write-word .ensures)
+    rw (← c .before .before .before .before .before .before .before .before .value-of .ensures, ← c .before .before .before .before .before .before .before .fits2 .ensures, not-false (c .before .before .before .before .before .before .before .fits2 .result) (c .before .before .before .before .before .before .if1 .left), ← c .before .before .before .before .before .width-of .ensures, c .before .before .before .before .if2 .taken, c .before .before .write-word .ensures)
 
 write-half-requires : tie.Need-write-half-requires
 write-half-requires c κs = search needs
@@ -58,7 +58,7 @@ same-length-2 c =
 returns-3 : tie.Need-returns-3
 unfolding fieldOf
 returns-3 c =
-    rw (← c .before .before .before .before .before .before .before .before .value-of .ensures, ← c .before .before .before .before .before .before .before .fits2 .ensures, not-false _ (c .before .before .before .before .before .before .if1 .left), half-width _ (λ e. c .before .before .before .before .if2 .left (c .before .before .before .before .before .width-of .ensures ∙ e)), c .before .before .write-half .ensures)
+    rw (← c .before .before .before .before .before .before .before .before .value-of .ensures, ← c .before .before .before .before .before .before .before .fits2 .ensures, not-false (c .before .before .before .before .before .before .before .fits2 .result) (c .before .before .before .before .before .before .if1 .left), half-width _ (λ e. c .before .before .before .before .if2 .left (c .before .before .before .before .before .width-of .ensures ∙ e)), c .before .before .write-half .ensures)
 
 pub write-field-spec : {M : Type 1} → statement M
 write-field-spec =
