@@ -23,20 +23,20 @@ use Rattle.object.proofs.CheckLaws.{clauses, walk-clauses}
 use Rattle.object.proofs.WalkLengths.{walk-ended}
 use Rattle.demands.specs.WalksEnd.{WalksEnd}
 
-module _ (isT : ℕ → Bool) (m : List ℕ) (inside : (i : ℕ) → isT i ≡ true → i < length m) (symbols strings at n first b shift : ℕ) where
+module _ (isT : ℕ → Bool) (m : List ℕ) (inside : (i : ℕ) → isT i ≡ true → i < length m) (symbols strings at n symoffset b shift : ℕ) where
   -- the chain word of a symbol that passes lies in the image
   word-in : (s : ℕ) → stepOk isT m symbols strings (Gnu at n symoffset b shift) s ≡ true
-      → at + (16 + 8 * b + 4 * n + 4 * (s - first)) + 4 ≤ length m
+      → at + (16 + 8 * b + 4 * n + 4 * (s - symoffset)) + 4 ≤ length m
   unfolding chainOk tableBytes
   word-in s ok =
       let h = both-true (chainOk isT (Gnu at n symoffset b shift) s) (symbolOk isT m symbols strings s) ok in
-      let p = at + (16 + 8 * b + 4 * n + 4 * (s - first)) in
+      let p = at + (16 + 8 * b + 4 * n + 4 * (s - symoffset)) in
       let l : p + 3 < length m = inside (p + 3) (below-at (λ k. isT (p + k)) 4 3 (h .0) (omega arith)) in
       omega arith
 
-  room : (k s : ℕ) → first ≤ s → at + (16 + 8 * b + 4 * n + 4 * (s - first)) ≤ length m
+  room : (k s : ℕ) → symoffset ≤ s → at + (16 + 8 * b + 4 * n + 4 * (s - symoffset)) ≤ length m
       → every (stepOk isT m symbols strings (Gnu at n symoffset b shift)) (walk m (Gnu at n symoffset b shift) k s) ≡ true
-      → at + (16 + 8 * b + 4 * n + 4 * (s - first)) + 4 * length (walk m (Gnu at n symoffset b shift) k s) ≤ length m
+      → at + (16 + 8 * b + 4 * n + 4 * (s - symoffset)) + 4 * length (walk m (Gnu at n symoffset b shift) k s) ≤ length m
   unfolding walk every
   room zero s f l e = omega arith
   room (suc k) s f l e =
@@ -49,21 +49,21 @@ module _ (isT : ℕ → Bool) (m : List ℕ) (inside : (i : ℕ) → isT i ≡ t
       (λ e′. let r = room k (s + 1) (omega arith) (omega arith) e′ in omega arith)
     where
       go : (z : Bool) (l : List ℕ) → every (stepOk isT m symbols strings (Gnu at n symoffset b shift)) (pick z [] l) ≡ true
-          → at + (16 + 8 * b + 4 * n + 4 * (s - first)) + 4 ≤ length m
+          → at + (16 + 8 * b + 4 * n + 4 * (s - symoffset)) + 4 ≤ length m
           → (every (stepOk isT m symbols strings (Gnu at n symoffset b shift)) l ≡ true
-          → at + (16 + 8 * b + 4 * n + 4 * (s - first)) + 4 + 4 * length l ≤ length m)
-          → at + (16 + 8 * b + 4 * n + 4 * (s - first)) + 4 * suc (length (pick z [] l)) ≤ length m
+          → at + (16 + 8 * b + 4 * n + 4 * (s - symoffset)) + 4 + 4 * length l ≤ length m)
+          → at + (16 + 8 * b + 4 * n + 4 * (s - symoffset)) + 4 * suc (length (pick z [] l)) ≤ length m
       go true l e i ih = omega arith
       go false l e i ih = let r = ih e in omega arith
 
   first-in : (f s : ℕ) → 0 < f → every (stepOk isT m symbols strings (Gnu at n symoffset b shift)) (walk m (Gnu at n symoffset b shift) f s) ≡ true
-      → at + (16 + 8 * b + 4 * n + 4 * (s - first)) + 4 ≤ length m
+      → at + (16 + 8 * b + 4 * n + 4 * (s - symoffset)) + 4 ≤ length m
   unfolding walk every
   first-in zero s l e = absurd (not-suc-le-zero l)
   first-in (suc f) s l e = word-in s (both-true _ _ e .0)
 
   -- of an image of at most 2^28 bytes
-  pub gnu-ends : length m ≤ 2 ^ 28 → (s k : ℕ) → first ≤ s → 0 < length m
+  pub gnu-ends : length m ≤ 2 ^ 28 → (s k : ℕ) → symoffset ≤ s → 0 < length m
       → every (stepOk isT m symbols strings (Gnu at n symoffset b shift)) (walk m (Gnu at n symoffset b shift) (fuel m (Gnu at n symoffset b shift)) s) ≡ true
       → walk m (Gnu at n symoffset b shift) (fuel m (Gnu at n symoffset b shift) + k) s ≡ walk m (Gnu at n symoffset b shift) (fuel m (Gnu at n symoffset b shift)) s
   gnu-ends small s k f pos e =
@@ -93,7 +93,7 @@ walks-end isT m inside small symbols strings (SysV at n c) ok i l k = go (eqb w 
 walks-end isT m inside small symbols strings (Gnu at n symoffset b shift) ok i l k = go (eqb w 0) refl
   where
     t : HashTable
-    t = Gnu at n first b shift
+    t = Gnu at n symoffset b shift
 
     w : ℕ
     w = leAt 4 (mem m) (bucketAt t i)
@@ -105,5 +105,5 @@ walks-end isT m inside small symbols strings (Gnu at n symoffset b shift) ok i l
     go true e = rw e
     go false e =
         let c = walk-clauses isT m symbols strings t ok i l in
-        let f : first ≤ w = leb-true first w (rw e at (c .0)) in
-        rw e (gnu-ends isT m inside symbols strings at n first b shift small w k f (omega (arith, start)) (rw e at (c .2)))
+        let f : symoffset ≤ w = leb-true symoffset w (rw e at (c .0)) in
+        rw e (gnu-ends isT m inside symbols strings at n symoffset b shift small w k f (omega (arith, start)) (rw e at (c .2)))
