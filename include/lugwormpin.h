@@ -50,15 +50,16 @@ extern "C" {
  *                 chain that leads outside its table or does not end. Table bytes are those of the object that are in no writable
  *                 segment; of the host, all. The host's relocation tables are not read
  *   13  0         lugwormpin_query only: the requester is no object of the set
- *   14  not 0     a relocation entry of type 5, 6 or 7 has a symbol index at or above the symbol count, where that is known
+ *   14  not 0     a relocation entry of type 1, 2, 5, 6, 7, 10, 11 or 24 has a symbol index at or above the symbol count, where that is known
  *   15  not 0     that symbol or its name is not in table bytes
  *   16  not 0     a relocation entry of type 37 (R_X86_64_IRELATIVE)
  *   17  not 0     what an entry writes is not inside one writable segment of its object, or a RELR bitmap has a bit set before any address
  *   18  not 0     the bytes that a COPY entry reads are at an absolute symbol, outside the object that defines it, or overlap what it writes
  *   19  not 0     the call is strict and an entry is undefined: the first such object in binding order
  *   20  0         the report is too short
+ *   22  not 0     after 17: a result of 32 bits (types 2, 10 and 11) does not fit
  *
- * The first refusal in this order is answered: 4 to 12 and 21 object by object, 14 to 18 entry by entry in binding order. lugwormpin_bind
+ * The first refusal in this order is answered: 4 to 12 and 21 object by object, 14 to 18 and 22 entry by entry in binding order. lugwormpin_bind
  * answers all but 13, lugwormpin_query 1 to 13 and 21. */
 #define LUGWORMPIN_NUMBER(answer) ((uint32_t)(answer))
 #define LUGWORMPIN_OBJECT(answer) ((uint32_t)((answer) >> 32))

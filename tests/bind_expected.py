@@ -5,6 +5,11 @@ from object_cases import M64, Object, Refused, headers, le, need
 ADDRESS, ARENA, WORDS, INPUT = 0x10000000, 32768, 1024, 65536
 
 
+# The types of request (b), psABI "Relocation Types": bytes of the field, whether P is subtracted, and which sums it holds.
+ANY, UNSIGNED, SIGNED = (lambda v: True), (lambda v: v < 1 << 32), (lambda v: v < 1 << 31 or v >= M64 - (1 << 31))
+FIELDS = {1: (8, False, ANY), 24: (8, True, ANY), 2: (4, True, SIGNED), 10: (4, False, UNSIGNED), 11: (4, False, SIGNED)}
+
+
 class Stop(Exception):
     """A refusal: number, object."""
 
@@ -92,10 +97,10 @@ class Set:
     def writable(self, o, place, n):
         return any(s.flags & 2 and s.vaddr <= place and place + n <= s.vaddr + s.memsz for s in o.loads)
 
-    def write(self, k, place, v):
-        need(self.writable(self.objects[k], place, 8), 17)
+    def write(self, k, place, v, size=8):
+        need(self.writable(self.objects[k], place, size), 17)
         at = self.offsets[k] + place
-        self.arena[at : at + 8] = (v % M64).to_bytes(8, "little")
+        self.arena[at : at + size] = (v % (1 << 8 * size)).to_bytes(size, "little")
 
     def relr(self, k, o):
         base, location = ADDRESS + self.offsets[k], None
@@ -116,14 +121,24 @@ class Set:
         need(kind != 37, 16)
         if kind == 8:
             self.write(k, place, ADDRESS + self.offsets[k] + addend)
-        if kind not in (0, 5, 6, 7, 8):
+        if kind not in (0, 5, 6, 7, 8, *FIELDS):
             self.report.append(7 << 28 | number)
-        if kind not in (5, 6, 7):
+        if kind not in (5, 6, 7, *FIELDS):
             return
         need(o.count is None or s < o.count, 14)
         need(o.symbol_ok(s), 15)
         name, info, _, _, _, size = o.symbol(s)
         name = o.name(name)
+        if kind in FIELDS:
+            size, less, fits = FIELDS[kind]
+            need(self.writable(o, place, size), 17)
+            found = self.resolve(k, name) if s else None
+            v = (found[4] if found else 0) + addend - (ADDRESS + self.offsets[k] + place if less else 0)
+            need(fits(v % M64), 22)
+            self.write(k, place, v, size)
+            if s and not found and info >> 4 != 2:
+                self.report.append(6 << 28 | number)
+            return
         found = self.look([*range(2, len(self.objects)), 0], name) if kind == 5 else self.resolve(k, name)
         if kind != 5:
             self.write(k, place, found[4] if found else 0)
@@ -237,6 +252,8 @@ def outside(loaded):
             return "a table that is not aligned"
         if any(o.u(o.relr + 8 * i, 8) % 8 and not o.u(o.relr + 8 * i, 8) % 2 for i in range(o.relrs if o.loads else 0)):
             return "a RELR word that is not aligned"
+        if any(o.u(at + 24 * i + 8, 4) in FIELDS for at, n in ((o.rela, o.relas), (o.plt, o.plts)) if o.loads for i in range(n)):
+            return "a type that the Rust passes over"
         names = [o.name(n) for n in o.needs]
         for s in symbols_read(o):
             if base + o.symbol(s)[4] >= M64:

@@ -289,6 +289,9 @@ impl<'a> Object<'a> {
         if (0..words).map(|i| self.u64(relr + 8 * i)).any(|w| w % 2 == 0 && w % 8 != 0) {
             return Some("a RELR word that is not aligned");
         }
+        if self.entries().iter().any(|&at| [1, 2, 10, 11, 24].contains(&self.u32(at + 8))) {
+            return Some("a type that the Rust passes over");
+        }
         let mut names = self.needs();
         let walked = self.walked();
         let mut read = walked.clone();

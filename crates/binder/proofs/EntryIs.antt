@@ -8,12 +8,12 @@ use native.Mathlib.Omega.{arith}
 use borrow.Author.Tests.{eqb-true}
 use lib.Dec.{eqb}
 use lib.ListN.{length}
-use Rattle.words.specs.Choice.{pick}
+use Rattle.words.specs.Choice.{pick, both}
 use Rattle.words.specs.Memory.{Mem, mem, from, write, patch}
 use Rattle.words.proofs.Memory.{write-none}
 use Rattle.model.specs.Symbols.{Wanted, absent, answer}
 use Rattle.model.specs.Symbols as model
-use Rattle.model.specs.Objects.{Objs, count, obj}
+use Rattle.model.specs.Objects.{Entry, fixed, symbol, Objs, count, obj}
 use Rattle.model.specs.Scope.{resolve, resolveCopy}
 use Rattle.model.specs.Relocation.{addressOr0, copied, effect}
 use Rattle.model.proofs.Scope.{resolveCopy-range}
@@ -31,16 +31,17 @@ use Rattle.object.specs.declared.entry_symbol.CheckedSymbol.the-variants.{Refus
 use Rattle.object.specs.declared.hash_tables.Definition.{Definition}
 use Rattle.binder.specs.Instance.{File, fileImage, fileRecord, definitionOf, entryBy, wantedBy}
 use Rattle.binder.specs.Setting.{Setting}
-use Rattle.binder.specs.Verdict.{verdict, writtenRefusal, copyOk, copyRefusal, symbolThen, refusalBy}
+use Rattle.binder.specs.Verdict.{verdict, copyOk, copyRefusal, fieldRefusal, symbolThen, refusalBy}
 use Rattle.binder.specs.declared.Verdict.{Verdict}
 use Rattle.binder.specs.declared.Verdict.the-variants.{Passed}
 use Rattle.binder.specs.Report.{reportWord, unresolved, undefinedBy, isPassed}
 use Rattle.scope.specs.Steps.Links.{linkAt}
 use Rattle.binder.specs.Steps.ScopeModel.{scopedOf}
-use Rattle.binder.specs.Steps.Relocating.{Left, left, wrote, Noted, noted, withArena, withReport, refusedBy, imageIn, reportSum, noteOf, markUndefined, unresolvedOf, writtenBytes, fixedOf, writeFound, copyFits, copyBytes, copyOf, turnOf, soughtFor, soughtForCopy, keeps, answeredOf, symbolicOf, copyingOf, runAction, keepsWeak}
+use Rattle.binder.specs.Steps.Relocating.{Left, left, wrote, Noted, noted, withArena, withReport, refusedBy, imageIn, reportSum, noteOf, markUndefined, unresolvedOf, writtenNumber, writtenBytes, fieldOf, fixedOf, soughtBy, fieldNoted, writeSought, copyFits, copyBytes, copyOf, turnOf, soughtFor, soughtForCopy, keeps, soughtOf, copyingOf, runAction, keepsWeak}
 use Rattle.scope.specs.declared.links.Link.{Link}
 use Rattle.binder.specs.declared.turn.Turn.{Turn}
 use Rattle.scope.specs.declared.scope.Resolved.{Resolved}
+use Rattle.binder.specs.declared.relocate.Sought.the-variants.{Stopped, Known}
 use Rattle.scope.specs.declared.scope.Resolved.the-variants.{Absent, Found}
 use Rattle.binder.specs.declared.report.Progress.{Progress}
 use Rattle.binder.proofs.InsideLaws.{name-is}
@@ -226,19 +227,43 @@ module _ (setting : Setting) (size : ℕ) (table : List ℕ) (h pr : File) (fs :
               marked-going (ws ++ (reportWord 6 i ∷ [])) u n k (noteOf (reportSum 6 i) p report)
               (word-going ws u n p report (d .going) 6 i (omega arith))
 
+      -- ---- the field of an entry, where 17 was passed
+
+      -- 22, or what is left where the number fits
+      field-ran :
+          (e : Rela) (f : Calculation) (v : ℕ) (q : Progress) (notes : List ℕ) (D : Progress → List ℕ → List ℕ → Type 0) → length notes ≡ n
+          → Ran size n (verdict 0 k) D (left q (patch a (t .offset + e .place) (f .width) (writtenBytes t e f v)) notes)
+          → Ran size n (verdict (require (f .fits (writtenNumber t e f v)) 22 0) k) D (withReport notes (fieldOf t e f v q a))
+      unfolding fieldOf require
+      field-ran e f v q notes D long x = go (f .fits (writtenNumber t e f v))
+        where
+          go : (b : Bool)
+              → Ran size n (verdict (require b 22 0) k) D
+              (withReport notes (pick b (wrote q (patch a (t .offset + e .place) (f .width) (writtenBytes t e f v))) (wrote (refusedBy t 22 q) a)))
+          go true = x
+          go false = ran-refused size n 22 k D (refusedBy t 22 q) a notes (λ e. omega arith) refl refl (steady .size-is) long
+
+      -- no word, and what is kept stays
+      known-ran :
+          (e : Rela) (f : Calculation) (v : ℕ) → inWritable (r .segments) (e .place) (f .width) ≡ true
+          → Ran size n (verdict (require (f .fits (writtenNumber t e f v)) 22 0) k)
+          (Doing (ws ++ []) (earlier u 0) (write m ((obj S k) .offset + e .place) (f .width) (writtenBytes t e f v)))
+          (withReport report (fieldOf t e f v p a))
+      known-ran e f v w =
+          let x = wrote-to (e .place) (f .width) (writtenBytes t e f v) w in
+          field-ran e f v p report _ (going-length ws u n p report (d .going))
+          (plain (verdict 0 k) (write m ((obj S k) .offset + e .place) (f .width) (writtenBytes t e f v))
+          (patch a (t .offset + e .place) (f .width) (writtenBytes t e f v)) (verdict-none 0 k refl) (x .0) (x .1))
+
       -- ---- a write without a search
 
       fixed-ran :
           (e : Rela) (f : Calculation) (b : Bool) → inWritable (r .segments) (e .place) (f .width) ≡ b
-          → Ran size n (verdict (require b 17 0) k)
+          → Ran size n (verdict (require b 17 (require (f .fits (writtenNumber t e f 0)) 22 0)) k)
           (Doing (ws ++ []) (earlier u 0) (write m ((obj S k) .offset + e .place) (f .width) (writtenBytes t e f 0)))
-          (withReport report
-          (pick b (wrote p (patch a (t .offset + e .place) (f .width) (writtenBytes t e f 0))) (wrote (refusedBy t 17 p) a)))
+          (withReport report (pick b (fieldOf t e f 0 p a) (wrote (refusedBy t 17 p) a)))
       unfolding require
-      fixed-ran e f true w =
-          let x = wrote-to (e .place) (f .width) (writtenBytes t e f 0) w in
-          plain (verdict 0 k) (write m ((obj S k) .offset + e .place) (f .width) (writtenBytes t e f 0))
-          (patch a (t .offset + e .place) (f .width) (writtenBytes t e f 0)) (verdict-none 0 k refl) (x .0) (x .1)
+      fixed-ran e f true w = known-ran e f 0 w
       fixed-ran e f false w = stopped 17 _ (λ e. omega arith)
 
       -- ---- the entry's symbol
@@ -306,99 +331,121 @@ module _ (setting : Setting) (size : ℕ) (table : List ℕ) (h pr : File) (fs :
             )
 
         module _ (f : Calculation) where
-          -- what such an entry leaves
-          abbrev Written6 : model.Resolved → Left → Type 0
-          Written6 x st = Ran size n (verdict 0 k) (After x (write m ((obj S k) .offset + e .place) (f .width) (writtenBytes t e f (addressOr0 x)))) st
+          -- what such an entry leaves, where 17 was passed and its search has the answer
+          abbrev WrittenBy : model.Resolved → Left → Type 0
+          WrittenBy x st =
+              Ran size n (verdict (require (f .fits (writtenNumber t e f (addressOr0 x))) 22 0) k)
+              (After x (write m ((obj S k) .offset + e .place) (f .width) (writtenBytes t e f (addressOr0 x)))) st
+
+          -- found nowhere, with a word or none
+          noted-ran :
+              (vs : List ℕ) (u′ : ℕ) (q : Noted) → inWritable (r .segments) (e .place) (f .width) ≡ true → NotedGoing vs u′ n q
+              → KeptAs (p .last) (p .address) q
+              → Ran size n (verdict (require (f .fits (writtenNumber t e f 0)) 22 0) k)
+              (Doing vs u′ (write m ((obj S k) .offset + e .place) (f .width) (writtenBytes t e f 0))) (fieldNoted t e f a q)
+          noted-ran vs u′ (noted p′ report′) w g z =
+              let x = wrote-to (e .place) (f .width) (writtenBytes t e f 0) w in
+              field-ran e f 0 p′ report′ _ (going-length vs u′ n p′ report′ g)
+              (with-words (verdict 0 k) vs u′ (write m ((obj S k) .offset + e .place) (f .width) (writtenBytes t e f 0))
+              (patch a (t .offset + e .place) (f .width) (writtenBytes t e f 0)) (noted p′ report′) (verdict-none 0 k refl) g z (x .0) (x .1))
+
+          -- an answer is kept
+          new-ran :
+              (v : ℕ) → inWritable (r .segments) (e .place) (f .width) ≡ true → RightlyKept (keeps (e .symbol + 1) v p)
+              → Ran size n (verdict (require (f .fits (writtenNumber t e f v)) 22 0) k)
+              (Doing (ws ++ []) (earlier u 0) (write m ((obj S k) .offset + e .place) (f .width) (writtenBytes t e f v)))
+              (withReport report (fieldOf t e f v (keeps (e .symbol + 1) v p) a))
+          new-ran v w z =
+              let x = wrote-to (e .place) (f .width) (writtenBytes t e f v) w in
+              field-ran e f v (keeps (e .symbol + 1) v p) report _ (going-length ws u n p report (d .going))
+              (with-answer (verdict 0 k) (e .symbol + 1) v (write m ((obj S k) .offset + e .place) (f .width) (writtenBytes t e f v))
+              (patch a (t .offset + e .place) (f .width) (writtenBytes t e f v)) (verdict-none 0 k refl) z (x .0) (x .1))
 
           -- found nowhere: a weak symbol's absence is kept
           nowhere-ran :
               absent ≡ resolve S k sought → inWritable (r .segments) (e .place) (f .width) ≡ true → (b : Bool) → eqb (bindingOf y) 2 ≡ b
-              → Written6 absent
-              (withArena (patch a (t .offset + e .place) (f .width) (writtenBytes t e f 0)) (keepsWeak (e .symbol + 1) y (unresolvedOf y k i p report)))
+              → WrittenBy absent (fieldNoted t e f a (keepsWeak (e .symbol + 1) y (unresolvedOf y k i p report)))
           unfolding addressOr0
           nowhere-ran eq w true b =
-              let z = wrote-to (e .place) (f .width) (writtenBytes t e f 0) w in
-              subst
-              (λ (q : Noted). Written6 absent (withArena (patch a (t .offset + e .place) (f .width) (writtenBytes t e f 0)) q))
-              (sym (weak-keeps (e .symbol + 1) y k i p report b))
-              (rw b
-              (with-answer (verdict 0 k) (e .symbol + 1) 0 (write m ((obj S k) .offset + e .place) (f .width) (writtenBytes t e f 0)) (patch a (t .offset + e .place) (f .width) (writtenBytes t e f 0))
-              (verdict-none 0 k refl) (weak-kept eq b) (z .0) (z .1)))
+              subst (λ (q : Noted). WrittenBy absent (fieldNoted t e f a q)) (sym (weak-keeps (e .symbol + 1) y k i p report b))
+              (rw b (new-ran 0 w (weak-kept eq b)))
           nowhere-ran eq w false b =
-              let z = wrote-to (e .place) (f .width) (writtenBytes t e f 0) w in
-              subst
-              (λ (q : Noted). Written6 absent (withArena (patch a (t .offset + e .place) (f .width) (writtenBytes t e f 0)) q))
-              (sym (strong-keeps (e .symbol + 1) y (unresolvedOf y k i p report) b))
-              (with-words (verdict 0 k) (ws ++ pick (not (eqb (bindingOf y) 2)) (reportWord 6 i ∷ []) []) (earlier u (pick (not (eqb (bindingOf y) 2)) k 0))
-              (write m ((obj S k) .offset + e .place) (f .width) (writtenBytes t e f 0)) (patch a (t .offset + e .place) (f .width) (writtenBytes t e f 0)) (unresolvedOf y k i p report)
-              (verdict-none 0 k refl) (unresolved-going i l y) (unresolved-kept y k i p report) (z .0) (z .1))
+              subst (λ (q : Noted). WrittenBy absent (fieldNoted t e f a q)) (sym (strong-keeps (e .symbol + 1) y (unresolvedOf y k i p report) b))
+              (noted-ran (ws ++ pick (not (eqb (bindingOf y) 2)) (reportWord 6 i ∷ []) []) (earlier u (pick (not (eqb (bindingOf y) 2)) k 0))
+              (unresolvedOf y k i p report) w (unresolved-going i l y) (unresolved-kept y k i p report))
 
-          found-ran : (s : Resolved) → scopedOf s ≡ resolve S k sought → inWritable (r .segments) (e .place) (f .width) ≡ true → Written6 (resolve S k sought) (writeFound t e f i y s p a report)
-          unfolding scopedOf writeFound addressOr0
+          found-ran :
+              (s : Resolved) → scopedOf s ≡ resolve S k sought → inWritable (r .segments) (e .place) (f .width) ≡ true
+              → WrittenBy (resolve S k sought) (writeSought t e f i (soughtBy y s) p a report)
+          unfolding scopedOf writeSought addressOr0
           found-ran Absent eq w =
-              subst (λ (x : model.Resolved). Written6 x (writeFound t e f i y Absent p a report)) eq (nowhere-ran eq w (eqb (bindingOf y) 2) refl)
+              subst (λ (x : model.Resolved). WrittenBy x (writeSought t e f i (soughtBy y Absent) p a report)) eq (nowhere-ran eq w (eqb (bindingOf y) 2) refl)
           found-ran (Found d s v) eq w =
-              let z = wrote-to (e .place) (f .width) (writtenBytes t e f v) w in
-              subst
-              (λ (x : model.Resolved). Written6 x (writeFound t e f i y (Found d s v) p a report))
-              eq
-              (with-answer (verdict 0 k) (e .symbol + 1) v (write m ((obj S k) .offset + e .place) (f .width) (writtenBytes t e f v)) (patch a (t .offset + e .place) (f .width) (writtenBytes t e f v))
-              (verdict-none 0 k refl) (kept-now d (definitionOf s) v eq) (z .0) (z .1))
+              subst (λ (x : model.Resolved). WrittenBy x (writeSought t e f i (soughtBy y (Found d s v)) p a report)) eq
+              (new-ran v w (kept-now d (definitionOf s) v eq))
 
           kept-ran :
               p .last ≡ e .symbol + 1 → inWritable (r .segments) (e .place) (f .width) ≡ true
-              → Written6 (resolve S k sought) (left p (patch a (t .offset + e .place) (f .width) (writtenBytes t e f (p .address))) report)
+              → WrittenBy (resolve S k sought) (withReport report (fieldOf t e f (p .address) p a))
           unfolding addressOr0
           kept-ran same w =
-              let z = wrote-to (e .place) (f .width) (writtenBytes t e f (p .address)) w in
               ⊎-elim
+              (λ x. subst (λ (x : model.Resolved). WrittenBy x (withReport report (fieldOf t e f (p .address) p a))) (sym (x .2)) (known-ran e f (p .address) w))
               (λ x.
-              subst
-              (λ (x : model.Resolved). Written6 x (left p (patch a (t .offset + e .place) (f .width) (writtenBytes t e f (p .address))) report))
-              (sym (x .2))
-              (plain (verdict 0 k) (write m ((obj S k) .offset + e .place) (f .width) (writtenBytes t e f (p .address))) (patch a (t .offset + e .place) (f .width) (writtenBytes t e f (p .address)))
-              (verdict-none 0 k refl) (z .0) (z .1)))
-              (λ x.
-              subst
-              (λ (x : model.Resolved). Written6 x (left p (patch a (t .offset + e .place) (f .width) (writtenBytes t e f (p .address))) report))
-              (sym (x .0))
+              subst (λ (x : model.Resolved). WrittenBy x (withReport report (fieldOf t e f (p .address) p a))) (sym (x .0))
               (rw (x .1)
-              (plain (verdict 0 k) (write m ((obj S k) .offset + e .place) (f .width) (writtenBytes t e f 0)) (patch a (t .offset + e .place) (f .width) (writtenBytes t e f (p .address)))
-              (verdict-none 0 k refl) (z .0) (z .1 ∙ ap (λ (v : ℕ). write m ((obj S k) .offset + e .place) (f .width) (writtenBytes t e f v)) (x .2)))))
+              (subst
+              (λ (v : ℕ).
+              Ran size n (verdict (require (f .fits (writtenNumber t e f v)) 22 0) k)
+              (Doing (ws ++ []) (earlier u 0) (write m ((obj S k) .offset + e .place) (f .width) (writtenBytes t e f v)))
+              (withReport report (fieldOf t e f (p .address) p a)))
+              (x .2) (known-ran e f (p .address) w))))
               (d .kept (e .symbol) same)
 
           answered-ran :
               (s : Resolved) → scopedOf s ≡ resolve S k sought → inWritable (r .segments) (e .place) (f .width) ≡ true → (b : Bool) → eqb (p .last) (e .symbol + 1) ≡ b
-              → Written6 (resolve S k sought)
-              (pick b (left p (patch a (t .offset + e .place) (f .width) (writtenBytes t e f (p .address))) report) (writeFound t e f i y s p a report))
+              → WrittenBy (resolve S k sought) (writeSought t e f i (pick b (Known (p .address)) (soughtBy y s)) p a report)
+          unfolding writeSought
           answered-ran s eq w true same = kept-ran (eqb-true (p .last) (e .symbol + 1) same) w
           answered-ran s eq w false same = found-ran s eq w
 
+          -- the entry of the definitions: by the search, or by 0 where there is none
+          abbrev entry-now : Bool → Entry
+          entry-now c =
+              pick c (symbol (e .place) (f .width) sought (λ v. writtenNumber t e f v)) (fixed (e .place) (f .width) (writtenNumber t e f 0))
+
           symbolic-by :
-              (s : Resolved) → scopedOf s ≡ resolve S k sought → (b : Bool) → inWritable (r .segments) (e .place) (f .width) ≡ b
-              → Ran size n (verdict (require b 17 0) k)
-              (After (resolve S k sought) (write m ((obj S k) .offset + e .place) (f .width) (writtenBytes t e f (addressOr0 (resolve S k sought)))))
-              (pick b
-              (pick (eqb (p .last) (e .symbol + 1)) (left p (patch a (t .offset + e .place) (f .width) (writtenBytes t e f (p .address))) report) (writeFound t e f i y s p a report))
-              (left (refusedBy t 17 p) a report))
-          unfolding require
-          symbolic-by s eq true w = answered-ran s eq w (eqb (p .last) (e .symbol + 1)) refl
-          symbolic-by s eq false w = stopped 17 _ (λ e. omega arith)
+              (s : Resolved) → scopedOf s ≡ resolve S k sought → (b : Bool) → inWritable (r .segments) (e .place) (f .width) ≡ b → (c : Bool)
+              → Ran size n (verdict (require b 17 (require (f .fits (writtenNumber t e f (pick c (addressOr0 (resolve S k sought)) 0))) 22 0)) k)
+              (Doing (ws ++ pick (both c (unresolved image r e (resolve S k sought))) (reportWord 6 i ∷ []) [])
+              (earlier u (pick (both c (unresolved image r e (resolve S k sought))) k 0)) (effect S k (entry-now c) m))
+              (writeSought t e f i
+              (pick b (pick c (pick (eqb (p .last) (e .symbol + 1)) (Known (p .address)) (soughtBy y s)) (Known 0)) (Stopped 17)) p a report)
+          unfolding require effect writeSought
+          symbolic-by s eq true w true = answered-ran s eq w (eqb (p .last) (e .symbol + 1)) refl
+          symbolic-by s eq true w false = known-ran e f 0 w
+          symbolic-by s eq false w c = stopped 17 _ (λ e. omega arith)
 
           symbolic-ran :
-              Ran size n (verdict (symbolThen (checkedSymbol image r (e .symbol)) (λ y. writtenRefusal r (e .place) (f .width))) k)
-              (After (resolve S k sought) (write m ((obj S k) .offset + e .place) (f .width) (writtenBytes t e f (addressOr0 (resolve S k sought)))))
-              (symbolicOf table t r e f i (checkedSymbol (imageIn a t) r (e .symbol)) p a report)
-          unfolding symbolicOf answeredOf
-          symbolic-ran =
-              symbol-step (e .symbol) (λ y. writtenRefusal r (e .place) (f .width))
-              (After (resolve S k sought) (write m ((obj S k) .offset + e .place) (f .width) (writtenBytes t e f (addressOr0 (resolve S k sought)))))
-              (λ c. symbolicOf table t r e f i c p a report) (λ z. refl)
+              (searched : ℕ → Bool)
+              → Ran size n
+              (verdict
+              (symbolThen (checkedSymbol image r (e .symbol))
+              (λ y. fieldRefusal (t .base) r e f (pick (searched (e .symbol)) (addressOr0 (resolve S k sought)) 0))) k)
+              (Doing (ws ++ pick (both (searched (e .symbol)) (unresolved image r e (resolve S k sought))) (reportWord 6 i ∷ []) [])
+              (earlier u (pick (both (searched (e .symbol)) (unresolved image r e (resolve S k sought))) k 0))
+              (effect S k (entry-now (searched (e .symbol))) m))
+              (writeSought t e f i (soughtOf table t r e searched f p a (checkedSymbol (imageIn a t) r (e .symbol))) p a report)
+          unfolding soughtOf writeSought
+          symbolic-ran searched =
+              symbol-step (e .symbol)
+              (λ y. fieldRefusal (t .base) r e f (pick (searched (e .symbol)) (addressOr0 (resolve S k sought)) 0)) _
+              (λ c. writeSought t e f i (soughtOf table t r e searched f p a c) p a report) (λ z. refl)
               (λ ok same.
               symbolic-by (soughtFor table t a (nameOf (imageIn a t) r y))
               (ap (λ (x : List ℕ). scopedOf (soughtFor table t a x)) (name-same (e .symbol) ok same)
               ∙ searches setting size table h pr fs L a steady k hi name)
-              (inWritable (r .segments) (e .place) (f .width)) refl)
+              (inWritable (r .segments) (e .place) (f .width)) refl (searched (e .symbol)))
 
         -- ---- 5
 
@@ -531,8 +578,25 @@ module _ (setting : Setting) (size : ℕ) (table : List ℕ) (h pr : File) (fs :
             (rw (earlier-none u) (word-going ws u n p report (d .going) 7 i (omega arith))) (note-kept (reportSum 7 i) p report)
             (d .written) (d .memory)
         entry-by turnedAway = stopped 16 _ (λ e. omega arith)
-        entry-by (writes noSearch f) = fixed-ran e f (inWritable (r .segments) (e .place) (f .width)) refl
-        entry-by (writes inScope f) = symbolic-ran f
+        entry-by (writes noSearch f) =
+            subst
+            (λ (base : ℕ).
+            Ran size n (verdict (fieldRefusal base r e f 0) k)
+            (Doing (ws ++ []) (earlier u 0) (write m ((obj S k) .offset + e .place) (f .width) (writtenBytes t e f 0)))
+            (withReport report (fixedOf t (r .segments) e f p a)))
+            base-is (fixed-ran e f (inWritable (r .segments) (e .place) (f .width)) refl)
+        entry-by (writes (inScope searched) f) =
+            subst
+            (λ (base : ℕ).
+            Ran size n
+            (verdict
+            (symbolThen (checkedSymbol image r (e .symbol))
+            (λ y. fieldRefusal base r e f (pick (searched (e .symbol)) (addressOr0 (resolve S k sought)) 0))) k)
+            (Doing (ws ++ pick (both (searched (e .symbol)) (unresolved image r e (resolve S k sought))) (reportWord 6 i ∷ []) [])
+            (earlier u (pick (both (searched (e .symbol)) (unresolved image r e (resolve S k sought))) k 0))
+            (effect S k (entry-now f (searched (e .symbol))) m))
+            (writeSought t e f i (soughtOf table t r e searched f p a (checkedSymbol (imageIn a t) r (e .symbol))) p a report))
+            base-is (symbolic-ran f searched)
         entry-by copies = copy-ran
 
         pub entry-ran : (x : Row) → EntryRan ((obj S k) .base) x

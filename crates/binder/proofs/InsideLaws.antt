@@ -15,8 +15,9 @@ use Rattle.words.specs.Names.{nameAt}
 use Rattle.words.proofs.Choice.{both-true, either-true}
 use Rattle.words.proofs.Page.{end-near}
 use Rattle.model.specs.Symbols.{Resolved, absent, answer}
-use Rattle.model.specs.Objects.{Entry, Objs, obj}
-use Rattle.model.specs.Scope.{resolveCopy}
+use Rattle.model.specs.Objects.{Entry, fixed, symbol, Objs, obj}
+use Rattle.model.specs.Scope.{resolve, resolveCopy}
+use Rattle.model.specs.Relocation.{addressOr0}
 use Rattle.model.specs.Sound.{InsideCopy, Inside}
 use Rattle.object.specs.Segments.{endOf}
 use Rattle.object.specs.Segments as segments
@@ -35,14 +36,14 @@ use Rattle.object.specs.Loaded.{objectRecord}
 use Rattle.object.specs.Loaded as loading
 use Rattle.object.specs.declared.symbol.Symbol.{Symbol}
 use Rattle.object.specs.declared.relocate.Rela.{Rela}
-use Rattle.object.specs.RelocationTypes.{Row, noSearch, inScope, ignored, passedOver, turnedAway, copies, writes, rowOf}
+use Rattle.object.specs.RelocationTypes.{Calculation, Row, noSearch, inScope, ignored, passedOver, turnedAway, copies, writes, rowOf}
 use Rattle.object.specs.declared.entry_symbol.CheckedSymbol.the-variants.{Refused, Checked}
 use Rattle.object.specs.declared.program_header.Segment.{Segment}
 use Rattle.object.specs.declared.program_header.Dynamic.{Dynamic}
 use Rattle.object.specs.declared.program_header.Dynamic.the-variants.{Missing, At}
 use Rattle.object.proofs.RefusalLaws.{required}
 use Rattle.binder.specs.Instance.{fileRecord, placesOf, wantedBy, entryBy, entryOf}
-use Rattle.binder.specs.Verdict.{verdict, wordRefusal, writtenRefusal, copyOk, copyRefusal, symbolThen, refusalBy, entryRefusal, wordsVerdict, entriesVerdict}
+use Rattle.binder.specs.Verdict.{verdict, wordRefusal, copyOk, copyRefusal, fieldRefusal, symbolThen, refusalBy, entryRefusal, wordsVerdict, entriesVerdict}
 use Rattle.binder.specs.declared.Verdict.the-variants.{Passed}
 use Rattle.binder.proofs.OutcomeLaws.{first-passed, verdict-passed}
 
@@ -112,8 +113,8 @@ name-is image r index =
 
 module _ (S : Objs) (k : ℕ) (image : List ℕ) (r : Record) (base : ℕ)
     (inner : (p n : ℕ) → inWritable (r .segments) p n ≡ true → p + n ≤ (obj S k) .span) where
-  written : (p n : ℕ) → writtenRefusal r p n ≡ 0 → p + n ≤ (obj S k) .span
-  written p n e = inner p n (required (inWritable (r .segments) p n) 16 0 e .0)
+  written : (e : Rela) (f : Calculation) (s : ℕ) → fieldRefusal ((obj S k) .base) r e f s ≡ 0 → e .place + f .width ≤ (obj S k) .span
+  written e f s z = inner (e .place) (f .width) (required (inWritable (r .segments) (e .place) (f .width)) 16 _ z .0)
 
   copy-inside : (p size : ℕ) (a : Resolved) → copyRefusal S k r p size a ≡ 0 → InsideCopy S k p size a
   unfolding copyRefusal copyOk
@@ -139,9 +140,23 @@ module _ (S : Objs) (k : ℕ) (image : List ℕ) (r : Record) (base : ℕ)
   entry-inside e ignored z = tt
   entry-inside e passedOver z = tt
   entry-inside e turnedAway z = tt
-  entry-inside e (writes noSearch f) z = written (e .place) (f .width) z
-  entry-inside e (writes inScope f) z =
-      written (e .place) (f .width) (checked-then (e .symbol) (λ y. writtenRefusal r (e .place) (f .width)) z)
+  entry-inside e (writes noSearch f) z = written e f 0 z
+  entry-inside e (writes (inScope searched) f) z = go (searched (e .symbol))
+    where
+      found : ℕ
+      found = pick (searched (e .symbol)) (addressOr0 (resolve S k (wantedBy image r (e .symbol)))) 0
+
+      inside : e .place + f .width ≤ (obj S k) .span
+      inside =
+          written e f found (checked-then (e .symbol) (λ y. fieldRefusal ((obj S k) .base) r e f found) z)
+
+      go : (b : Bool)
+          → Inside S k
+          (pick b
+          (symbol (e .place) (f .width) (wantedBy image r (e .symbol)) (λ v. f .value v (e .addend) base (base + e .place)))
+          (fixed (e .place) (f .width) (f .value 0 (e .addend) base (base + e .place))))
+      go true = inside
+      go false = inside
   entry-inside e copies z =
       let found : Resolved = resolveCopy S (wantedBy image r (e .symbol)) in
       copy-inside (e .place) (symbolAt image (r .symbols) (e .symbol) .size) found

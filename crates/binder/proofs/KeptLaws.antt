@@ -28,7 +28,8 @@ use Rattle.scope.specs.declared.scope.Resolved.the-variants.{Absent, Found}
 use Rattle.binder.specs.declared.report.Progress.{Progress}
 use Rattle.binder.specs.declared.turn.Turn.{Turn}
 use Rattle.binder.specs.declared.relocate.Symbols.{Symbols}
-use Rattle.binder.specs.Steps.Relocating.{Left, left, wrote, Noted, noted, withArena, withReport, refusedBy, imageIn, reportSum, noteOf, unresolvedOf, keepsWeak, writtenBytes, fixedOf, writeFound, copyFits, copyBytes, copyOf, soughtFor, soughtForCopy, answeredOf, symbolicOf, copyingOf, runAction}
+use Rattle.binder.specs.declared.relocate.Sought.the-variants.{Stopped, Known}
+use Rattle.binder.specs.Steps.Relocating.{Left, left, wrote, Noted, noted, withArena, withReport, refusedBy, imageIn, reportSum, noteOf, unresolvedOf, keeps, keepsWeak, writtenNumber, writtenBytes, fieldOf, fixedOf, soughtBy, fieldNoted, writeSought, copyFits, copyBytes, copyOf, soughtFor, soughtForCopy, soughtOf, copyingOf, runAction}
 use Rattle.binder.specs.Steps.RunSteps.{TablesKept, SymbolsOf}
 use Rattle.binder.proofs.SteadyLaws.{table-out}
 
@@ -90,36 +91,50 @@ module _ (t : Turn) (r : Record) where
 
   module _ (table : List ℕ) (i : ℕ) (e : Rela) (p : Progress) (a report : List ℕ) where
     module _ (f : Calculation) where
+      -- a write where 17 was passed, or 22
+      field-keeps :
+          (v : ℕ) (q : Progress) (notes : List ℕ) → inWritable (r .segments) (e .place) (f .width) ≡ true → Keeps a (withReport notes (fieldOf t e f v q a))
+      unfolding fieldOf
+      field-keeps v q notes w = go (f .fits (writtenNumber t e f v))
+        where
+          go : (b : Bool)
+              → Keeps a (withReport notes (pick b (wrote q (patch a (t .offset + e .place) (f .width) (writtenBytes t e f v))) (wrote (refusedBy t 22 q) a)))
+          go true = kept-write a (e .place) (f .width) (writtenBytes t e f v) w
+          go false = kept-none a
+
       fixed-keeps : Keeps a (withReport report (fixedOf t (r .segments) e f p a))
       unfolding fixedOf
       fixed-keeps = go (inWritable (r .segments) (e .place) (f .width)) refl
         where
           go : (b : Bool) → inWritable (r .segments) (e .place) (f .width) ≡ b
-              → Keeps a (withReport report (pick b (wrote p (patch a (t .offset + e .place) (f .width) (writtenBytes t e f 0))) (wrote (refusedBy t 17 p) a)))
-          go true w = kept-write a (e .place) (f .width) (writtenBytes t e f 0) w
+              → Keeps a (withReport report (pick b (fieldOf t e f 0 p a) (wrote (refusedBy t 17 p) a)))
+          go true w = field-keeps 0 p report w
           go false w = kept-none a
 
-      found-keeps : (y : Symbol) (s : Resolved) → inWritable (r .segments) (e .place) (f .width) ≡ true → Keeps a (writeFound t e f i y s p a report)
-      unfolding writeFound
-      found-keeps y Absent w =
-          noted-keeps a (patch a (t .offset + e .place) (f .width) (writtenBytes t e f 0))
-          (keepsWeak (e .symbol + 1) y (unresolvedOf y (t .number) i p report)) (kept-write a (e .place) (f .width) (writtenBytes t e f 0) w)
-      found-keeps y (Found k d x) w = kept-write a (e .place) (f .width) (writtenBytes t e f x) w
+      noted-field : (x : Noted) → inWritable (r .segments) (e .place) (f .width) ≡ true → Keeps a (fieldNoted t e f a x)
+      noted-field (noted q notes) w = field-keeps 0 q notes w
 
-      symbolic-keeps : (c : CheckedSymbol) → Keeps a (symbolicOf table t r e f i c p a report)
-      unfolding symbolicOf answeredOf
-      symbolic-keeps (Refused n) = kept-none a
-      symbolic-keeps (Checked y) = go (inWritable (r .segments) (e .place) (f .width)) refl (eqb (p .last) (e .symbol + 1))
+      sought-keeps :
+          (y : Symbol) (s : Resolved) → inWritable (r .segments) (e .place) (f .width) ≡ true → Keeps a (writeSought t e f i (soughtBy y s) p a report)
+      unfolding writeSought
+      sought-keeps y Absent w = noted-field (keepsWeak (e .symbol + 1) y (unresolvedOf y (t .number) i p report)) w
+      sought-keeps y (Found k d x) w = field-keeps x (keeps (e .symbol + 1) x p) report w
+
+      symbolic-keeps : (searched : ℕ → Bool) (c : CheckedSymbol) → Keeps a (writeSought t e f i (soughtOf table t r e searched f p a c) p a report)
+      unfolding soughtOf writeSought
+      symbolic-keeps searched (Refused n) = kept-none a
+      symbolic-keeps searched (Checked y) =
+          go (inWritable (r .segments) (e .place) (f .width)) refl (searched (e .symbol)) (eqb (p .last) (e .symbol + 1))
         where
-          go : (b : Bool) → inWritable (r .segments) (e .place) (f .width) ≡ b → (c : Bool)
+          go : (b : Bool) → inWritable (r .segments) (e .place) (f .width) ≡ b → (s c : Bool)
               → Keeps a
-              (pick b
-              (pick c (left p (patch a (t .offset + e .place) (f .width) (writtenBytes t e f (p .address))) report)
-              (writeFound t e f i y (soughtFor table t a (nameOf (imageIn a t) r y)) p a report))
-              (left (refusedBy t 17 p) a report))
-          go true w true = kept-write a (e .place) (f .width) (writtenBytes t e f (p .address)) w
-          go true w false = found-keeps y (soughtFor table t a (nameOf (imageIn a t) r y)) w
-          go false w c = kept-none a
+              (writeSought t e f i
+              (pick b (pick s (pick c (Known (p .address)) (soughtBy y (soughtFor table t a (nameOf (imageIn a t) r y)))) (Known 0)) (Stopped 17))
+              p a report)
+          go true w true true = field-keeps (p .address) p report w
+          go true w true false = sought-keeps y (soughtFor table t a (nameOf (imageIn a t) r y)) w
+          go true w false c = field-keeps 0 p report w
+          go false w s c = kept-none a
 
     copied-keeps : (s : Link) (d : Definition) (n : ℕ) → Keeps a (withReport report (copyBytes t (r .segments) (e .place) s d n p a))
     unfolding copyBytes
@@ -153,7 +168,7 @@ module _ (t : Turn) (r : Record) where
     entry-keeps passedOver = noted-keeps a a (noteOf (reportSum 7 i) p report) (kept-none a)
     entry-keeps turnedAway = kept-none a
     entry-keeps (writes noSearch f) = fixed-keeps f
-    entry-keeps (writes inScope f) = symbolic-keeps f (checkedSymbol (imageIn a t) r (e .symbol))
+    entry-keeps (writes (inScope searched) f) = symbolic-keeps f searched (checkedSymbol (imageIn a t) r (e .symbol))
     entry-keeps copies = copying-keeps (checkedSymbol (imageIn a t) r (e .symbol))
 
     pub entry-kept : (x : Row) (q : Progress) (b words : List ℕ) → left q b words ≡ runAction table t r i e x p a report → TablesKept t r a b

@@ -9,7 +9,6 @@ use native.Mathlib.Numerals.{add-one}
 use borrow.Author.Tests.{eq-eqb, ne-eqb, le-leb, lt-leb}
 use lib.ListN.{length, getD, take, drop, length-take, drop-of-length-le}
 use lib.Seq.{drop-cons, getD-take}
-use Rattle.words.specs.Memory.{patch}
 use Rattle.object.specs.Steps.LoadTable.{SegmentsIn, segmentsIn}
 use Rattle.object.specs.ProgramHeader.{loadsOf, dynamicOf}
 use Rattle.object.specs.RelocationTypes.{Calculation, Row, rowOf}
@@ -32,36 +31,54 @@ use Rattle.scope.specs.declared.links.Link.{Link}
 use Rattle.scope.specs.declared.scope.Resolved.{Resolved}
 use Rattle.scope.specs.declared.scope.Resolved.the-variants.{Absent, Found}
 use Rattle.binder.specs.declared.turn.Turn.{Turn}
-use Rattle.binder.specs.Steps.Relocating.{Left, left, wrote, noted, withArena, withReport, unresolvedOf, copyBytes, summed, unlessRefused, refusedBy, imageIn, turnOf, againRefusal, againRecord, symbolRefusal, soughtFor, soughtForCopy, keeps, writtenBytes, writeFound, copyOf, answeredOf, symbolicOf, copyingOf, runAction, runTable, cutTo32, reportSum, noteOf, runRelrs, runTables, runObject, runAt, runOrder}
+use Rattle.binder.specs.declared.relocate.Sought.{Sought}
+use Rattle.binder.specs.declared.relocate.Sought.the-variants.{Stopped, Known}
+use Rattle.binder.specs.Steps.Relocating.{Left, left, wrote, noted, withArena, withReport, unresolvedOf, copyBytes, summed, unlessRefused, refusedBy, imageIn, turnOf, againRefusal, againRecord, symbolRefusal, soughtFor, soughtForCopy, keeps, soughtBy, soughtOf, copyOf, copyingOf, runAction, runTable, cutTo32, reportSum, noteOf, runRelrs, runTables, runObject, runAt, runOrder}
 
 -- ---- the entries of a symbol
 
+module _ (table : List ℕ) (t : Turn) (r : Record) (e : Rela) (searched : ℕ → Bool) (f : Calculation) (p : Progress) (a : List ℕ) {x : CheckedSymbol}
+    (hx : x ≡ checkedSymbol (imageIn a t) r (e .symbol)) where
+  abbrev sought-now : Sought
+  sought-now = soughtOf table t r e searched f p a (checkedSymbol (imageIn a t) r (e .symbol))
+
+  pub sought-refused : {n z : ℕ} → x ≡ Refused n → z ≡ symbolRefusal x → Stopped z ≡ sought-now
+  unfolding soughtOf
+  sought-refused hn hz = rw (hz, ← hx, hn)
+
+  module _ {y : Symbol} {segments : List Segment} {width : ℕ} {b : Bool} (hy : x ≡ Checked y) (hs : segments ≡ r .segments) (hw : width ≡ f .width)
+      (hb : b ≡ inWritable segments (e .place) width) where
+    -- the field is not inside a writable segment
+    pub sought-outside : b ≡ false → Stopped 17 ≡ sought-now
+    unfolding soughtOf
+    sought-outside so = rw (← hx, hy, ← hs, ← hw, ← hb, so)
+
+    module _ (so : b ≡ true) {c : Bool} (hc : c ≡ searched (e .symbol)) where
+      -- it is: the symbol is not searched
+      pub sought-zero : c ≡ false → Known 0 ≡ sought-now
+      unfolding soughtOf
+      sought-zero un = rw (← hx, hy, ← hs, ← hw, ← hb, so, ← hc, un)
+
+      -- the kept answer is the symbol's, or it is not
+      pub sought-kept : c ≡ true → p .last ≡ e .symbol + 1 → Known (p .address) ≡ sought-now
+      unfolding soughtOf
+      sought-kept sc same = rw (← hx, hy, ← hs, ← hw, ← hb, so, ← hc, sc, eq-eqb _ _ same)
+
+      pub sought-new :
+          {s : Resolved} {out : Sought} → c ≡ true → (p .last ≡ e .symbol + 1 → ⊥) → s ≡ soughtFor table t a (nameOf (imageIn a t) r y)
+          → out ≡ soughtBy y s → out ≡ sought-now
+      unfolding soughtOf
+      sought-new sc other hf is = rw (← hx, hy, ← hs, ← hw, ← hb, so, ← hc, sc, ne-eqb _ _ other, ← hf) is
+
 module _ (table : List ℕ) (t : Turn) (r : Record) (e : Rela) (i : ℕ) (p : Progress) (a report : List ℕ) {x : CheckedSymbol}
     (hx : x ≡ checkedSymbol (imageIn a t) r (e .symbol)) where
-  module _ {n z : ℕ} {q : Progress} (hn : x ≡ Refused n) (hz : z ≡ symbolRefusal x) (hq : q ≡ refusedBy t z p) where
-    pub symbolic-refused : (f : Calculation) → left q a report ≡ symbolicOf table t r e f i (checkedSymbol (imageIn a t) r (e .symbol)) p a report
-    unfolding symbolicOf
-    symbolic-refused f = rw (hq, hz, ← hx, hn)
-
-    pub copying-refused : left q a report ≡ copyingOf table t r e i (checkedSymbol (imageIn a t) r (e .symbol)) p a report
-    unfolding copyingOf
-    copying-refused = rw (hq, hz, ← hx, hn)
+  pub copying-refused :
+      {n z : ℕ} {q : Progress} → x ≡ Refused n → z ≡ symbolRefusal x → q ≡ refusedBy t z p
+      → left q a report ≡ copyingOf table t r e i (checkedSymbol (imageIn a t) r (e .symbol)) p a report
+  unfolding copyingOf
+  copying-refused hn hz hq = rw (hq, hz, ← hx, hn)
 
   module _ {y : Symbol} {segments : List Segment} (hy : x ≡ Checked y) (hs : segments ≡ r .segments) where
-    -- the word is not inside a writable segment
-    pub symbolic-outside : (f : Calculation) {q : Progress} {b : Bool} → b ≡ inWritable segments (e .place) (f .width) → b ≡ false → q ≡ refusedBy t 17 p → left q a report ≡ symbolicOf table t r e f i (checkedSymbol (imageIn a t) r (e .symbol)) p a report
-    unfolding symbolicOf
-    symbolic-outside f hb so hq = rw (hq, ← hx, hy, ← hs, ← hb, so)
-
-    -- it is: the kept answer is the symbol's, or it is not
-    pub symbolic-kept : (f : Calculation) {b : Bool} {out : Left} → b ≡ inWritable segments (e .place) (f .width) → b ≡ true → p .last ≡ e .symbol + 1 → out ≡ left p (patch a (t .offset + e .place) (f .width) (writtenBytes t e f (p .address))) report → out ≡ symbolicOf table t r e f i (checkedSymbol (imageIn a t) r (e .symbol)) p a report
-    unfolding symbolicOf answeredOf
-    symbolic-kept f hb so same run = rw (← hx, hy, ← hs, ← hb, so, eq-eqb _ _ same) run
-
-    pub symbolic-inside : (f : Calculation) {b : Bool} {s : Resolved} {out : Left} → b ≡ inWritable segments (e .place) (f .width) → b ≡ true → (p .last ≡ e .symbol + 1 → ⊥) → s ≡ soughtFor table t a (nameOf (imageIn a t) r y) → out ≡ writeFound t e f i y s p a report → out ≡ symbolicOf table t r e f i (checkedSymbol (imageIn a t) r (e .symbol)) p a report
-    unfolding symbolicOf answeredOf
-    symbolic-inside f hb so other hf run = rw (← hx, hy, ← hs, ← hb, so, ne-eqb _ _ other, ← hf) run
-
     pub copying-sought : {s : Resolved} {out : Left} → s ≡ soughtForCopy table a (nameOf (imageIn a t) r y) → out ≡ copyOf table t segments e i y s p a report → out ≡ copyingOf table t r e i (checkedSymbol (imageIn a t) r (e .symbol)) p a report
     unfolding copyingOf
     copying-sought hf run = rw (← hx, hy, ← hs, ← hf) run

@@ -11,10 +11,12 @@ use Rattle.words.specs.Choice.{pick}
 use Rattle.words.specs.Memory.{mem, patch}
 use Rattle.words.specs.Words.{leAt, byteOf}
 use Rattle.words.specs.Names.{nameAt}
-use Rattle.object.specs.RelocationTypes.{rowOf}
+use Rattle.object.specs.RelocationTypes.{Calculation, rowOf}
 use Rattle.object.specs.Entries as entries
 use Rattle.object.specs.Entries.{relaAt}
-use Rattle.object.specs.Steps.Actions.{symbolicWord, rowBy}
+use Rattle.object.specs.Steps.Actions.{fieldBy, searchedBy, rowBy}
+use Rattle.object.specs.declared.relocate.Field.{Field}
+use Rattle.object.specs.declared.relocate.Field.the-variants.{Address, Direct64, Pc64, Pc32, Direct32, Direct32S}
 use Rattle.object.specs.Symbol as symbols
 use Rattle.object.specs.Symbol.{symbolAt}
 use Rattle.object.specs.Record.{Record, checkedSymbol}
@@ -32,7 +34,8 @@ use Rattle.binder.specs.declared.turn.Turn.{Turn}
 use Rattle.binder.specs.declared.relocate.Symbols.{Symbols}
 use Rattle.binder.specs.declared.relocate.Run.{Run}
 use Rattle.binder.specs.declared.relocate.Address.the-variants.{Nowhere, At}
-use Rattle.binder.specs.Steps.Relocating.{Left, left, keeps, imageIn, writeFound, soughtFor, answeredOf, symbolicOf, runAction}
+use Rattle.binder.specs.declared.relocate.Sought.the-variants.{Known}
+use Rattle.binder.specs.Steps.Relocating.{Left, left, wrote, withReport, keeps, imageIn, writtenNumber, fieldOf, soughtFor, soughtBy, soughtOf, writeSought, runAction}
 use Rattle.binder.specs.Steps.RunSteps.{EntriesPassed, SymbolsOf, EntryHere, addressFound, SymbolsPassed}
 use Rattle.binder.proofs.RunLaws.{entriesLeft, entry-goes}
 use Rattle.binder.proofs.RelativeLaws.{number-in}
@@ -44,8 +47,17 @@ at-same x y e = cc
 at-nowhere : {P : Type 0} (x : ℕ) → At x ≡ Nowhere → P
 at-nowhere x e = let z : _≡_ {A = ℕ} 0 1 = cc in absurd (omega arith)
 
--- entry `s .next`, which stands at `k` of the arena, is Symbolic, its place is in low .. high, its symbol needs no test and has the
--- address `found`, which was written
+-- a field of eight bytes holds every number
+wide-fits : (f : Field) (v : ℕ) → fieldBy f .width ≡ 8 → fieldBy f .fits v ≡ true
+wide-fits Address v e = refl
+wide-fits Direct64 v e = refl
+wide-fits Pc64 v e = refl
+wide-fits Pc32 v e = absurd (omega arith)
+wide-fits Direct32 v e = absurd (omega arith)
+wide-fits Direct32S v e = absurd (omega arith)
+
+-- entry `s .next`, which stands at `k` of the arena, is Symbolic with a field of eight bytes, its place is in low .. high, its symbol needs no
+-- test and has the address `found`, by which the field was written
 module _
     (table : List ℕ)
     (t : Turn)
@@ -53,17 +65,18 @@ module _
     (at n low high : ℕ)
     (s : Run)
     (a : List ℕ)
-    {k place index name number found : ℕ}
+    {k place index name addend number found : ℕ}
+    {field : Field}
     {b : List ℕ}
     (some : s .next < n)
     (fits : at + 24 * n ≤ t .span)
     (inside : y .symbols + 24 * y .fits ≤ t .span)
     (stands : k ≡ t .offset + at + 24 * s .next)
-    (here : EntryHere a t y k low high place index name)
+    (here : EntryHere a t y k low high field place index name addend)
     (number-is : number ≡ index + 1)
     (found-is : At found
     ≡ pick (eqb (s .last) number) (At (s .address)) (addressFound (soughtFor table t a (nameAt (imageIn a t) (y .strings + name)))))
-    (written : b ≡ patch a (t .offset + place) 8 (byteOf found))
+    (written : b ≡ patch a (t .offset + place) 8 (byteOf (fieldBy field .value found addend (t .base) (t .base + place))))
   where
     abbrev e : Rela
     e = relaAt (imageIn a t) at (s .next)
@@ -80,7 +93,14 @@ module _
     unfolding entries.relaAt
     index-here = number-in t a 4 (at + (24 * s .next + 12)) (k + 12) (omega arith) (omega arith) (here .index-is)
 
-    acts : rowBy Symbolic ≡ rowOf (e .rtype)
+    addend-here : e .addend ≡ addend
+    unfolding entries.relaAt
+    addend-here = number-in t a 8 (at + (24 * s .next + 16)) (k + 16) (omega arith) (omega arith) (here .addend-is)
+
+    abbrev calculation : Calculation
+    calculation = fieldBy field
+
+    acts : rowBy (Symbolic field) ≡ rowOf (e .rtype)
     acts = sym (ap rowOf rtype-here ∙ here .acts)
 
     module _ (r : Record) (of : SymbolsOf t r y a) where
@@ -100,28 +120,38 @@ module _
         abbrev q : Progress
         q = keeps (s .last) (s .address) p
 
+        -- the write by the address that was found
+        field-here : (v : ℕ) (q′ : Progress) → found ≡ v → wrote q′ b ≡ fieldOf t e calculation v q′ a
+        unfolding fieldOf
+        field-here v q′ h = rw (wide-fits field (writtenNumber t e calculation v) (here .wide), written, here .wide, place-here, addend-here, h)
+
         -- the search found it
-        sought : (x : Resolved) → At found ≡ addressFound x → left (keeps (e .symbol + 1) found p) b report ≡ writeFound t e symbolicWord i y-here x q a report
-        unfolding writeFound
+        sought : (x : Resolved) → At found ≡ addressFound x → left (keeps (e .symbol + 1) found p) b report ≡ writeSought t e calculation i (soughtBy y-here x) q a report
+        unfolding writeSought
         sought Absent h = at-nowhere found h
-        sought (Found o d v) h = rw (written, place-here, at-same found v h)
+        sought (Found o d v) h =
+            rw (at-same found v h) (ap (withReport report) (field-here v (keeps (e .symbol + 1) v p) (at-same found v h)))
 
         answered : (c : Bool) → eqb (s .last) (e .symbol + 1) ≡ c → (x : Resolved) → At found ≡ pick c (At (s .address)) (addressFound x)
             → left (keeps (e .symbol + 1) found p) b report
-            ≡ pick c (left q (patch a (t .offset + e .place) 8 (byteOf (s .address))) report) (writeFound t e symbolicWord i y-here x q a report)
-        answered true h x g = rw (written, place-here, at-same found (s .address) g, eqb-true (s .last) (e .symbol + 1) h)
+            ≡ writeSought t e calculation i (pick c (Known (s .address)) (soughtBy y-here x)) q a report
+        unfolding writeSought
+        answered true h x g =
+            rw (← eqb-true (s .last) (e .symbol + 1) h, at-same found (s .address) g)
+            (ap (withReport report) (field-here (s .address) q (at-same found (s .address) g)))
         answered false h x g = sought x g
 
         number-here : number ≡ e .symbol + 1
         number-here = omega (arith, index-here)
 
-        ran : WritableRange (r .segments) low high → left (keeps number found p) b report ≡ runAction table t r i e (rowBy Symbolic) q a report
-        unfolding runAction symbolicOf answeredOf
+        ran : WritableRange (r .segments) low high → left (keeps number found p) b report ≡ runAction table t r i e (rowBy (Symbolic field)) q a report
+        unfolding runAction soughtOf
         ran wr =
-            let w : inWritable (r .segments) (e .place) 8 ≡ true = rw place-here (wr place 8 (here .above) (here .below) (omega arith)) in
+            let w : inWritable (r .segments) (e .place) (calculation .width) ≡ true = rw (here .wide, place-here) (wr place 8 (here .above) (here .below) (omega arith)) in
+            let z : searchedBy field (e .symbol) ≡ true = rw index-here (here .searched) in
             let g : At found ≡ pick (eqb (s .last) (e .symbol + 1)) (At (s .address)) (addressFound (soughtFor table t a (nameAt (imageIn a t) (r .strings + y-here .name)))) =
             rw (name-here, of .strings, ← number-here) found-is in
-            rw (checked, w, number-here)
+            rw (checked, w, z, number-here)
             (answered (eqb (s .last) (e .symbol + 1)) refl (soughtFor table t a (nameAt (imageIn a t) (r .strings + y-here .name))) g)
 
     pub symbolic-turn :
@@ -135,7 +165,7 @@ module _
           entry-goes table t r at first n (s .next) (keeps (s .last) (s .address) p) a report {b = b} {noted = report} some refl acts refl run
               (so-far .0) (fine (omega (arith, here .below))),
           kept-then t r a₀ a b (so-far .1)
-              (entry-kept t r table i e (keeps (s .last) (s .address) p) a report (rowBy Symbolic) (keeps number found p) b report run),
+              (entry-kept t r table i e (keeps (s .last) (s .address) p) a report (rowBy (Symbolic field)) (keeps number found p) b report run),
         )
 
 -- a run of entries that are Relative, then one of entries that are Symbolic

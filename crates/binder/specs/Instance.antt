@@ -59,14 +59,16 @@ relasOf image r = relasFrom image (r .rela) 0 (r .relas) ++ relasFrom image (r .
 abbrev pub wantedBy : List ℕ → Record → ℕ → Wanted
 wantedBy image r index = byName (symbolName image (r .symbols) (r .strings) index)
 
--- what an entry is, by the row of its type
+-- what an entry is, by the row of its type; without a search S is 0
 unfoldable pub entryBy : List ℕ → Record → ℕ → Rela → Row → Entry
 entryBy image r base e ignored = pass
 entryBy image r base e passedOver = pass
 entryBy image r base e turnedAway = pass
 entryBy image r base e (writes noSearch f) = fixed (e .place) (f .width) (f .value 0 (e .addend) base (base + e .place))
-entryBy image r base e (writes inScope f) =
-    symbol (e .place) (f .width) (wantedBy image r (e .symbol)) (λ S. f .value S (e .addend) base (base + e .place))
+entryBy image r base e (writes (inScope searched) f) =
+    pick (searched (e .symbol))
+    (symbol (e .place) (f .width) (wantedBy image r (e .symbol)) (λ S. f .value S (e .addend) base (base + e .place)))
+    (fixed (e .place) (f .width) (f .value 0 (e .addend) base (base + e .place)))
 entryBy image r base e copies =
     copy (e .place) (wantedBy image r (e .symbol)) (symbolAt image (r .symbols) (e .symbol) .size)
 

@@ -35,7 +35,8 @@ undefinedBy S k image r e ignored = false
 undefinedBy S k image r e passedOver = false
 undefinedBy S k image r e turnedAway = false
 undefinedBy S k image r e (writes noSearch f) = false
-undefinedBy S k image r e (writes inScope f) = unresolved image r e (resolve S k (wantedBy image r (e .symbol)))
+undefinedBy S k image r e (writes (inScope searched) f) =
+    both (searched (e .symbol)) (unresolved image r e (resolve S k (wantedBy image r (e .symbol))))
 undefinedBy S k image r e copies = unresolved image r e (resolveCopy S (wantedBy image r (e .symbol)))
 
 abbrev pub isUndefined : Objs → ℕ → List ℕ → Record → Rela → Bool

@@ -1,5 +1,5 @@
--- Refusals of a set, each with its object: 4 to 12 and 21 object by object, 14 to 18 entry by entry in binding order. Document 01, "Refused, in
--- checking order". All are functions of the placed images. Assumes nothing.
+-- Refusals of a set, each with its object: 4 to 12 and 21 object by object, 14 to 18 and 22 entry by entry in binding order. Document 01,
+-- "Refused, in checking order"; document 02, (a) and (b). All are functions of the placed images. Assumes nothing.
 use mathlib.Core.Bool.{Bool, true, false, not}
 use mathlib.Core.List.{List, [], _∷_}
 use Prim.Native.Nat.{ℕ, zero, suc, _+_, _-_, min}
@@ -9,10 +9,11 @@ use Rattle.words.specs.Choice.{pick, both, either}
 use Rattle.model.specs.Symbols.{Definition, Resolved, absent, answer}
 use Rattle.model.specs.Objects.{Objs, obj}
 use Rattle.model.specs.Scope.{resolve, resolveCopy}
+use Rattle.model.specs.Relocation.{addressOr0}
 use Rattle.object.specs.Refusal.{require}
 use Rattle.object.specs.TableBytes.{inWritable}
 use Rattle.object.specs.Symbol.{bindingOf}
-use Rattle.object.specs.RelocationTypes.{Row, noSearch, inScope, ignored, passedOver, turnedAway, copies, writes, rowOf}
+use Rattle.object.specs.RelocationTypes.{Calculation, Row, noSearch, inScope, ignored, passedOver, turnedAway, copies, writes, rowOf}
 use Rattle.object.specs.Entries.{Word, place, nowhere}
 use Rattle.object.specs.Record.{Record, checkedSymbol}
 use Rattle.object.specs.Loaded.{objectRefusal}
@@ -41,14 +42,11 @@ loadVerdict S size k [] = Passed
 loadVerdict S size k (f ∷ fs) =
     first (verdict (objectRefusal (f .host) (size - (obj S k) .offset) (f .bytes)) k) (loadVerdict S size (k + 1) fs)
 
--- ---- 14 to 18: "entry by entry in binding order"
+-- ---- 14 to 18 and 22: "entry by entry in binding order"
 
 -- 17: "A written place .. not inside one writable PT_LOAD of its object, or a RELR bit set before any address"
-abbrev pub writtenRefusal : Record → ℕ → ℕ → ℕ
-writtenRefusal r p n = require (inWritable (r .segments) p n) 17 0
-
 abbrev pub wordRefusal : Record → Word → ℕ
-wordRefusal r (place p) = writtenRefusal r p 8
+wordRefusal r (place p) = require (inWritable (r .segments) p 8) 17 0
 wordRefusal r nowhere = 17
 
 -- not 18: "A non-empty COPY from an absolute symbol, from outside the definer's span, or overlapping its destination": `n` bytes from the
@@ -66,18 +64,25 @@ copyRefusal S k r p size (answer d s a) =
     pick (eqb (min size (s .size)) 0) 0
     (require (inWritable (r .segments) p (min size (s .size))) 17 (require (copyOk S k p d s (min size (s .size))) 18 0))
 
+-- 17, and "22, after 17, a 32-bit result that does not fit", of an entry of an object with that base, whose symbol has the address `s`
+abbrev pub fieldRefusal : ℕ → Record → Rela → Calculation → ℕ → ℕ
+fieldRefusal base r e f s =
+    require (inWritable (r .segments) (e .place) (f .width)) 17 (require (f .fits (f .value s (e .addend) base (base + e .place))) 22 0)
+
 -- 14 and 15 of the entry's symbol, else what follows
 abbrev pub symbolThen : CheckedSymbol → (Symbol → ℕ) → ℕ
 symbolThen (checked.the-variants.Refused n) rest = n
 symbolThen (checked.the-variants.Checked y) rest = rest y
 
--- 14 to 18 of an entry, by the row of its type
+-- 14 to 18 and 22 of an entry, by the row of its type
 unfoldable pub refusalBy : Objs → ℕ → List ℕ → Record → Rela → Row → ℕ
 refusalBy S k image r e ignored = 0
 refusalBy S k image r e passedOver = 0
 refusalBy S k image r e turnedAway = 16
-refusalBy S k image r e (writes noSearch f) = writtenRefusal r (e .place) (f .width)
-refusalBy S k image r e (writes inScope f) = symbolThen (checkedSymbol image r (e .symbol)) (λ y. writtenRefusal r (e .place) (f .width))
+refusalBy S k image r e (writes noSearch f) = fieldRefusal ((obj S k) .base) r e f 0
+refusalBy S k image r e (writes (inScope searched) f) =
+    symbolThen (checkedSymbol image r (e .symbol))
+    (λ y. fieldRefusal ((obj S k) .base) r e f (pick (searched (e .symbol)) (addressOr0 (resolve S k (wantedBy image r (e .symbol)))) 0))
 refusalBy S k image r e copies =
     symbolThen (checkedSymbol image r (e .symbol)) (λ y. copyRefusal S k r (e .place) (y .size) (resolveCopy S (wantedBy image r (e .symbol))))
 

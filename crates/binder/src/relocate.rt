@@ -1,4 +1,5 @@
-// Relocation: port of strategies/relocate.rs. The objects one after another: RELR, RELA, PLT; refusals 14 to 18, entry by entry.
+// Relocation: port of strategies/relocate.rs. The objects one after another: RELR, RELA, PLT; refusals 14 to 18 and 22, entry
+// by entry.
 ghost use mathlib.Core.Path.{_≡_};
 ghost use mathlib.Core.Bool.{true};
 ghost use Prim.Native.Nat.{_+_, _-_, _*_, _≤_};
@@ -8,13 +9,13 @@ ghost use Rattle.words.specs.Choice.{pick};
 ghost use Rattle.words.specs.Names.{nameAt};
 ghost use Rattle.object.specs.RelocationTypes.{rowOf};
 ghost use Rattle.object.specs.Entries.{relaAt};
-ghost use Rattle.object.specs.Steps.Actions.{relativeWord, symbolicWord, rowBy};
+ghost use Rattle.object.specs.Steps.Actions.{relativeWord, fieldBy, searchedBy, rowBy};
 ghost use Rattle.object.specs.declared.relocate.Action.the-variants as actions;
 ghost use Rattle.object.specs.Record.{heldBy, checkedSymbol};
 ghost use Rattle.object.specs.Steps.WritableRange.{WritableRange};
 ghost use Rattle.sheet.specs.Steps.Parts.{inputsIn};
 ghost use Rattle.scope.specs.Steps.Links.{Filtered};
-ghost use Rattle.binder.specs.Steps.Relocating.{left, wrote, started, imageIn, fixedOf, symbolRefusal, writeFound, soughtFor, soughtForCopy, symbolicOf, copyingOf, runAction, runTable, runTables, runObject, runAt, runOrder};
+ghost use Rattle.binder.specs.Steps.Relocating.{left, wrote, started, imageIn, fieldOf, fixedOf, symbolRefusal, soughtFor, soughtForCopy, soughtOf, writeSought, copyingOf, runAction, runTable, runTables, runObject, runAt, runOrder};
 ghost use Rattle.binder.specs.Steps.RunSteps.{InReach, RelativesWritten, EntriesPassed, SymbolsOf, EntryRead, addressFound, SymbolsPassed};
 ghost use Rattle.binder.specs.declared.relocate.Address.the-variants.{At};
 use crate::order::Order;
@@ -23,6 +24,7 @@ use crate::turn::Turn;
 use object::dynamic_fields::ObjectData;
 use object::entry_symbol::CheckedSymbol;
 use object::relocate::Action;
+use object::relocate::Field;
 use object::relocate::Rela;
 use object::symbol::Symbol;
 use object::table_bytes::Bounds;
@@ -75,31 +77,28 @@ fn search_copy(arena: &[u8], table: &[u64], t: Turn, strings: usize, name: u32) 
     scope::scope::resolve_copy(arena, table, wanted, gnu)
 }
 
-// Symbolic, of the entry with number `i` and the symbol `y`: what was found, which is kept, or 0 and a word of the report.
-fn write_found(
-    arena: &mut [u8],
-    report: &mut [u32],
-    p: Progress,
-    t: Turn,
-    i: u32,
-    e: Rela,
-    y: Symbol,
-    s: Resolved,
-) -> Progress
-    ensures { λ r. ⌜ left r (now (arena .exit)) (now (report .exit)) ≡ writeFound t e symbolicWord i y s p (now (arena .entry)) (now (report .entry)) ⌝ }
+// The field of an entry whose symbol has the address `s`, or refusal 22.
+fn write_field(arena: &mut [u8], p: Progress, t: Turn, e: Rela, f: Field, s: u64) -> Progress
+    ensures { λ r. ⌜ wrote r (now (arena .exit)) ≡ fieldOf t e (fieldBy f) s p (now (arena .entry)) ⌝ }
 {
-    let Resolved::Found {
-        object: _,
-        definition: _,
-        address,
-    } = s
-    else {
-        crate::turn::write_word(arena, t.offset, e.place, 0);
-        let q = crate::report::unresolved(report, p, y, t.number, i);
-        return crate::report::keep_weak(q, e.symbol as u64 + 1, y);
-    };
-    crate::turn::write_word(arena, t.offset, e.place, address);
-    crate::report::keep(p, e.symbol as u64 + 1, address)
+    let v = object::relocate::value_of(f, s, e.addend, t.base, e.place as u64);
+    if !object::relocate::fits(f, v) {
+        return crate::report::refused(p, t, 22);
+    }
+    if object::relocate::width_of(f) == 8 {
+        crate::turn::write_word(arena, t.offset, e.place, v);
+        return p;
+    }
+    crate::turn::write_half(arena, t.offset, e.place, v);
+    p
+}
+
+// What the symbol of an entry came to: refusal 14, 15 or 17; an address that needs no search, or one that a search found; or none.
+pub enum Sought {
+    Stopped(u32),
+    Known(u64),
+    Searched(u64),
+    Missing(Symbol),
 }
 
 // Refusal 14 or 15, or 0.
@@ -112,33 +111,72 @@ fn symbol_refusal(c: CheckedSymbol) -> u32
     }
 }
 
-fn symbolic(
-    arena: &mut [u8],
-    report: &mut [u32],
+// What the symbol of an entry with the field `f` comes to.
+fn seek(
+    arena: &[u8],
     p: Progress,
     table: &[u64],
     t: Turn,
     o: ObjectData,
-    i: u32,
     e: Rela,
-) -> Progress
+    f: Field,
+) -> Sought
     requires { ⌜ Filtered (now table) ⌝ }
-    ensures { λ r. ⌜ left r (now (arena .exit)) (now (report .exit)) ≡ symbolicOf (now (table .entry)) t (heldBy o) e symbolicWord i (checkedSymbol (imageIn (now (arena .entry)) t) (heldBy o) (e .symbol)) p (now (arena .entry)) (now (report .entry)) ⌝ }
+    ensures { λ r. ⌜ r ≡ soughtOf (now (table .entry)) t (heldBy o) e (searchedBy f) (fieldBy f) p (now (arena .entry)) (checkedSymbol (imageIn (now (arena .entry)) t) (heldBy o) (e .symbol)) ⌝ }
 {
     let c = symbol_of(arena, t, o, e.symbol);
     let CheckedSymbol::Checked(y) = c else {
-        return crate::report::refused(p, t, symbol_refusal(c));
+        return Sought::Stopped(symbol_refusal(c));
     };
     let b = object::dynamic_fields::bounds_of(o);
-    if !object::table_bytes::in_writable(b, e.place, 8) {
-        return crate::report::refused(p, t, 17);
+    if !object::table_bytes::in_writable(b, e.place, object::relocate::width_of(f)) {
+        return Sought::Stopped(17);
+    }
+    if !object::relocate::searches(f, e.symbol) {
+        return Sought::Known(0);
     }
     if p.last == e.symbol as u64 + 1 {
-        crate::turn::write_word(arena, t.offset, e.place, p.address);
-        return p;
+        return Sought::Known(p.address);
     }
     let s = search(arena, table, t, o.strings, y.name);
-    write_found(arena, report, p, t, i, e, y, s)
+    let Resolved::Found {
+        object: _,
+        definition: _,
+        address,
+    } = s
+    else {
+        return Sought::Missing(y);
+    };
+    Sought::Searched(address)
+}
+
+// The field of the entry with number `i` by what its symbol came to: what was found is kept; what was found nowhere is 0, and a word of the
+// report.
+fn write_sought(
+    arena: &mut [u8],
+    report: &mut [u32],
+    p: Progress,
+    t: Turn,
+    i: u32,
+    e: Rela,
+    f: Field,
+    s: Sought,
+) -> Progress
+    ensures { λ r. ⌜ left r (now (arena .exit)) (now (report .exit)) ≡ writeSought t e (fieldBy f) i s p (now (arena .entry)) (now (report .entry)) ⌝ }
+{
+    match s {
+        Sought::Stopped(n) => crate::report::refused(p, t, n),
+        Sought::Known(v) => write_field(arena, p, t, e, f, v),
+        Sought::Searched(v) => {
+            let q = crate::report::keep(p, e.symbol as u64 + 1, v);
+            write_field(arena, q, t, e, f, v)
+        }
+        Sought::Missing(y) => {
+            let q = crate::report::unresolved(report, p, y, t.number, i);
+            let k = crate::report::keep_weak(q, e.symbol as u64 + 1, y);
+            write_field(arena, k, t, e, f, 0)
+        }
+    }
 }
 
 fn copying(
@@ -197,7 +235,10 @@ fn run_action(
         ),
         Action::Irelative => crate::report::refused(p, t, 16),
         Action::Relative => relative(arena, p, t, object::dynamic_fields::bounds_of(o), e),
-        Action::Symbolic => symbolic(arena, report, p, table, t, o, i, e),
+        Action::Symbolic(f) => {
+            let s = seek(arena, p, table, t, o, e, f);
+            write_sought(arena, report, p, t, i, e, f, s)
+        }
         Action::Copy => copying(arena, report, p, table, t, o, i, e),
     }
 }
@@ -331,16 +372,6 @@ fn is_relative(rtype: u32) -> bool
     }
 }
 
-fn is_symbolic(rtype: u32) -> bool
-    ensures { λ r. ⌜ (r ≡ true → rowOf rtype ≡ rowBy actions.Symbolic) ⌝ }
-{
-    let a = object::relocate::action_of(rtype);
-    match a {
-        Action::Symbolic => true,
-        _ => false,
-    }
-}
-
 // Whether the symbols that need no test lie in the span.
 fn symbols_in(t: Turn, y: Symbols) -> bool
     ensures { λ r. ⌜ (r ≡ true → y .symbols + 24 * y .fits ≤ t .span) ⌝ }
@@ -351,10 +382,17 @@ fn symbols_in(t: Turn, y: Symbols) -> bool
     y.fits <= (t.span - y.symbols) / 24
 }
 
-// An entry that is Symbolic, whose place is in low .. high and whose symbol needs no further test: its place, its symbol and the symbol's name.
+// An entry that is Symbolic with a field of eight bytes, whose place is in low .. high and whose symbol is searched and needs no further
+// test: its field, its place, its symbol, the symbol's name and the addend.
 pub enum SymbolEntry {
     Other,
-    Here { place: usize, index: u32, name: u32 },
+    Here {
+        field: Field,
+        place: usize,
+        index: u32,
+        name: u32,
+        addend: u64,
+    },
 }
 
 // The entry that stands at `k` of the arena.
@@ -362,7 +400,11 @@ fn symbol_entry(arena: &[u8], t: Turn, y: Symbols, k: usize, low: usize, high: u
     requires { ⌜ (k + 24 ≤ length (now arena)) × (t .offset + y .symbols + 24 * y .fits ≤ length (now arena)) × (8 ≤ high) ⌝ }
     ensures { λ r. ⌜ EntryRead (now (arena .entry)) t y k low high r ⌝ }
 {
-    if !is_symbolic(words::bytes::u32_in(arena, k + 8)) {
+    let a = object::relocate::action_of(words::bytes::u32_in(arena, k + 8));
+    let Action::Symbolic(field) = a else {
+        return SymbolEntry::Other;
+    };
+    if object::relocate::width_of(field) != 8 {
         return SymbolEntry::Other;
     }
     let place = words::bytes::u64_in(arena, k) as usize;
@@ -376,14 +418,19 @@ fn symbol_entry(arena: &[u8], t: Turn, y: Symbols, k: usize, low: usize, high: u
     if y.fits <= index as usize {
         return SymbolEntry::Other;
     }
+    if !object::relocate::searches(field, index) {
+        return SymbolEntry::Other;
+    }
     let name = words::bytes::u32_in(arena, t.offset + y.symbols + 24 * (index as usize));
     if y.ends <= name as usize {
         return SymbolEntry::Other;
     }
     SymbolEntry::Here {
+        field: field,
         place: place,
         index: index,
         name: name,
+        addend: words::bytes::u64_in(arena, k + 16),
     }
 }
 
@@ -415,8 +462,8 @@ fn address_of(
     }
 }
 
-// As `run_relatives`, for entries that are Symbolic whose symbols need no further test and are found: the address. The first entry that is not of
-// this kind, and the answer that is kept then.
+// As `run_relatives`, for entries that are Symbolic with fields of eight bytes whose symbols need no further test and are found. The first entry
+// that is not of this kind, and the answer that is kept then.
 fn symbolics(
     arena: &mut [u8],
     table: &[u64],
@@ -440,7 +487,14 @@ fn symbolics(
     let mut k = t.offset + at + 24 * (s.next as usize);
     while p.next < n {
         let e = symbol_entry(arena, t, y, k, w.low, w.high);
-        let SymbolEntry::Here { place, index, name } = e else {
+        let SymbolEntry::Here {
+            field,
+            place,
+            index,
+            name,
+            addend,
+        } = e
+        else {
             return p;
         };
         let number = index as u64 + 1;
@@ -448,7 +502,8 @@ fn symbolics(
         let Address::At(found) = a else {
             return p;
         };
-        words::bytes::store_in(arena, t.offset + place, found);
+        let v = object::relocate::value_of(field, found, addend, t.base, place as u64);
+        words::bytes::store_in(arena, t.offset + place, v);
         p = Run {
             next: p.next + 1,
             last: number,
@@ -459,15 +514,23 @@ fn symbolics(
     p
 }
 
+// Whether the loops above may do entries of a type.
+fn in_runs(rtype: u32) -> bool {
+    let a = object::relocate::action_of(rtype);
+    match a {
+        Action::Relative => true,
+        Action::Symbolic(f) => true,
+        _ => false,
+    }
+}
+
 // The range to be used after an entry: after one that the loops above do, the segment of its place.
 fn range_after(w: Writable, b: Bounds, rtype: u32, place: usize) -> Writable
     requires { ⌜ WritableRange (take (b .count) (b .segments)) (w .low) (w .high) ⌝ }
     ensures { λ r. ⌜ WritableRange (take (b .count) (b .segments)) (r .low) (r .high) ⌝ }
 {
-    if !is_relative(rtype) {
-        if !is_symbolic(rtype) {
-            return w;
-        }
+    if !in_runs(rtype) {
+        return w;
     }
     object::table_bytes::writable_at(b, place, 8)
 }

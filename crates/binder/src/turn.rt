@@ -45,6 +45,16 @@ pub(crate) fn write_word(arena: &mut [u8], off: usize, place: usize, v: u64)
     words::bytes::store_u64(&mut arena[off..], place, v);
 }
 
+// The four bytes at `place` of the object at `off` become the low ones of `v`.
+pub(crate) fn write_half(arena: &mut [u8], off: usize, place: usize, v: u64)
+    ensures { λ _. ⌜ now (arena .exit) ≡ patch (now (arena .entry)) (off + place) 4 (byteOf v) ⌝ }
+{
+    if arena.len() < off {
+        return;
+    }
+    words::bytes::store_u32(&mut arena[off..], place, v);
+}
+
 // The byte at `place` of the object at `off` becomes `b`.
 pub(crate) fn write_byte(arena: &mut [u8], off: usize, place: usize, b: u8)
     requires { ⌜ off + place + 1 ≤ length (now arena) ⌝ }

@@ -3,6 +3,7 @@ pub mod PassedSet
 pub mod LongerSetLaw
 pub mod LongerQueryLaw
 pub mod CasesHold
+pub mod FieldCasesHold
 pub mod OrderReported
 pub mod RefusalNumbers
 pub mod RefusalsHold

@@ -13,7 +13,8 @@ use Rattle.words.specs.Choice.{pick, every}
 use Rattle.words.specs.Choice as choice
 use Rattle.model.specs.Order.{has}
 use Rattle.model.specs.Objects.{Objs, obj}
-use Rattle.model.specs.Scope.{resolveCopy}
+use Rattle.model.specs.Scope.{resolve, resolveCopy}
+use Rattle.model.specs.Relocation.{addressOr0}
 use Rattle.model.specs.Symbols.{Resolved, absent, answer}
 use Rattle.model.proofs.OrderLaws.{decide, clash, has-head, has-cons}
 use Rattle.object.specs.Refusal.{require, after}
@@ -34,11 +35,11 @@ use Rattle.object.specs.declared.program_header.Dynamic.{Dynamic}
 use Rattle.object.specs.declared.program_header.Dynamic.the-variants.{Missing, At}
 use Rattle.object.specs.declared.symbol.Symbol.{Symbol}
 use Rattle.object.specs.declared.relocate.Rela.{Rela}
-use Rattle.object.specs.RelocationTypes.{Row, noSearch, inScope, ignored, passedOver, turnedAway, copies, writes, rowOf}
+use Rattle.object.specs.RelocationTypes.{Calculation, Row, noSearch, inScope, ignored, passedOver, turnedAway, copies, writes, rowOf}
 use Rattle.object.specs.declared.entry_symbol.CheckedSymbol as checked
 use Rattle.sheet.specs.Sheet.{Input, noInput, named, duplicateFrom, duplicateOf}
 use Rattle.binder.specs.Instance.{File, fileImage, fileRecord, namedWords, relasOf, wantedBy}
-use Rattle.binder.specs.Verdict.{first, verdict, noFile, loadVerdict, writtenRefusal, wordRefusal, copyOk, copyRefusal, symbolThen, refusalBy, entryRefusal, wordsVerdict, entriesVerdict, objectVerdict, orderVerdict}
+use Rattle.binder.specs.Verdict.{first, verdict, noFile, loadVerdict, wordRefusal, copyOk, copyRefusal, fieldRefusal, symbolThen, refusalBy, entryRefusal, wordsVerdict, entriesVerdict, objectVerdict, orderVerdict}
 use Rattle.binder.specs.declared.Verdict.{Verdict}
 use Rattle.binder.specs.declared.Verdict.the-variants.{Passed, Refused}
 use Rattle.binder.specs.Report.{hasUndefined, firstUndefined}
@@ -136,50 +137,69 @@ object-number host room file =
     after-told (LoadNumber host) (placeRefusal host room file) _ (place-number host room file)
     (from-range host _ (read-range host (objectImage host file) (segmentsOf host file) (dynamicOf file)))
 
--- 17
-written-range : (r : Record) (p n : ℕ) → Range 14 18 (writtenRefusal r p n)
-written-range r p n = last-range 14 18 (inWritable (r .segments) p n) 17 (omega arith) (omega arith)
+-- ---- 14 to 18, and 22
 
-word-range : (r : Record) (w : Word) → Range 14 18 (wordRefusal r w)
-word-range r (place p) = written-range r p 8
+abbrev pub EntryNumber : ℕ → Type 0
+EntryNumber n = (14 ≤ n) × (n ≤ 22) × (n ≢ 19) × (n ≢ 20) × (n ≢ 21)
+
+abbrev EntryRange : ℕ → Type 0
+EntryRange n = 0 < n → EntryNumber n
+
+required-entry : (t : Bool) (n rest : ℕ) → EntryNumber n → EntryRange rest → EntryRange (require t n rest)
+unfolding require
+required-entry true n rest l r = r
+required-entry false n rest l r = λ z. l
+
+last-entry : (t : Bool) (n : ℕ) → EntryNumber n → EntryRange (require t n 0)
+last-entry t n l = required-entry t n 0 l (λ z. absurd (omega arith))
+
+word-range : (r : Record) (w : Word) → EntryRange (wordRefusal r w)
+word-range r (place p) = last-entry (inWritable (r .segments) p 8) 17 (omega arith)
 word-range r nowhere = λ z. omega arith
 
+-- 17 and 22
+field-range : (base : ℕ) (r : Record) (e : Rela) (f : Calculation) (s : ℕ) → EntryRange (fieldRefusal base r e f s)
+field-range base r e f s = required-entry _ 17 _ (omega arith) (last-entry _ 22 (omega arith))
+
 -- 17 and 18
-copy-range : (S : Objs) (k : ℕ) (r : Record) (p size : ℕ) (a : Resolved) → Range 14 18 (copyRefusal S k r p size a)
+copy-range : (S : Objs) (k : ℕ) (r : Record) (p size : ℕ) (a : Resolved) → EntryRange (copyRefusal S k r p size a)
 unfolding copyRefusal
 copy-range S k r p size absent = λ z. absurd (omega arith)
 copy-range S k r p size (answer d s a) = go (eqb (min size (s .size)) 0)
   where
     go :
         (t : Bool)
-        → Range 14 18
+        → EntryRange
         (pick t 0
         (require (inWritable (r .segments) p (min size (s .size))) 17 (require (copyOk S k p d s (min size (s .size))) 18 0)))
     go true = λ z. absurd (omega arith)
     go false =
-        required-range 14 18 _ 17 _ (omega arith) (omega arith) (last-range 14 18 _ 18 (omega arith) (omega arith))
+        required-entry _ 17 _ (omega arith) (last-entry _ 18 (omega arith))
 
 -- 14 and 15, else what follows
 symbol-range :
-    (image : List ℕ) (r : Record) (i : ℕ) (rest : Symbol → ℕ) → ((y : Symbol) → Range 14 18 (rest y))
-    → Range 14 18 (symbolThen (checkedSymbol image r i) rest)
+    (image : List ℕ) (r : Record) (i : ℕ) (rest : Symbol → ℕ) → ((y : Symbol) → EntryRange (rest y))
+    → EntryRange (symbolThen (checkedSymbol image r i) rest)
 unfolding checkedSymbol
 symbol-range image r i rest h =
     go (indexOk (r .known) i) (symbolOk (isTableOf r) image (r .symbols) (r .strings) i)
   where
-    go : (s t : Bool) → Range 14 18 (symbolThen (pick s (pick t (checked.the-variants.Checked (symbolAt image (r .symbols) i)) (checked.the-variants.Refused 15)) (checked.the-variants.Refused 14)) rest)
+    go : (s t : Bool) → EntryRange (symbolThen (pick s (pick t (checked.the-variants.Checked (symbolAt image (r .symbols) i)) (checked.the-variants.Refused 15)) (checked.the-variants.Refused 14)) rest)
     go true true = h (symbolAt image (r .symbols) i)
     go true false = λ z. omega arith
     go false t = λ z. omega arith
 
-entry-range : (S : Objs) (k : ℕ) (image : List ℕ) (r : Record) (e : Rela) (x : Row) → Range 14 18 (refusalBy S k image r e x)
+entry-range : (S : Objs) (k : ℕ) (image : List ℕ) (r : Record) (e : Rela) (x : Row) → EntryRange (refusalBy S k image r e x)
 unfolding refusalBy
 entry-range S k image r e ignored = λ z. absurd (omega arith)
 entry-range S k image r e passedOver = λ z. absurd (omega arith)
 entry-range S k image r e turnedAway = λ z. omega arith
-entry-range S k image r e (writes noSearch f) = written-range r (e .place) (f .width)
-entry-range S k image r e (writes inScope f) =
-    symbol-range image r (e .symbol) (λ y. writtenRefusal r (e .place) (f .width)) (λ y. written-range r (e .place) (f .width))
+entry-range S k image r e (writes noSearch f) = field-range ((obj S k) .base) r e f 0
+entry-range S k image r e (writes (inScope searched) f) =
+    symbol-range image r (e .symbol) (λ y. fieldRefusal ((obj S k) .base) r e f found) (λ y. field-range ((obj S k) .base) r e f found)
+  where
+    found : ℕ
+    found = pick (searched (e .symbol)) (addressOr0 (resolve S k (wantedBy image r (e .symbol)))) 0
 entry-range S k image r e copies =
     symbol-range image r (e .symbol) (λ y. copyRefusal S k r (e .place) (y .size) (resolveCopy S (wantedBy image r (e .symbol))))
     (λ y. copy-range S k r (e .place) (y .size) (resolveCopy S (wantedBy image r (e .symbol))))
@@ -210,20 +230,16 @@ module _ (P : ℕ → ℕ → Type 0) where
   unless-meets true n k h = tt
   unless-meets false n k h = h refl
 
-  -- of a number of which something holds
-  verdict-told : (Q : ℕ → Type 0) (n k : ℕ) → Told Q n → (Q n → P n k) → Meets P (verdict n k)
+  -- of numbers of which N holds
+  verdict-meets : (N : Type 0) (n k : ℕ) → (0 < n → N) → (N → P n k) → Meets P (verdict n k)
   unfolding verdict
-  verdict-told Q n k r h = go (eqb n 0) refl
+  verdict-meets N n k r h = go (eqb n 0) refl
     where
       go : (t : Bool) → eqb n 0 ≡ t → Meets P (pick t Passed (Refused n k))
       go true e = tt
       go false e =
           let ne = eqb-false n 0 e in
           h (r (omega arith))
-
-  -- of numbers in a range
-  verdict-meets : (low high n k : ℕ) → Range low high n → (low ≤ n → n ≤ high → P n k) → Meets P (verdict n k)
-  verdict-meets low high n k r h = verdict-told (λ m. (low ≤ m) × (m ≤ high)) n k r (λ z. h (z .0) (z .1))
 
   -- 4 to 12 and 21, of the objects from `k` on; the first of all is the host
   pub load-meets :
@@ -236,7 +252,7 @@ module _ (P : ℕ → ℕ → Type 0) where
       let room : ℕ = size - (obj S k) .offset in
       let number : ℕ = objectRefusal (f .host) (size - (obj S k) .offset) (f .bytes) in
       first-meets (verdict (objectRefusal (f .host) room (f .bytes)) k) _
-      (verdict-told (LoadNumber (f .host)) (objectRefusal (f .host) room (f .bytes)) k (object-number (f .host) room (f .bytes))
+      (verdict-meets _ (objectRefusal (f .host) room (f .bytes)) k (object-number (f .host) room (f .bytes))
       (λ q. h number k
       (⊎-elim
       (λ (r : (4 ≤ number) × (number ≤ 12)). inl r)
@@ -248,20 +264,20 @@ module _ (P : ℕ → ℕ → Type 0) where
       not-first (yes l) e = l
       not-first (no l) e = absurd (clash (first (omega arith)) e)
 
-  -- 14 to 18, of object `k`
-  module _ (S : Objs) (k : ℕ) (h : (n : ℕ) → 14 ≤ n → n ≤ 18 → P n k) where
+  -- 14 to 18 and 22, of object `k`
+  module _ (S : Objs) (k : ℕ) (h : (n : ℕ) → EntryNumber n → P n k) where
     words-meets : (r : Record) (ws : List Word) → Meets P (wordsVerdict k r ws)
     unfolding wordsVerdict
     words-meets r [] = tt
     words-meets r (w ∷ ws) =
-        first-meets (verdict (wordRefusal r w) k) _ (verdict-meets 14 18 (wordRefusal r w) k (word-range r w) (h _)) (words-meets r ws)
+        first-meets (verdict (wordRefusal r w) k) _ (verdict-meets _ (wordRefusal r w) k (word-range r w) (h _)) (words-meets r ws)
 
     entries-meets : (image : List ℕ) (r : Record) (es : List Rela) → Meets P (entriesVerdict S k image r es)
     unfolding entriesVerdict
     entries-meets image r [] = tt
     entries-meets image r (e ∷ es) =
         first-meets (verdict (entryRefusal S k image r e) k) _
-        (verdict-meets 14 18 (entryRefusal S k image r e) k (entry-range S k image r e (rowOf (e .rtype))) (h _)) (entries-meets image r es)
+        (verdict-meets _ (entryRefusal S k image r e) k (entry-range S k image r e (rowOf (e .rtype))) (h _)) (entries-meets image r es)
 
     object-meets : (f : File) → Meets P (objectVerdict S k f)
     unfolding objectVerdict
@@ -272,14 +288,14 @@ module _ (P : ℕ → ℕ → Type 0) where
 
   -- of the objects of an order
   pub order-meets :
-      (S : Objs) (files : List File) (order : List ℕ) → ((n k : ℕ) → 14 ≤ n → n ≤ 18 → has k order ≡ true → P n k)
+      (S : Objs) (files : List File) (order : List ℕ) → ((n k : ℕ) → EntryNumber n → has k order ≡ true → P n k)
       → Meets P (orderVerdict S files order)
   unfolding orderVerdict
   order-meets S files [] h = tt
   order-meets S files (k ∷ ks) h =
       first-meets (objectVerdict S k (getD files k noFile)) _
-      (object-meets S k (λ n l g. h n k l g (has-head k ks)) (getD files k noFile))
-      (order-meets S files ks (λ n j l g m. h n j l g (has-cons j k ks m)))
+      (object-meets S k (λ n l. h n k l (has-head k ks)) (getD files k noFile))
+      (order-meets S files ks (λ n j l m. h n j l (has-cons j k ks m)))
 
 -- ---- 19: an object of the order, or none
 

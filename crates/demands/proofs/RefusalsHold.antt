@@ -65,14 +65,13 @@ abbrev Right : (ℕ → Type 0) → ℕ → ℕ → ℕ → Type 0
 Right N count n k = N n × ObjectOf count n k
 
 -- a refusal without an object
-without : (count n : ℕ) → has n withoutObject ≡ true → n ≢ 3 → (14 ≤ n → n ≤ 19 → ⊥) → n ≢ 21 → ObjectOf count n 0
-without count n e three entry aligned =
+without : (count n : ℕ) → has n withoutObject ≡ true → n ≢ 3 → (14 ≤ n → n ≢ 20 → ⊥) → ObjectOf count n 0
+without count n e three entry =
     record {
       zero = λ _. refl;
       object = λ f. absurd (clash e f);
       later = λ z. absurd (three z);
       entry = λ l h. absurd (entry l h);
-      aligned = λ z. absurd (aligned z);
     }
 
 not-without : (n : ℕ) → n ≢ 1 → n ≢ 2 → n ≢ 13 → n ≢ 20 → has n withoutObject ≡ false
@@ -80,15 +79,13 @@ not-without n a b c d = rw (ne-eqb n 1 a, ne-eqb n 2 b, ne-eqb n 13 c, ne-eqb n 
 
 -- a refusal of object `k`
 of-object :
-    (count n k : ℕ) → n ≢ 1 → n ≢ 2 → n ≢ 13 → n ≢ 20 → k < count → (n ≡ 3 → 3 ≤ k) → (14 ≤ n → n ≤ 19 → 1 ≤ k) → (n ≡ 21 → 1 ≤ k)
-    → ObjectOf count n k
-of-object count n k a b c d small later entry aligned =
+    (count n k : ℕ) → n ≢ 1 → n ≢ 2 → n ≢ 13 → n ≢ 20 → k < count → (n ≡ 3 → 3 ≤ k) → (14 ≤ n → n ≢ 20 → 1 ≤ k) → ObjectOf count n k
+of-object count n k a b c d small later entry =
     record {
       zero = λ e. absurd (clash e (not-without n a b c d));
       object = λ _. omega arith;
       later = λ e. omega (arith, later e);
       entry = λ l h. omega (arith, entry l h);
-      aligned = λ e. omega (arith, aligned e);
     }
 
 host-first : (os : List Input) → HostFirst (filesOf os)
@@ -107,17 +104,17 @@ module _ (setting : Setting) (sheet bytes : List ℕ) (size : ℕ) where
   prepare-right N ok aligned =
       first-meets (Right N (length os)) (unless (sheetOk sheet (length bytes)) 1 0) _
       (unless-meets (Right N (length os)) (sheetOk sheet (length bytes)) 1 0
-      (λ _. (ok 1 (omega arith) (omega arith), without (length os) 1 refl (λ e. omega arith) (λ l h. omega arith) (λ e. omega arith))))
+      (λ _. (ok 1 (omega arith) (omega arith), without (length os) 1 refl (λ e. omega arith) (λ l h. omega arith))))
       (first-meets (Right N (length os)) (unless (arenaOk size (setting .address)) 2 0) _
       (unless-meets (Right N (length os)) (arenaOk size (setting .address)) 2 0
-      (λ _. (ok 2 (omega arith) (omega arith), without (length os) 2 refl (λ e. omega arith) (λ l h. omega arith) (λ e. omega arith))))
+      (λ _. (ok 2 (omega arith) (omega arith), without (length os) 2 refl (λ e. omega arith) (λ l h. omega arith))))
       (first-meets (Right N (length os)) (unless (eqb (duplicateOf os) 0) 3 (duplicateOf os)) _
       (unless-meets (Right N (length os)) (eqb (duplicateOf os) 0) 3 (duplicateOf os)
       (λ e.
       let t = duplicate-later os (eqb-false (duplicateOf os) 0 e) in (
         ok 3 (omega arith) (omega arith),
         of-object (length os) 3 (duplicateOf os) (λ e. omega arith) (λ e. omega arith) (λ e. omega arith) (λ e. omega arith) (t .1) (λ _. t .0)
-            (λ l h. absurd (omega arith)) (λ z. absurd (omega arith)),
+            (λ l h. absurd (omega arith)),
       )))
       (load-meets (Right N (length os)) (objectsIn setting os) size 0 (filesOf os) (λ z. host-first os)
       (λ n j q b.
@@ -125,42 +122,42 @@ module _ (setting : Setting) (sheet bytes : List ℕ) (size : ℕ) where
       (λ (r : (4 ≤ n) × (n ≤ 12)). (
         ok n (omega arith) (omega arith),
         of-object (length os) n j (λ e. omega arith) (λ e. omega arith) (λ e. omega arith) (λ e. omega arith)
-            (omega (arith, files-length os)) (λ e. absurd (omega arith)) (λ g i. absurd (omega arith)) (λ e. absurd (omega arith)),
+            (omega (arith, files-length os)) (λ e. absurd (omega arith)) (λ g i. absurd (omega arith)),
       ))
       (λ (r : (n ≡ 21) × (1 ≤ j)). (
         rw (r .0) aligned,
         of-object (length os) n j (λ e. omega arith) (λ e. omega arith) (λ e. omega arith) (λ e. omega arith)
-            (omega (arith, files-length os)) (λ e. absurd (omega arith)) (λ g i. absurd (omega arith)) (λ e. r .1),
+            (omega (arith, files-length os)) (λ e. absurd (omega arith)) (λ g i. r .1),
       ))
       q))))
 
-  -- 14 to 20
+  -- 14 to 20, and 22
   relocate-right :
-      (N : ℕ → Type 0) → ((n : ℕ) → 14 ≤ n → n ≤ 20 → N n) → sheetOk sheet (length bytes) ≡ true → (policy : Policy) (words : ℕ)
+      (N : ℕ → Type 0) → ((n : ℕ) → 14 ≤ n → n ≤ 22 → n ≢ 21 → N n) → sheetOk sheet (length bytes) ≡ true → (policy : Policy) (words : ℕ)
       → Meets (Right N (length os)) (relocateVerdict (objectsIn setting os) (filesOf os) (orderIn os) policy words)
   unfolding relocateVerdict
   relocate-right N ok good policy words =
       first-meets (Right N (length os)) (orderVerdict (objectsIn setting os) (filesOf os) (orderIn os)) _
       (order-meets (Right N (length os)) (objectsIn setting os) (filesOf os) (orderIn os)
-      (λ n k l h m.
+      (λ n k x m.
       let b : (1 ≤ k) × (k < length (namesOf os) + 2) = order-objects (filesOf os) (namesOf os) k m in
-      (ok n (omega arith) (omega arith), entry-of n k l (omega arith) (b .0) (b .1))))
+      (ok n (x .0) (x .1) (x .4), entry-of n k (x .0) (x .3) (b .0) (b .1))))
       (first-meets (Right N (length os)) (unless (allows policy u) 19 u) _
       (unless-meets (Right N (length os)) (allows policy u) 19 u
       (λ e.
       let m = first-undefined (objectsIn setting os) (filesOf os) (orderIn os) (undefined policy e) in
       let b : (1 ≤ u) × (u < length (namesOf os) + 2) = order-objects (filesOf os) (namesOf os) u m in
-      (ok 19 (omega arith) (omega arith), entry-of 19 u (omega arith) (omega arith) (b .0) (b .1))))
+      (ok 19 (omega arith) (omega arith) (λ e. omega arith), entry-of 19 u (omega arith) (λ e. omega arith) (b .0) (b .1))))
       (unless-meets (Right N (length os)) (leb (length (orderWords (objectsIn setting os) (filesOf os) (orderIn os))) words) 20 0
-      (λ _. (ok 20 (omega arith) (omega arith), without (length os) 20 refl (λ e. omega arith) (λ l h. omega arith) (λ e. omega arith)))))
+      (λ _. (ok 20 (omega arith) (omega arith) (λ e. omega arith), without (length os) 20 refl (λ e. omega arith) (λ l h. omega arith)))))
     where
       u : ℕ
       u = firstUndefined (objectsIn setting os) (filesOf os) (orderIn os)
 
-      entry-of : (n k : ℕ) → 14 ≤ n → n ≤ 19 → 1 ≤ k → k < length (namesOf os) + 2 → ObjectOf (length os) n k
-      entry-of n k l h pos small =
-          of-object (length os) n k (λ e. omega arith) (λ e. omega arith) (λ e. omega arith) (λ e. omega arith)
-          (omega (arith, counts sheet bytes good)) (λ e. absurd (omega arith)) (λ g i. pos) (λ e. pos)
+      entry-of : (n k : ℕ) → 14 ≤ n → n ≢ 20 → 1 ≤ k → k < length (namesOf os) + 2 → ObjectOf (length os) n k
+      entry-of n k l ne pos small =
+          of-object (length os) n k (λ e. omega arith) (λ e. omega arith) (λ e. omega arith) ne
+          (omega (arith, counts sheet bytes good)) (λ e. absurd (omega arith)) (λ g i. pos)
 
       undefined : (policy : Policy) → allows policy u ≡ false → u ≢ 0
       undefined Strict e = eqb-false u 0 e
@@ -173,7 +170,7 @@ module _ (setting : Setting) (sheet bytes : List ℕ) (size : ℕ) where
   bind-right policy words =
       first-then (Right BindNumber (length os)) (sheetVerdict setting sheet bytes size) _
       (prepare-right BindNumber (λ n l h. omega arith) (omega arith))
-      (λ v. relocate-right BindNumber (λ n l h. omega arith) (sheet-prepared sheet bytes setting size v .0) policy words)
+      (λ v. relocate-right BindNumber (λ n l h ne. omega arith) (sheet-prepared sheet bytes setting size v .0) policy words)
 
   query-right :
       (requester : ℕ)
@@ -183,7 +180,7 @@ module _ (setting : Setting) (sheet bytes : List ℕ) (size : ℕ) where
       first-then (Right QueryNumber (length os)) (sheetVerdict setting sheet bytes size) _
       (prepare-right QueryNumber (λ n l h. inl (l, omega arith)) (inr refl))
       (λ v. unless-meets (Right QueryNumber (length os)) (ltb requester (length os)) 13 0
-      (λ _. (inl (omega arith, omega arith), without (length os) 13 refl (λ e. omega arith) (λ l h. omega arith) (λ e. omega arith))))
+      (λ _. (inl (omega arith, omega arith), without (length os) 13 refl (λ e. omega arith) (λ l h. omega arith))))
 
 -- ---- what is left
 

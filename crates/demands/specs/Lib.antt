@@ -2,6 +2,7 @@
 pub mod LongerSet
 pub mod OrderReport
 pub mod Cases
+pub mod FieldCases
 pub mod Refusals
 pub mod LargePages
 pub mod PairOfSheets

@@ -1,8 +1,9 @@
 // Relocation entries: port of elf/relocate.rs.
 ghost use mathlib.Core.Path.{_≡_};
-ghost use Rattle.object.specs.RelocationTypes.{rowOf};
+ghost use Prim.Native.Nat.{_+_};
+ghost use Rattle.object.specs.RelocationTypes.{rowOf, notSymbol0, fitsUnsigned32, fitsSigned32};
 ghost use Rattle.object.specs.Entries.{relaAt, relrAt, relrOf};
-ghost use Rattle.object.specs.Steps.Actions.{rowBy};
+ghost use Rattle.object.specs.Steps.Actions.{rowBy, fieldBy, searchedBy};
 
 // An entry of the RELA or PLT table: r_offset, the two halves of r_info, r_addend.
 pub struct Rela {
@@ -17,9 +18,19 @@ pub enum Action {
     Ignored,
     Passed,
     Relative,
-    Symbolic,
+    Symbolic(Field),
     Copy,
     Irelative,
+}
+
+// What is written by the address of a symbol: the address itself, or S + A (Direct) or S + A - P (Pc), in 64 or 32 bits.
+pub enum Field {
+    Address,
+    Direct64,
+    Pc64,
+    Pc32,
+    Direct32,
+    Direct32S,
 }
 
 // An entry of the RELR table: the place of a word, or a bit for each of the 63 words after the last.
@@ -47,12 +58,106 @@ pub fn action_of(rtype: u32) -> Action
 {
     match rtype {
         0 => Action::Ignored,
+        1 => Action::Symbolic(Field::Direct64),
+        2 => Action::Symbolic(Field::Pc32),
         5 => Action::Copy,
-        6 => Action::Symbolic,
-        7 => Action::Symbolic,
+        6 => Action::Symbolic(Field::Address),
+        7 => Action::Symbolic(Field::Address),
         8 => Action::Relative,
+        10 => Action::Symbolic(Field::Direct32),
+        11 => Action::Symbolic(Field::Direct32S),
+        24 => Action::Symbolic(Field::Pc64),
         37 => Action::Irelative,
         _ => Action::Passed,
+    }
+}
+
+fn not_zero(index: u32) -> bool
+    ensures { λ r. ⌜ r ≡ notSymbol0 index ⌝ }
+{
+    if index == 0 {
+        return false;
+    }
+    true
+}
+
+// Whether a field searches for the name of the symbol with that index.
+pub fn searches(f: Field, index: u32) -> bool
+    ensures { λ r. ⌜ r ≡ searchedBy f index ⌝ }
+{
+    match f {
+        Field::Address => true,
+        Field::Direct64 => not_zero(index),
+        Field::Pc64 => not_zero(index),
+        Field::Pc32 => not_zero(index),
+        Field::Direct32 => not_zero(index),
+        Field::Direct32S => not_zero(index),
+    }
+}
+
+// How many bytes a field has.
+pub fn width_of(f: Field) -> usize
+    ensures { λ r. ⌜ r ≡ fieldBy f .width ⌝ }
+{
+    match f {
+        Field::Address => 8,
+        Field::Direct64 => 8,
+        Field::Pc64 => 8,
+        Field::Pc32 => 4,
+        Field::Direct32 => 4,
+        Field::Direct32S => 4,
+    }
+}
+
+// What a field gets, of S, the addend, the object's base and the place.
+pub fn value_of(f: Field, s: u64, addend: u64, base: u64, place: u64) -> u64
+    ensures { λ r. ⌜ r ≡ fieldBy f .value s addend base (base + place) ⌝ }
+{
+    let sum = words::bytes::sum_u64(s, addend);
+    let less = words::bytes::diff_u64(sum, words::bytes::sum_u64(base, place));
+    match f {
+        Field::Address => s,
+        Field::Direct64 => sum,
+        Field::Pc64 => less,
+        Field::Pc32 => less,
+        Field::Direct32 => sum,
+        Field::Direct32S => sum,
+    }
+}
+
+// Whether a number is the one that four bytes of it are, read as signed.
+fn fits_signed(v: u64) -> bool
+    ensures { λ r. ⌜ r ≡ fitsSigned32 v ⌝ }
+{
+    if v < 0x8000_0000 {
+        return true;
+    }
+    if 0xffff_ffff_8000_0000 <= v {
+        return true;
+    }
+    false
+}
+
+fn fits_unsigned(v: u64) -> bool
+    ensures { λ r. ⌜ r ≡ fitsUnsigned32 v ⌝ }
+{
+    if v < 0x1_0000_0000 {
+        return true;
+    }
+    false
+}
+
+// Whether a field holds that number.
+pub fn fits(f: Field, v: u64) -> bool
+    ensures { λ r. ⌜ r ≡ fieldBy f .fits v ⌝ }
+{
+    match f {
+        Field::Address => true,
+        Field::Direct64 => true,
+        Field::Pc64 => true,
+        Field::Pc32 => fits_signed(v),
+        Field::Direct32 => fits_unsigned(v),
+        Field::Direct32S => fits_signed(v),
     }
 }
 

@@ -14,6 +14,7 @@ use object::hash_tables::Exported;
 use object::hash_tables::HashTable;
 use object::hash_tables::SymbolCount;
 use object::relocate::Action;
+use object::relocate::Field;
 use object::relocate::Rela;
 use object::relocate::Relr;
 use object::symbol::Symbol;
@@ -143,12 +144,23 @@ fn show_checked(c: CheckedSymbol) {
     }
 }
 
+fn show_field(f: Field) {
+    match f {
+        Field::Address => word(b" symbolic"),
+        Field::Direct64 => word(b" direct64"),
+        Field::Pc64 => word(b" pc64"),
+        Field::Pc32 => word(b" pc32"),
+        Field::Direct32 => word(b" direct32"),
+        Field::Direct32S => word(b" direct32s"),
+    }
+}
+
 fn show_action(a: Action) {
     match a {
         Action::Ignored => word(b" ignored"),
         Action::Passed => word(b" passed"),
         Action::Relative => word(b" relative"),
-        Action::Symbolic => word(b" symbolic"),
+        Action::Symbolic(f) => show_field(f),
         Action::Copy => word(b" copy"),
         Action::Irelative => word(b" irelative"),
     }

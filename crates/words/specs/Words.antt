@@ -1,6 +1,6 @@
 -- Numbers in memory. System V gABI, "Data Representation" and "ELF Identification" (ELFDATA2LSB: the least significant byte has the
 -- lowest address); document 01, "address sums wrap likewise on u64". Assumes nothing.
-use Prim.Native.Nat.{ℕ, zero, suc, _+_, _*_, _/_, _%_, _^_}
+use Prim.Native.Nat.{ℕ, zero, suc, _+_, _-_, _*_, _/_, _%_, _^_}
 use Rattle.words.specs.Memory.{Mem}
 
 -- the number that the `n` bytes from `at` make, the lowest first
@@ -15,3 +15,7 @@ byteOf v k = v / 256 ^ k % 256
 -- a sum of addresses, modulo 2^64
 abbrev pub sum64 : ℕ → ℕ → ℕ
 sum64 a b = (a + b) % 2 ^ 64
+
+-- a difference of addresses, modulo 2^64
+abbrev pub diff64 : ℕ → ℕ → ℕ
+diff64 a b = (a + (2 ^ 64 - b % 2 ^ 64)) % 2 ^ 64

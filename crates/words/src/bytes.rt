@@ -5,7 +5,7 @@ ghost use mathlib.Core.Path.{_≡_};
 ghost use Prim.Native.Nat.{_+_, _-_, _*_, _≤_, min, max};
 ghost use lib.ListN.{length, replicate, set};
 ghost use Rattle.words.specs.Memory.{mem, from, patch};
-ghost use Rattle.words.specs.Words.{leAt, byteOf, sum64};
+ghost use Rattle.words.specs.Words.{leAt, byteOf, sum64, diff64};
 
 // The byte `k` places after `at`.
 pub fn byte_at(s: &[u8], at: usize, k: usize) -> u8
@@ -189,8 +189,8 @@ fn put_bytes(s: &mut [u8], at: usize, v: u64, n: usize)
     }
 }
 
-// The four bytes of `v` go to the places from `at`.
-pub fn store_u32(s: &mut [u8], at: usize, v: u32)
+// The four low bytes of `v` go to the places from `at`.
+pub fn store_u32(s: &mut [u8], at: usize, v: u64)
     ensures { λ _. ⌜ now (s .exit) ≡ patch (now (s .entry)) at 4 (byteOf v) ⌝ }
 {
     let n = s.len();
@@ -203,7 +203,7 @@ pub fn store_u32(s: &mut [u8], at: usize, v: u32)
             return;
         }
     }
-    put_bytes(s, at, v as u64, 4);
+    put_bytes(s, at, v, 4);
 }
 
 // The eight bytes of `v` go to the places from `at`, all of them in the slice.
@@ -342,4 +342,11 @@ pub fn sum_u64(a: u64, b: u64) -> u64
     ensures { λ r. ⌜ r ≡ sum64 a b ⌝ }
 {
     std::num::wrapping_add_u64(a, b)
+}
+
+// A difference of addresses, modulo 2^64.
+pub fn diff_u64(a: u64, b: u64) -> u64
+    ensures { λ r. ⌜ r ≡ diff64 a b ⌝ }
+{
+    std::num::wrapping_sub_u64(a, b)
 }

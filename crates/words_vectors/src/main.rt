@@ -53,7 +53,7 @@ fn count(f: u64, a: u64, b: u64) -> u64 {
 
 fn change(image: &mut [u8], src: &[u8], f: u64, a: usize, b: usize, c: u64) -> u64 {
     if f == 20 {
-        words::bytes::store_u32(image, a, low32(c));
+        words::bytes::store_u32(image, a, c);
         return digest(image);
     }
     if f == 21 {

@@ -1,5 +1,5 @@
 -- Relocating the objects of a set, one after another: what the code does, in its own order, over the arena as it is at each step. Document
--- 01, "Relocated bytes and report", "Refused, in checking order" (14 to 18). `Bind` has what it comes to, from the placed bytes alone;
+-- 01, "Relocated bytes and report", "Refused, in checking order" (14 to 18, 22). `Bind` has what it comes to, from the placed bytes alone;
 -- proofs/RelocatedIs joins the two. Assumes nothing.
 use mathlib.Core.Logic.{_⊎_}
 use mathlib.Core.Bool.{Bool, true, false, not}
@@ -34,6 +34,8 @@ use Rattle.scope.specs.declared.scope.Resolved.the-variants.{Absent, Found}
 use Rattle.binder.specs.declared.report.Progress.{Progress}
 use Rattle.binder.specs.declared.turn.Turn.{Turn}
 use Rattle.binder.specs.declared.relr.Moved.{Moved}
+use Rattle.binder.specs.declared.relocate.Sought.{Sought}
+use Rattle.binder.specs.declared.relocate.Sought.the-variants.{Stopped, Known, Searched, Missing}
 
 -- ---- what a function of the code leaves
 
@@ -210,15 +212,21 @@ runRelrs t r a = summedIn t a (addRelrs t r (cutTo32 (r .relrs)) 0 far (partOf t
 
 -- ---- RELA and PLT
 
--- the bytes that an entry writes, where its symbol has the address S
+-- the number that an entry writes, where its symbol has the address S, and its bytes
+abbrev pub writtenNumber : Turn → Rela → Calculation → ℕ → ℕ
+writtenNumber t e f S = f .value S (e .addend) (t .base) (t .base + e .place)
+
 abbrev pub writtenBytes : Turn → Rela → Calculation → ℕ → ℕ → ℕ
-writtenBytes t e f S = byteOf (f .value S (e .addend) (t .base) (t .base + e .place))
+writtenBytes t e f S = byteOf (writtenNumber t e f S)
+
+-- the write, or 22
+unfoldable pub fieldOf : Turn → Rela → Calculation → ℕ → Progress → List ℕ → Wrote
+fieldOf t e f S p a =
+    pick (f .fits (writtenNumber t e f S)) (wrote p (patch a (t .offset + e .place) (f .width) (writtenBytes t e f S))) (wrote (refusedBy t 22 p) a)
 
 -- a write without a search
 unfoldable pub fixedOf : Turn → List Segment → Rela → Calculation → Progress → List ℕ → Wrote
-fixedOf t segments e f p a =
-    pick (inWritable segments (e .place) (f .width)) (wrote p (patch a (t .offset + e .place) (f .width) (writtenBytes t e f 0)))
-    (wrote (refusedBy t 17 p) a)
+fixedOf t segments e f p a = pick (inWritable segments (e .place) (f .width)) (fieldOf t e f 0 p a) (wrote (refusedBy t 17 p) a)
 
 -- 14 or 15; 0 is none
 abbrev pub symbolRefusal : CheckedSymbol → ℕ
@@ -229,12 +237,20 @@ symbolRefusal (Checked y) = 0
 abbrev pub keepsWeak : ℕ → Symbol → Noted → Noted
 keepsWeak last y (noted p report) = noted (pick (eqb (bindingOf y) 2) (keeps last 0 p) p) report
 
--- a write with a search: by the address that was found, which is kept, or by 0, and a report word
-unfoldable pub writeFound : Turn → Rela → Calculation → ℕ → Symbol → Resolved → Progress → List ℕ → List ℕ → Left
-writeFound t e f i y Absent p a report =
-    withArena (patch a (t .offset + e .place) (f .width) (writtenBytes t e f 0)) (keepsWeak (e .symbol + 1) y (unresolvedOf y (t .number) i p report))
-writeFound t e f i y (Found k d x) p a report =
-    left (keeps (e .symbol + 1) x p) (patch a (t .offset + e .place) (f .width) (writtenBytes t e f x)) report
+-- what a search for the symbol `y` comes to
+abbrev pub soughtBy : Symbol → Resolved → Sought
+soughtBy y Absent = Missing y
+soughtBy y (Found k d x) = Searched x
+
+abbrev pub fieldNoted : Turn → Rela → Calculation → List ℕ → Noted → Left
+fieldNoted t e f a (noted p report) = withReport report (fieldOf t e f 0 p a)
+
+-- the write by what the entry's symbol came to: by the address that a search found, which is kept, or by 0, and a report word
+unfoldable pub writeSought : Turn → Rela → Calculation → ℕ → Sought → Progress → List ℕ → List ℕ → Left
+writeSought t e f i (Stopped n) p a report = left (refusedBy t n p) a report
+writeSought t e f i (Known S) p a report = withReport report (fieldOf t e f S p a)
+writeSought t e f i (Searched S) p a report = withReport report (fieldOf t e f S (keeps (e .symbol + 1) S p) a)
+writeSought t e f i (Missing y) p a report = fieldNoted t e f a (keepsWeak (e .symbol + 1) y (unresolvedOf y (t .number) i p report))
 
 -- the `n` bytes of the definition `d`, in the object at the link `s`, may be copied to the place `to` of the object whose turn it is: the
 -- tests of refusal 18, and both ranges end inside an arena of `size` bytes
@@ -289,16 +305,15 @@ module _ (table : List ℕ) where
   abbrev pub soughtForCopy : List ℕ → List ℕ → Resolved
   soughtForCopy a name = resolveCopyLinks a table name (gnuHash name) (elfHash name)
 
-  -- the kept answer, where it is the symbol's, or a search
-  unfoldable pub answeredOf : Turn → Record → Rela → Calculation → ℕ → Symbol → Progress → List ℕ → List ℕ → Left
-  answeredOf t r e f i y p a report =
-      pick (eqb (p .last) (e .symbol + 1)) (left p (patch a (t .offset + e .place) (f .width) (writtenBytes t e f (p .address))) report)
-      (writeFound t e f i y (soughtFor t a (nameOf (imageIn a t) r y)) p a report)
-
-  unfoldable pub symbolicOf : Turn → Record → Rela → Calculation → ℕ → CheckedSymbol → Progress → List ℕ → List ℕ → Left
-  symbolicOf t r e f i (Refused n) p a report = left (refusedBy t n p) a report
-  symbolicOf t r e f i (Checked y) p a report =
-      pick (inWritable (r .segments) (e .place) (f .width)) (answeredOf t r e f i y p a report) (left (refusedBy t 17 p) a report)
+  -- what the symbol of an entry comes to: 14, 15 or 17; 0, where it is not searched; the kept answer, where it is the symbol's; or a search
+  unfoldable pub soughtOf : Turn → Record → Rela → (ℕ → Bool) → Calculation → Progress → List ℕ → CheckedSymbol → Sought
+  soughtOf t r e searched f p a (Refused n) = Stopped n
+  soughtOf t r e searched f p a (Checked y) =
+      pick (inWritable (r .segments) (e .place) (f .width))
+      (pick (searched (e .symbol))
+      (pick (eqb (p .last) (e .symbol + 1)) (Known (p .address)) (soughtBy y (soughtFor t a (nameOf (imageIn a t) r y))))
+      (Known 0))
+      (Stopped 17)
 
   unfoldable pub copyingOf : Turn → Record → Rela → ℕ → CheckedSymbol → Progress → List ℕ → List ℕ → Left
   copyingOf t r e i (Refused n) p a report = left (refusedBy t n p) a report
@@ -310,7 +325,8 @@ module _ (table : List ℕ) where
   runAction t r i e passedOver p a report = withArena a (noteOf (reportSum 7 i) p report)
   runAction t r i e turnedAway p a report = left (refusedBy t 16 p) a report
   runAction t r i e (writes noSearch f) p a report = withReport report (fixedOf t (r .segments) e f p a)
-  runAction t r i e (writes inScope f) p a report = symbolicOf t r e f i (checkedSymbol (imageIn a t) r (e .symbol)) p a report
+  runAction t r i e (writes (inScope searched) f) p a report =
+      writeSought t e f i (soughtOf t r e searched f p a (checkedSymbol (imageIn a t) r (e .symbol))) p a report
   runAction t r i e copies p a report = copyingOf t r e i (checkedSymbol (imageIn a t) r (e .symbol)) p a report
 
   -- `n` entries of the table at `at` from entry `j` on; the table's first has the number `first`

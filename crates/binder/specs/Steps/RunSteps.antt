@@ -1,5 +1,6 @@
--- What the loops without tests leave, each against the steps of Relocating: entries of types 8, 6 and 7 one after another, and the words of a
+-- What the loops without tests leave, each against the steps of Relocating: entries with words that are Relative or Symbolic one after another, and the words of a
 -- bitmap, where all places lie in one writable segment. Nothing that is stated of `bind` and `query` rests on it. Assumes nothing.
+use mathlib.Core.Bool.{true}
 use mathlib.Core.List.{List}
 use mathlib.Core.Path.{_≡_}
 use Prim.Native.Nat.{ℕ, zero, suc, _+_, _-_, _*_, _≤_, _<_}
@@ -13,7 +14,8 @@ use Rattle.words.specs.Memory.{mem, patch}
 use Rattle.words.specs.Words.{leAt, byteOf, sum64}
 use Rattle.object.specs.Entries.{relaAt}
 use Rattle.object.specs.RelocationTypes.{rowOf}
-use Rattle.object.specs.Steps.Actions.{rowBy}
+use Rattle.object.specs.Steps.Actions.{rowBy, fieldBy, searchedBy}
+use Rattle.object.specs.declared.relocate.Field.{Field}
 use Rattle.object.specs.declared.relocate.Action.the-variants.{Relative, Symbolic}
 use Rattle.scope.specs.declared.scope.Resolved.{Resolved}
 use Rattle.scope.specs.declared.scope.Resolved.the-variants.{Absent, Found}
@@ -68,9 +70,13 @@ pub record SymbolsOf (t : Turn) (r : Record) (y : Symbols) (a : List ℕ) : Type
   pub strings : r .strings ≡ y .strings
   pub fine : FineOf (imageIn a t) r (y .fits) (y .ends)
 
--- the entry that stands at `k` of the arena `a` is Symbolic, its place is in low .. high, and its symbol needs no further test
-pub record EntryHere (a : List ℕ) (t : Turn) (y : Symbols) (k low high place index name : ℕ) : Type 0 where
-  pub acts : rowOf (leAt 4 (mem a) (k + 8)) ≡ rowBy Symbolic
+-- the entry that stands at `k` of the arena `a` is Symbolic with a field of eight bytes, its place is in low .. high, and its symbol is searched
+-- and needs no further test
+pub record EntryHere (a : List ℕ) (t : Turn) (y : Symbols) (k low high : ℕ) (field : Field) (place index name addend : ℕ) : Type 0 where
+  pub acts : rowOf (leAt 4 (mem a) (k + 8)) ≡ rowBy (Symbolic field)
+  pub wide : fieldBy field .width ≡ 8
+  pub searched : searchedBy field index ≡ true
+  pub addend-is : addend ≡ leAt 8 (mem a) (k + 16)
   pub place-is : place ≡ leAt 8 (mem a) k
   pub above : low ≤ place
   pub below : place + 8 ≤ high
@@ -81,7 +87,7 @@ pub record EntryHere (a : List ℕ) (t : Turn) (y : Symbols) (k low high place i
 
 abbrev pub EntryRead : List ℕ → Turn → Symbols → ℕ → ℕ → ℕ → SymbolEntry → Type 0
 EntryRead a t y k low high Other = Unit {0}
-EntryRead a t y k low high (Here place index name) = EntryHere a t y k low high place index name
+EntryRead a t y k low high (Here field place index name addend) = EntryHere a t y k low high field place index name addend
 
 -- what a search found
 abbrev pub addressFound : Resolved → Address

@@ -1,25 +1,19 @@
-use Rattle.binder.specs.Steps.RunSteps.{EntryHere}
-use mathlib.Core.Path.{subst}
-use borrow.Author.Needs.{needs}
-use Rattle.binder.proofs.LoopLaws.{counts-down}
-use Rattle.binder.proofs.SymbolicLaws.{symbolic-turn}
-use Rattle.binder.proofs.KeptLaws.{kept-none}
-use Rattle.binder.specs.Steps.RunSteps.{InReach, EntryRead, SymbolsPassed}
-use lib.ListN.{length}
-use denote.Ref.{now}
-use borrow.Author.Tests.{not-false}
-use native.Mathlib.Omega.{arith}
-use Prim.Native.Nat.{_+_, _-_, _*_, _≤_}
 use mathlib.Core.Path.{_≡_, refl, sym, _∙_}
+use Prim.Native.Nat.{_+_, _-_, _*_, _≤_}
+use native.Mathlib.Omega.{arith}
+use borrow.Author.Tests.{not-false}
+use denote.Ref.{now}
+use lib.ListN.{length}
+use Rattle.binder.specs.Steps.RunSteps.{InReach, EntryRead, SymbolsPassed}
+use Rattle.binder.proofs.KeptLaws.{kept-none}
+use Rattle.binder.proofs.SymbolicLaws.{symbolic-turn}
+use Rattle.binder.proofs.LoopLaws.{counts-down}
+use borrow.Author.Needs.{needs}
+use mathlib.Core.Path.{subst}
+use Rattle.binder.specs.Steps.RunSteps.{EntryHere}
+-- `binder::relocate::symbolics` meets its contract. Assumes nothing.
 use Rattle.binder.proofs.relocate.symbolics.Statement.{statement}
 use Rattle.binder.proofs.relocate.symbolics.Tie as tie
-use Rattle.binder.proofs.relocate.symbolics.Reads as reads
-use Rattle.binder.proofs.relocate.symbolics.Lts as lts
-use Rattle.binder.proofs.relocate.address_of.Reads as address-of-reads
-use Rattle.binder.proofs.relocate.in_reach.Reads as in-reach-reads
-use Rattle.binder.proofs.relocate.symbol_entry.Reads as symbol-entry-reads
-use Rattle.binder.proofs.relocate.symbols_in.Reads as symbols-in-reads
-use Rattle.words.proofs.bytes.store_in.Reads as store-in-reads
 
 abbrev Inv-loop : tie.InvT-loop
 Inv-loop arena₀ table t y at n w p₀ k₀ arena p k =
@@ -36,7 +30,7 @@ here-in :
     → let a = c .before .before .before .before .before .before .before .before .before .before .before .before .before .before .before .before .args in
     let l = c .before .before .before .before .before .before .before .loop in
     let e = c .before .e .given in
-    EntryHere (l .arena) (a .t) (a .y) (l .k) (a .w .low) (a .w .high) (e .0 .0) (e .0 .1 .0) (e .0 .1 .1 .0)
+    EntryHere (l .arena) (a .t) (a .y) (l .k) (a .w .low) (a .w .high) (e .0 .0) (e .0 .1 .0) (e .0 .1 .1 .0) (e .0 .1 .1 .1 .0) (e .0 .1 .1 .1 .1 .0)
 here-in c =
     let a = c .before .before .before .before .before .before .before .before .before .before .before .before .before .before .before .before .args in
     let l = c .before .before .before .before .before .before .before .loop in
@@ -92,40 +86,40 @@ returns-4 c =
 
 add-store-in : tie.Need-add-store-in Inv-loop μ-loop
 add-store-in c =
-    let l = c .before .before .before .before .before .before .before .before .before .before .before .before .before .before .loop in let g = l .inv .4 in let h = here-in (c .before .before .before .before .before .before .before) in search (needs, g .span, g .inside, h .below, l .inv .0, c .before .before .before .before .before .before .before .before .before .before .before .before .before .before .before .before .before .before .before .before .before .before .before .good .0)
+    let l = c .before .before .before .before .before .before .before .before .before .before .before .before .before .before .before .loop in let g = l .inv .4 in let h = here-in (c .before .before .before .before .before .before .before .before) in search (needs, g .span, g .inside, h .below, l .inv .0, c .before .before .before .before .before .before .before .before .before .before .before .before .before .before .before .before .before .before .before .before .before .before .before .before .good .0)
 
 store-in-requires : tie.Need-store-in-requires Inv-loop μ-loop
 store-in-requires c κs =
-    let l = c .before .before .before .before .before .before .before .before .before .before .before .before .before .before .loop in let g = l .inv .4 in let h = here-in (c .before .before .before .before .before .before .before) in search (needs, g .span, g .inside, h .below, l .inv .0, c .before .before .before .before .before .before .before .before .before .before .before .before .before .before .before .before .before .before .before .before .before .before .before .good .0)
+    let l = c .before .before .before .before .before .before .before .before .before .before .before .before .before .before .before .loop in let g = l .inv .4 in let h = here-in (c .before .before .before .before .before .before .before .before) in search (needs, g .span, g .inside, h .below, l .inv .0, c .before .before .before .before .before .before .before .before .before .before .before .before .before .before .before .before .before .before .before .before .before .before .before .before .good .0)
 
-add-t33 : tie.Need-add-t33 Inv-loop μ-loop
-add-t33 c =
-    search (needs, c .before .before .before .before .before .before .before .before .before .before .before .before .before .before .before .before .if3 .taken, c .before .before .before .before .before .before .before .before .before .before .before .before .before .before .before .before .before .before .before .before .before .before .before .before .before .before .before .fits .n)
+add-t36 : tie.Need-add-t36 Inv-loop μ-loop
+add-t36 c =
+    search (needs, c .before .before .before .before .before .before .before .before .before .before .before .before .before .before .before .before .before .if3 .taken, c .before .before .before .before .before .before .before .before .before .before .before .before .before .before .before .before .before .before .before .before .before .before .before .before .before .before .before .before .fits .n)
 
 add-k-3 : tie.Need-add-k-3 Inv-loop μ-loop
 add-k-3 c =
-    let l = c .before .before .before .before .before .before .before .before .before .before .before .before .before .before .before .before .before .before .loop in let g = l .inv .4 in search (needs, g .span, g .entries, l .inv .0, l .inv .3, c .before .before .before .before .before .before .before .before .before .before .before .before .before .before .before .before .before .before .before .before .before .before .before .before .before .before .before .good .0, c .before .before .before .before .before .before .before .before .before .before .before .before .before .before .before .before .if3 .taken)
+    let l = c .before .before .before .before .before .before .before .before .before .before .before .before .before .before .before .before .before .before .before .loop in let g = l .inv .4 in search (needs, g .span, g .entries, l .inv .0, l .inv .3, c .before .before .before .before .before .before .before .before .before .before .before .before .before .before .before .before .before .before .before .before .before .before .before .before .before .before .before .before .good .0, c .before .before .before .before .before .before .before .before .before .before .before .before .before .before .before .before .before .if3 .taken)
 
 loop-less : tie.Need-loop-less Inv-loop μ-loop
 loop-less c =
-    counts-down (c .before .before .before .before .before .before .before .before .before .before .before .before .before .before .before .before .if3 .taken)
+    counts-down (c .before .before .before .before .before .before .before .before .before .before .before .before .before .before .before .before .before .if3 .taken)
 
 loop-again : tie.Need-loop-again Inv-loop μ-loop
 loop-again c =
-    let a = c .before .before .before .before .before .before .before .before .before .before .before .before .before .before .before .before .before .before .before .before .before .before .before .before .before .before .before .args in
-    let l = c .before .before .before .before .before .before .before .before .before .before .before .before .before .before .before .before .before .before .loop in
+    let a = c .before .before .before .before .before .before .before .before .before .before .before .before .before .before .before .before .before .before .before .before .before .before .before .before .before .before .before .before .args in
+    let l = c .before .before .before .before .before .before .before .before .before .before .before .before .before .before .before .before .before .before .before .loop in
     let g = l .inv .4 in
     let s = c .before .before .before .store-in in
-    let h = here-in (c .before .before .before .before .before .before .before .before .before .before .before) in (
+    let h = here-in (c .before .before .before .before .before .before .before .before .before .before .before .before) in (
       s .kept .0 ∙ l .inv .0,
       omega (arith, l .inv .1),
-      omega (arith, c .before .before .before .before .before .before .before .before .before .before .before .before .before .before .before .before .if3 .taken),
+      omega (arith, c .before .before .before .before .before .before .before .before .before .before .before .before .before .before .before .before .before .if3 .taken),
       omega (arith, l .inv .3),
       g,
       l .inv .5,
-      symbolic-turn (now (a .table)) (a .t) (a .y) (a .at) (a .n) (a .w .low) (a .w .high) (l .p) (l .arena) {found = c .before .before .before .before .before .before .before .a .given .0 .0} {b = s .last .0} (c .before .before .before .before .before .before .before .before .before .before .before .before .before .before .before .before .if3 .taken) (g .entries) (l .inv .5) (l .inv .3)
+      symbolic-turn (now (a .table)) (a .t) (a .y) (a .at) (a .n) (a .w .low) (a .w .high) (l .p) (l .arena) {found = c .before .before .before .before .before .before .before .before .a .given .0 .0} {b = s .last .0} (c .before .before .before .before .before .before .before .before .before .before .before .before .before .before .before .before .before .if3 .taken) (g .entries) (l .inv .5) (l .inv .3)
           h refl
-          (sym (c .before .before .before .before .before .before .before .a .given .1) ∙ c .before .before .before .before .before .before .before .before .before .address-of .ensures) (s .ensures) (a .s) (now (a .arena)) (l .inv .6),
+          (sym (c .before .before .before .before .before .before .before .before .a .given .1) ∙ c .before .before .before .before .before .before .before .before .before .before .address-of .ensures) (rw (← c .before .before .before .before .before .before .value-of .ensures) (s .ensures)) (a .s) (now (a .arena)) (l .inv .6),
     )
 
 same-length-3 : tie.Need-same-length-3 Inv-loop μ-loop
@@ -163,9 +157,10 @@ symbolics-spec =
     (λ c. search needs)
     same-length-2
     returns-4
+    (λ c κs. search needs)
     add-store-in
     store-in-requires
-    add-t33
+    add-t36
     add-k-3
     loop-less
     loop-again

@@ -5,9 +5,9 @@ use Rattle.object.specs.RelocationTypes.{rowOf}
 use Rattle.object.proofs.relocate.action_of.Statement.{statement}
 use Rattle.object.proofs.relocate.action_of.Tie as tie
 
-returns-7 : tie.Need-returns-7
+returns-12 : tie.Need-returns-12
 unfolding rowOf
-returns-7 c =
+returns-12 c =
     simp (
       ne-eqb _ _ (c .match .rest .1),
       ne-eqb _ _ (c .match .rest .0 .1),
@@ -15,6 +15,11 @@ returns-7 c =
       ne-eqb _ _ (c .match .rest .0 .0 .0 .1),
       ne-eqb _ _ (c .match .rest .0 .0 .0 .0 .1),
       ne-eqb _ _ (c .match .rest .0 .0 .0 .0 .0 .1),
+      ne-eqb _ _ (c .match .rest .0 .0 .0 .0 .0 .0 .1),
+      ne-eqb _ _ (c .match .rest .0 .0 .0 .0 .0 .0 .0 .1),
+      ne-eqb _ _ (c .match .rest .0 .0 .0 .0 .0 .0 .0 .0 .1),
+      ne-eqb _ _ (c .match .rest .0 .0 .0 .0 .0 .0 .0 .0 .0 .1),
+      ne-eqb _ _ (c .match .rest .0 .0 .0 .0 .0 .0 .0 .0 .0 .0 .1),
     )
 
 pub action-of-spec : {M : Type 1} → statement M
@@ -28,4 +33,9 @@ action-of-spec =
     (λ c. simp (c .match .keys4))
     (λ c. simp (c .match .keys5))
     (λ c. simp (c .match .keys6))
-    returns-7)
+    (λ c. simp (c .match .keys7))
+    (λ c. simp (c .match .keys8))
+    (λ c. simp (c .match .keys9))
+    (λ c. simp (c .match .keys10))
+    (λ c. simp (c .match .keys11))
+    returns-12)
