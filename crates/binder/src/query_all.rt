@@ -60,8 +60,10 @@ fn zero_bytes(list: &[u8]) -> usize
     while i < list.len() {
         if list[i] == 0 {
             n += 1;
+            i += 1;
+        } else {
+            i += 1;
         }
-        i += 1;
     }
     n
 }
@@ -156,5 +158,13 @@ pub fn query_all(
     if parts.count < 2 {
         return refuse_all(1, 0, arena, words);
     }
-    ask_all_set(bytes, parts, arena, address, requester as usize, list, words)
+    ask_all_set(
+        bytes,
+        parts,
+        arena,
+        address,
+        requester as usize,
+        list,
+        words,
+    )
 }

@@ -149,7 +149,13 @@ pub extern "C" fn lugwormpin_query_all(
     ensures { λ r. ⌜ asked r (now (arena .exit)) (now (addresses .exit)) ≡ askedAllOf (queryAllOf (settingAt address) (now (sheet .entry)) (now (bytes .entry)) (length (now (arena .entry))) requester (now (names .entry)) (length (now (addresses .entry)))) ⌝ }
 {
     let reply = binder::query_all::query_all(
-        sheet, bytes, arena, address, requester, names, addresses,
+        sheet,
+        bytes,
+        arena,
+        address,
+        requester,
+        names,
+        addresses,
     );
     reply_all_number(reply)
 }
