@@ -1,18 +1,19 @@
 -- The answer of `query_all`, refusal by refusal, against its definition. Assumes nothing.
 use mathlib.Core.Path.{_≡_, refl, sym, ap, _∙_}
-use mathlib.Core.Bool.{true, false}
+use mathlib.Core.Bool.{Bool, true, false}
 use mathlib.Core.List.{List, [], _∷_, map}
 use Prim.Native.Nat.{ℕ, _≤_, _<_}
 use native.Mathlib.Omega.{arith}
 use borrow.Author.Tests.{lt-ltb, le-ltb}
-use lib.ListN.{length, replicate}
+use lib.Dec.{ltb}
+use lib.ListN.{length}
+use Rattle.words.specs.Choice.{pick}
 use Rattle.words.specs.Memory.{tab}
 use Rattle.model.specs.Objects.{Objs}
 use Rattle.model.specs.Relocation.{placed, addressOr0}
-use Rattle.model.specs.Symbols as symbols
 use Rattle.model.specs.Symbols.{byName}
 use Rattle.model.specs.Scope.{resolve}
-use Rattle.sheet.specs.Sheet.{Input}
+use Rattle.sheet.specs.Sheet.{Input, sheetOk, setOf}
 use Rattle.sheet.specs.Steps.Parts.{inputsIn, Tabled}
 use Rattle.sheet.specs.declared.sheet.Parts.{Parts}
 use Rattle.sheet.proofs.PartLaws.{handed-in}
@@ -21,10 +22,12 @@ use Rattle.binder.specs.Bind.{filesOf, objectsOf, unless, prepareVerdict
 use Rattle.binder.specs.QueryAll.{namesIn, listOk, repliedAll, refusedAll, repliedAllOf, addressesOf, askAllSet, queryAllOf}
 use Rattle.binder.specs.Steps.AllNames.{linkAddress, linkAddresses}
 use Rattle.binder.specs.Steps.Prepared.{Prepared}
+use Rattle.binder.specs.Verdict.{first}
 use Rattle.binder.specs.declared.ReplyAll as replies
 use Rattle.binder.specs.declared.Verdict.{Verdict}
 use Rattle.binder.specs.declared.Verdict.the-variants.{Passed, Refused}
 use Rattle.binder.proofs.PrepareLaws.{sheet-refused, sheet-passed}
+use Rattle.binder.proofs.OutcomeLaws.{objectsIn, sheetVerdict}
 use Rattle.binder.proofs.QueryIs.{LoadedFor, loaded-for}
 
 -- ---- 2 to 13, 21 and 23
@@ -91,3 +94,27 @@ module _ (setting : Setting) (sheet bytes : List ℕ) (size : ℕ) (p : Parts) (
       2 ≤ p .count → askAllSet setting (inputsIn bytes p) size requester list words ≡ queryAllOf setting sheet bytes size requester list words
   unfolding queryAllOf
   query-all-handed l = let ok = sheet-passed sheet bytes p t l in rw (handed-in t ok bytes, ok)
+
+-- ---- the answers for a sheet, by one verdict
+
+pub query-all-one :
+    (setting : Setting) (sheet bytes : List ℕ) (size requester : ℕ) (list : List ℕ) (words : ℕ)
+    → queryAllOf setting sheet bytes size requester list words
+    ≡ repliedAllOf size words
+    (first (sheetVerdict setting sheet bytes size)
+    (first (unless (ltb requester (length (setOf sheet bytes))) 13 0) (unless (listOk list words) 23 0)))
+    (tab size (placed (objectsIn setting (setOf sheet bytes)))) (addressesOf (objectsIn setting (setOf sheet bytes)) requester (namesIn list))
+unfolding queryAllOf askAllSet repliedAllOf unless
+query-all-one setting sheet bytes size requester list words = go (sheetOk sheet (length bytes))
+  where
+    os : List Input
+    os = setOf sheet bytes
+
+    go :
+        (t : Bool) → pick t (askAllSet setting os size requester list words) (refusedAll size words 1 0)
+        ≡ repliedAllOf size words
+        (first (first (unless t 1 0) (prepareVerdict setting os size))
+        (first (unless (ltb requester (length os)) 13 0) (unless (listOk list words) 23 0)))
+        (tab size (placed (objectsIn setting os))) (addressesOf (objectsIn setting os) requester (namesIn list))
+    go true = refl
+    go false = refl
