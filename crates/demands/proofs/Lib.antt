@@ -7,6 +7,7 @@ pub mod FieldCasesHold
 pub mod OrderReported
 pub mod RefusalNumbers
 pub mod RefusalsHold
+pub mod AllNamesHold
 pub mod HostStays
 pub mod LargePagesHold
 pub mod PairFiles

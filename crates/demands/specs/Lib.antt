@@ -4,6 +4,7 @@ pub mod OrderReport
 pub mod Cases
 pub mod FieldCases
 pub mod Refusals
+pub mod AllNames
 pub mod LargePages
 pub mod PairOfSheets
 pub mod ObjectRuns
