@@ -76,7 +76,7 @@ int main(int argc, char **argv)
     ask_all(1, "a_call", 6, 0);
     ask_all(4, "a_call", 6, 3);
     bind(0, 6);
-    bind(0, 5);
+    bind(0, 3);
     bind(1, 6);
     words -= 1;
     ask(1, "a_call", 4);
