@@ -214,6 +214,7 @@ fn measure(set: &Set, rust: &mut Rust, seconds: f64) {
     }
     let used = match asked.first() {
         None => stack(&mut || bind(set, arena, &mut report).unwrap()),
+        Some(_) if once => stack(&mut || query_all(set, arena, 1, &list, &mut addresses).unwrap()),
         Some((requester, name)) => stack(&mut || assert!(query(set, arena, *requester, name).is_ok())),
     };
     println!("{label}\tstack\t{used}");
