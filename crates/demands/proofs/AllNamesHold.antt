@@ -1,11 +1,11 @@
 -- The statements about `query_all` hold. Assumes nothing.
 use mathlib.Core.Path.{_≡_, refl, sym, ap, _∙_}
 use mathlib.Core.Bool.{Bool, true, false}
-use mathlib.Core.Logic.{inl, inr, ⊎-elim, _≢_}
+use mathlib.Core.Logic.{inl, inr, ⊎-elim}
 use mathlib.Core.List.{List, [], _∷_, _++_, map}
 use Prim.Native.Nat.{ℕ, zero, suc, _+_, _≤_, _<_}
 use native.Mathlib.Omega.{arith}
-use borrow.Author.Tests.{eqb-true, ltb-true, lt-ltb}
+use borrow.Author.Tests.{eqb-true, ltb-true}
 use lib.Dec.{eqb, ltb}
 use lib.ListN.{length, getD, replicate, length-append, length-map, length-replicate}
 use Rattle.words.specs.Choice.{pick}
@@ -20,7 +20,6 @@ use Rattle.model.specs.Relocation.{placed, addressOr0}
 use Rattle.model.proofs.OrderLaws.{decide}
 use Rattle.sheet.specs.Sheet.{Input, setOf}
 use Rattle.sheet.proofs.SheetLonger.{Longer, sheet-longer}
-use Rattle.binder.specs.declared.Reply.{Reply}
 use Rattle.binder.specs.declared.Reply as replies
 use Rattle.binder.specs.declared.ReplyAll.{ReplyAll}
 use Rattle.binder.specs.declared.ReplyAll as all
@@ -28,12 +27,12 @@ use Rattle.binder.specs.Setting.{Setting}
 use Rattle.binder.specs.Verdict.{first}
 use Rattle.binder.specs.declared.Verdict.{Verdict}
 use Rattle.binder.specs.declared.Verdict.the-variants.{Passed, Refused}
-use Rattle.binder.specs.Bind.{unless, prepareVerdict, replied, Replied, replyOf, repliedOf, queryOf}
-use Rattle.binder.specs.QueryAll.{beginning, namesIn, endsInZero, zeroBytes, listOk, repliedAll, refusedAll, repliedAllOf, addressesOf, askAllSet, queryAllOf}
+use Rattle.binder.specs.Bind.{unless, replied, Replied, replyOf, repliedOf, queryOf}
+use Rattle.binder.specs.QueryAll.{beginning, namesIn, endsInZero, zeroBytes, listOk, repliedAll, repliedAllOf, addressesOf, askAllSet}
 use Rattle.binder.proofs.OutcomeLaws.{first-passed, unless-passed, objectsIn, sheetVerdict, query-one}
 use Rattle.binder.proofs.QueryAllIs.{query-all-one}
-use Rattle.demands.specs.LongerSet.{PassesLoading, setObjects}
-use Rattle.demands.specs.Refusals.{QueryNumber, ObjectOf, QueryRefused}
+use Rattle.demands.specs.LongerSet.{setObjects}
+use Rattle.demands.specs.Refusals.{QueryRefused}
 use Rattle.demands.specs.AllNames.{wordOf, fromSingle, SingleQueries, endToEnd, EndToEnd, AllRefused, AllRefusals, AllLengths, LongerAll, AllCases}
 use Rattle.demands.proofs.PassedSet.{sheet-prepared}
 use Rattle.demands.proofs.RefusalsHold.{query-refusals}

@@ -10,7 +10,6 @@ use lib.ListN.{length, getD, replicate}
 use Rattle.words.specs.Memory.{tab}
 use Rattle.model.specs.Relocation.{placed}
 use Rattle.sheet.specs.Sheet.{Input, setOf}
-use Rattle.binder.specs.declared.Reply.{Reply}
 use Rattle.binder.specs.declared.Reply.the-variants.{Found, Absent, Refused}
 use Rattle.binder.specs.declared.ReplyAll.{ReplyAll}
 use Rattle.binder.specs.declared.ReplyAll as all

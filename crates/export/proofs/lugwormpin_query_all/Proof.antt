@@ -1,6 +1,6 @@
 -- `export::lugwormpin_query_all` meets its contract. Assumes nothing.
 use Prim.Native.Nat.{ℕ}
-use mathlib.Core.Path.{_≡_, ap, _∙_}
+use mathlib.Core.Path.{ap, _∙_}
 use Rattle.export.specs.Calls.{asked, askedAllOf}
 use borrow.Author.Needs.{needs}
 use Rattle.export.proofs.lugwormpin_query_all.Statement.{statement}

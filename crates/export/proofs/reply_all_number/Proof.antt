@@ -2,9 +2,6 @@
 use borrow.Author.Needs.{needs}
 use Rattle.export.proofs.reply_all_number.Statement.{statement}
 use Rattle.export.proofs.reply_all_number.Tie as tie
-use Rattle.export.proofs.reply_all_number.Reads as reads
-use Rattle.export.proofs.reply_all_number.Lts as lts
-use Rattle.export.proofs.pack.Reads as pack-reads
 
 returns-2 : tie.Need-returns-2
 returns-2 c =
