@@ -61,8 +61,10 @@ module _ (setting : Setting) (sheet bytes : List ℕ) (size requester : ℕ) whe
   unfolding addressesOf
   words-are e [] = refl
   words-are e (name ∷ names) =
-      rw (query-one setting sheet bytes size requester name,
-      word-is size asking (resolve S requester (byName name)) (tab size (placed S)) e) (ap (λ (ws : List ℕ). addressOr0 (resolve S requester (byName name)) ∷ ws) (words-are e names))
+      rw (
+        query-one setting sheet bytes size requester name,
+        word-is size asking (resolve S requester (byName name)) (tab size (placed S)) e,
+      ) (ap (λ (ws : List ℕ). addressOr0 (resolve S requester (byName name)) ∷ ws) (words-are e names))
 
 put-together :
     (size slots : ℕ) (v w : Verdict) (t : Bool) (x : symbols.Resolved) (arena ws ws′ : List ℕ) → (first v w ≡ Passed → ws ≡ ws′)
@@ -222,18 +224,16 @@ longer-all setting sheet bytes size requester list slots arena words e f n added
     let h : requester < length (setOf T more) =
     omega (arith, longer-count os (setOf T more) (sheet-longer sheet bytes f n added (sheet-prepared sheet bytes setting size (p .0) .0))) in
     let passed : asking setting sheet bytes size requester ≡ Passed = both-passed (p .0) (q .0) in
-    let ws : words ≡ map (word setting sheet bytes size requester) (namesIn list) = x .1 ∙ words-are setting sheet bytes size requester passed (namesIn list) in
-    (
+    let ws : words ≡ map (word setting sheet bytes size requester) (namesIn list) = x .1 ∙ words-are setting sheet bytes size requester passed (namesIn list) in (
       map (word setting T more size′ requester) (namesIn list),
       single-queries setting T more size′ requester list slots []
-      ∙ rw (ok, asked setting T more size′ requester [] v h)
-      (answered-from size′ slots (resolve (setObjects setting T more) requester (byName [])) _ _),
+          ∙ rw (ok, asked setting T more size′ requester [] v h)
+          (answered-from size′ slots (resolve (setObjects setting T more) requester (byName [])) _ _),
       λ i small k s a left found pos.
-          let many : i < length (namesIn list) = omega (arith, end-to-end list slots ok .1) in
-          (
+          let many : i < length (namesIn list) = omega (arith, end-to-end list slots ok .1) in (
             ap (λ (z : List ℕ). getD z i 0) ws ∙ (getD-mapped (word setting sheet bytes size requester) (namesIn list) i many ∙ ap wordOf found),
             getD-mapped (word setting T more size′ requester) (namesIn list) i many
-            ∙ ap wordOf (longer-query .same-answer setting sheet bytes size requester (getD (namesIn list) i []) k s a left found pos f n added size′ v),
+                ∙ ap wordOf (longer-query .same-answer setting sheet bytes size requester (getD (namesIn list) i []) k s a left found pos f n added size′ v),
           ),
     )
 
