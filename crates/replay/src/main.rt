@@ -94,7 +94,9 @@ fn bind_set(
     policy: Policy,
     report: &mut [u32],
 ) {
-    let a = binder::bind::bind(sheet, bytes, arena, address, policy, report);
+    let mut types = [0u32; 64];
+    binder::types::supply(&mut types);
+    let a = binder::bind::bind(sheet, bytes, arena, address, policy, &types, report);
     show_bound(a, report, arena);
 }
 

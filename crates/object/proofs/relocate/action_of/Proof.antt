@@ -1,41 +1,58 @@
--- `object::relocate::action_of` meets its contract: each arm is the definition at its type.
--- Assumes nothing.
-use borrow.Author.Tests.{ne-eqb}
-use Rattle.object.specs.RelocationTypes.{rowOf}
+use borrow.Author.Needs.{needs}
 use Rattle.object.proofs.relocate.action_of.Statement.{statement}
 use Rattle.object.proofs.relocate.action_of.Tie as tie
+use Rattle.object.proofs.relocate.action_of.Reads as reads
+use Rattle.object.proofs.relocate.action_of.Lts as lts
+use Rattle.object.proofs.relocate.applied_of.Reads as applied-of-reads
+use Rattle.object.proofs.relocate.passed_of.Reads as passed-of-reads
+use Rattle.object.proofs.relocate.refused_of.Reads as refused-of-reads
 
-returns-12 : tie.Need-returns-12
-unfolding rowOf
-returns-12 c =
-    simp (
-      ne-eqb _ _ (c .match .rest .1),
-      ne-eqb _ _ (c .match .rest .0 .1),
-      ne-eqb _ _ (c .match .rest .0 .0 .1),
-      ne-eqb _ _ (c .match .rest .0 .0 .0 .1),
-      ne-eqb _ _ (c .match .rest .0 .0 .0 .0 .1),
-      ne-eqb _ _ (c .match .rest .0 .0 .0 .0 .0 .1),
-      ne-eqb _ _ (c .match .rest .0 .0 .0 .0 .0 .0 .1),
-      ne-eqb _ _ (c .match .rest .0 .0 .0 .0 .0 .0 .0 .1),
-      ne-eqb _ _ (c .match .rest .0 .0 .0 .0 .0 .0 .0 .0 .1),
-      ne-eqb _ _ (c .match .rest .0 .0 .0 .0 .0 .0 .0 .0 .0 .1),
-      ne-eqb _ _ (c .match .rest .0 .0 .0 .0 .0 .0 .0 .0 .0 .0 .1),
-    )
+-- src/relocate.rt:119:9
+returns : tie.Need-returns
+returns c = ?
+
+-- src/relocate.rt:121:16
+add-if2 : tie.Need-add-if2
+add-if2 c = search needs
+
+-- src/relocate.rt:122:9
+applied-of-requires : tie.Need-applied-of-requires
+applied-of-requires c κs = search needs
+
+-- src/relocate.rt:122:9
+returns-2 : tie.Need-returns-2
+returns-2 c = ?
+
+-- src/relocate.rt:124:16
+add-if3 : tie.Need-add-if3
+add-if3 c = search needs
+
+-- src/relocate.rt:125:9
+passed-of-requires : tie.Need-passed-of-requires
+passed-of-requires c κs = search needs
+
+-- src/relocate.rt:125:9
+returns-3 : tie.Need-returns-3
+returns-3 c = ?
+
+-- src/relocate.rt:127:5
+refused-of-requires : tie.Need-refused-of-requires
+refused-of-requires c κs = search needs
+
+-- src/relocate.rt:115:1
+returns-4 : tie.Need-returns-4
+returns-4 c = ?
 
 pub action-of-spec : {M : Type 1} → statement M
-unfolding rowOf
 action-of-spec =
     tie.close
     (tie.spec
-    (λ c. simp (c .match .keys1))
-    (λ c. simp (c .match .keys2))
-    (λ c. simp (c .match .keys3))
-    (λ c. simp (c .match .keys4))
-    (λ c. simp (c .match .keys5))
-    (λ c. simp (c .match .keys6))
-    (λ c. simp (c .match .keys7))
-    (λ c. simp (c .match .keys8))
-    (λ c. simp (c .match .keys9))
-    (λ c. simp (c .match .keys10))
-    (λ c. simp (c .match .keys11))
-    returns-12)
+    returns
+    add-if2
+    applied-of-requires
+    returns-2
+    add-if3
+    passed-of-requires
+    returns-3
+    refused-of-requires
+    returns-4)
