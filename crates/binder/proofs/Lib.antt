@@ -33,3 +33,4 @@ pub mod SymbolicLaws
 pub mod BitLaws
 pub mod BindIs
 pub mod LoadsSame
+pub mod TypesLaws
