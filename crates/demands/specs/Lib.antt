@@ -3,6 +3,8 @@ pub mod LongerSet
 pub mod OrderReport
 pub mod Cases
 pub mod FieldCases
+pub mod TypeCases
+pub mod SuppliedTypes
 pub mod Refusals
 pub mod LargePages
 pub mod PairOfSheets
