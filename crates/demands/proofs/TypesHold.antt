@@ -23,8 +23,7 @@ use Rattle.binder.specs.Verdict.{refusalBy}
 use Rattle.binder.specs.Report.{undefinedBy}
 use Rattle.binder.specs.Bind.{bindOf, unless, prepareVerdict}
 use Rattle.binder.specs.Steps.TypesBefore.{rowBefore, settingBefore}
-use Rattle.demands.specs.TypeCases.{Marked, TypeCases}
-use Rattle.demands.specs.SuppliedTypes.{SuppliedTypes}
+use Rattle.demands.specs.TypeCases.{Marked, TypeCases, SuppliedTypes}
 
 -- ---- what a word does
 

@@ -4,7 +4,6 @@ pub mod OrderReport
 pub mod Cases
 pub mod FieldCases
 pub mod TypeCases
-pub mod SuppliedTypes
 pub mod Refusals
 pub mod LargePages
 pub mod PairOfSheets

@@ -1,5 +1,6 @@
--- Document 02, (f), "Our own table of types": what a word of the types does to the entries of its type, and which words 24 refuses. Words in quotes
--- are document 02's. Each stands for one way to read the request wrongly. Assumes nothing.
+-- Document 02, (f), "Our own table of types": what a word of the types does to the entries of its type, which words 24 refuses, and that "The supplied
+-- words are shown to bind every set as the fixed list did". Words in quotes are document 02's. Each case stands for one way to read the request
+-- wrongly. `settingBefore` is the setting of before (binder/specs/Steps/TypesBefore). Assumes nothing.
 use mathlib.Core.Bool.{Bool, true, false}
 use mathlib.Core.List.{List, _++_}
 use mathlib.Core.Path.{_≡_}
@@ -12,12 +13,14 @@ use Rattle.object.specs.RelocationTypes.{appliedRow, passedOver, typeWord, rowI
 use Rattle.object.specs.Record.{Record}
 use Rattle.object.specs.declared.relocate.Rela.{Rela}
 use Rattle.sheet.specs.Sheet.{Input, arenaOk}
+use Rattle.binder.specs.declared.Policy.{Policy}
 use Rattle.binder.specs.declared.Verdict.the-variants.{Refused}
 use Rattle.binder.specs.Setting.{settingOf}
 use Rattle.binder.specs.Instance.{entryOf}
 use Rattle.binder.specs.Verdict.{entryRefusal}
 use Rattle.binder.specs.Report.{isUndefined, isPassed}
-use Rattle.binder.specs.Bind.{prepareVerdict, typesVerdict}
+use Rattle.binder.specs.Bind.{prepareVerdict, typesVerdict, bindOf}
+use Rattle.binder.specs.Steps.TypesBefore.{settingBefore}
 
 -- word t of the words is of that kind
 abbrev pub Marked : List ℕ → ℕ → ℕ → Type 0
@@ -72,3 +75,9 @@ pub record TypeCases : Type 0 where
   pub before-3 :
       (address : ℕ) (types : List ℕ) (os : List Input) (size : ℕ) → arenaOk size address ≡ true → typesOk types ≡ false
       → prepareVerdict (settingOf address types) (typesVerdict (settingOf address types)) os size ≡ Refused 24 0
+
+-- answer, arena and report of every call, refused ones too
+abbrev pub SuppliedTypes : Type 0
+SuppliedTypes =
+    (address : ℕ) (sheet bytes : List ℕ) (size : ℕ) (policy : Policy) (words : ℕ)
+    → bindOf (settingOf address suppliedTypes) sheet bytes size policy words ≡ bindOf (settingBefore address) sheet bytes size policy words

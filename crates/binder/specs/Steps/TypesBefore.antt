@@ -1,5 +1,5 @@
 -- The list of types as it was fixed before document 02, (f): what an entry of a type did then, by document 01, "Relocated bytes and report", and
--- document 02, (b). No call binds by it; crates/demands, SuppliedTypes, says that the supplied words bind every set as it did. Assumes nothing.
+-- document 02, (b). No call binds by it; crates/demands, TypeCases (`SuppliedTypes`), says that the supplied words bind every set as it did. Assumes nothing.
 use mathlib.Core.Bool.{true}
 use Prim.Native.Nat.{ℕ}
 use lib.Dec.{eqb}
