@@ -34,3 +34,4 @@ pub mod BitLaws
 pub mod BindIs
 pub mod LoadsSame
 pub mod TypesLaws
+pub mod TypeWords

@@ -6,28 +6,30 @@ use mathlib.Core.List.{List, [], _∷_}
 use Prim.Native.Nat.{ℕ, _+_, _-_, _*_, _≤_, _<_}
 use native.Mathlib.Omega.{arith}
 use native.Mathlib.Decide.{decLt}
-use borrow.Author.Tests.{le-ltb}
+use borrow.Author.Tests.{le-ltb, eqb-true}
 use lib.Dec.{eqb}
 use lib.ListN.{length, getD}
 use Rattle.words.specs.Memory.{Mem, mem, write, patch}
+use Rattle.words.proofs.Choice.{both-true}
 use Rattle.words.proofs.Memory.{write-in, write-out}
 use Rattle.words.proofs.Slices.{mem-patch, length-patch}
-use Rattle.object.specs.RelocationTypes.{rowUnder, rowIn}
+use Rattle.object.specs.RelocationTypes.{rowUnder, rowIn, typesOk}
 use Rattle.object.specs.Placed.{objectSpan, objectBytes}
 use Rattle.object.specs.Loaded.{objectRefusal}
 use Rattle.sheet.specs.Sheet.{Input, arenaOk, duplicateOf}
 use Rattle.scope.specs.Steps.Links.{linkAt, countIn, addressIn, FilteredBelow, Filtered}
 use Rattle.scope.proofs.LinkLaws.{link-same, filter-same}
-use Rattle.binder.specs.Setting.{Setting, settingAt}
+use Rattle.binder.specs.Setting.{Setting, settingOf, settingAt}
 use Rattle.binder.specs.Instance.{File, offsetOf}
 use Rattle.binder.specs.Verdict.{first, verdict, loadVerdict}
 use Rattle.binder.specs.declared.Verdict.{Verdict}
 use Rattle.binder.specs.declared.Verdict.the-variants.{Passed}
-use Rattle.binder.specs.Bind.{filesOf, objectsOf, unless, prepareVerdict}
+use Rattle.binder.specs.Bind.{filesOf, objectsOf, unless, prepareVerdict, typesVerdict}
 use Rattle.binder.specs.Steps.Prepared.{loadFrom, placeFiles, Linked, Prepared}
 use Rattle.binder.specs.Steps.Relocating.{rowAt}
 use Rattle.binder.proofs.LoadsSame.{loads-same}
-use Rattle.binder.proofs.PrepareLaws.{linked-same, files-length}
+use Rattle.binder.proofs.PrepareLaws.{linked-same, files-length, passes}
+use Rattle.binder.proofs.OutcomeLaws.{unless-passed}
 
 -- ---- in another setting at the same address
 
@@ -98,16 +100,15 @@ module _ (t : List ℕ) (words : List ℕ) (long : 1090 ≤ length t) where
 
   -- each type does what its word says
   pub row-put : (rtype : ℕ) → rowAt with-types rtype ≡ rowIn words rtype
+  unfolding rowAt rowIn rowUnder
   row-put rtype = go (decLt rtype 64)
     where
+      above : (w v : ℕ) → 64 ≤ rtype → rowUnder w rtype ≡ rowUnder v rtype
+      above w v l = rw (le-ltb rtype 64 l)
+
       go : Dec (rtype < 64) → rowAt with-types rtype ≡ rowIn words rtype
-      unfolding rowAt rowIn
       go (yes l) = ap (λ (w : ℕ). rowUnder w rtype) (put-word rtype l)
-      go (no l) = above (getD with-types (1026 + rtype) 0) ∙ sym (above (getD words rtype 0))
-        where
-          above : (w : ℕ) → rowUnder w rtype ≡ rowUnder 0 rtype
-          unfolding rowUnder
-          above w = rw (le-ltb rtype 64 (omega arith))
+      go (no l) = above (getD with-types (1026 + rtype) 0) (getD words rtype 0) (omega arith)
 
   filtered-put : Filtered t → Filtered with-types
   filtered-put f =
@@ -135,3 +136,31 @@ module _ (t : List ℕ) (words : List ℕ) (long : 1090 ≤ length t) where
         counted = λ z. kept-word 1024 (omega arith) ∙ p .counted z;
         addressed = λ z. kept-word 1025 (omega arith) ∙ p .addressed z;
       }
+
+-- ---- a call that binds
+
+module _ (address : ℕ) (words : List ℕ) (os : List Input) (before after : List ℕ) (r : Verdict) where
+  abbrev setting : Setting
+  setting = settingOf address words
+
+  abbrev Made : List ℕ → Type 0
+  Made table = Prepared setting (typesVerdict setting) os before after table r
+
+  -- prepared, where `v` was met between 2 and 3
+  pub made : (v : Verdict) (table : List ℕ) → v ≡ unless (typesOk words) 24 0 → Prepared (settingAt address) v os before after table r → Made table
+  made v table e p = prepared-as setting (typesVerdict setting) os before after table r (subst (λ (w : Verdict). Prepared (settingAt address) w os before after table r) e p)
+
+  -- there are 64 words
+  pub all-words : (table : List ℕ) → Made table → r ≡ Passed → length words ≡ 64
+  unfolding typesOk
+  all-words table p z =
+      eqb-true (length words) 64
+      (both-true (eqb (length words) 64) _ (unless-passed (typesOk words) 24 0 (passes setting (typesVerdict setting) os before after table r p z .typed)) .0)
+
+  -- the table `t` with the words is `t′`
+  pub made-put : (t t′ : List ℕ) → t′ ≡ patch t 1026 64 (mem words) → 1090 ≤ length t → length os ≤ 64 → Made t → Made t′
+  made-put t t′ e long few p =
+      subst (λ (x : List ℕ). Made x) (sym e) (prepared-put t words long setting (typesVerdict setting) os before after r p few)
+
+  pub rows-put : (t t′ : List ℕ) → t′ ≡ patch t 1026 64 (mem words) → 1090 ≤ length t → (rtype : ℕ) → rowAt t′ rtype ≡ rowIn words rtype
+  rows-put t t′ e long rtype = ap (λ (x : List ℕ). rowAt x rtype) e ∙ row-put t words long rtype

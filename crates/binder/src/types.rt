@@ -15,16 +15,16 @@ use object::relocate::Action;
 // ---- what is handed in
 
 // Whether a type may have that word.
-fn word_ok(word: u64, rtype: u32) -> bool
+fn word_ok(word: u32, rtype: u32) -> bool
     ensures { λ r. ⌜ r ≡ wordOk rtype word ⌝ }
 {
-    if word == 0x9000_0000 + rtype as u64 {
+    if word as u64 == 0x9000_0000 + rtype as u64 {
         return object::relocate::may_apply(rtype);
     }
-    if word == 0xa000_0000 + rtype as u64 {
+    if word as u64 == 0xa000_0000 + rtype as u64 {
         return true;
     }
-    if word == 0xb000_0000 + rtype as u64 {
+    if word as u64 == 0xb000_0000 + rtype as u64 {
         return true;
     }
     false
@@ -38,7 +38,7 @@ fn types_ok(types: &[u32]) -> bool
     }
     let mut i = 0;
     while i < 64 {
-        if !word_ok(types[i] as u64, i as u32) {
+        if !word_ok(types[i], i as u32) {
             return false;
         }
         i += 1;
@@ -82,13 +82,19 @@ pub fn supply(types: &mut [u32])
 
 // ---- in the table of a set, behind its count and address
 
+fn wide(word: u32) -> u64
+    ensures { λ r. ⌜ r ≡ word ⌝ }
+{
+    word as u64
+}
+
 pub(crate) fn put_types(table: &mut [u64], types: &[u32])
     requires { ⌜ (1090 ≤ length (now table)) × (length (now types) ≡ 64) ⌝ }
     ensures { λ _. ⌜ now (table .exit) ≡ patch (now (table .entry)) 1026 64 (mem (now (types .entry))) ⌝ }
 {
     let mut i = 0;
     while i < 64 {
-        table[1026 + i] = types[i] as u64;
+        table[1026 + i] = wide(types[i]);
         i += 1;
     }
 }

@@ -35,15 +35,15 @@ module _ (types : List ℕ) (rtype : ℕ) where
   passes : Marked types 10 rtype → rowIn types rtype ≡ pick (eqb rtype 0) ignored passedOver
   unfolding rowIn rowUnder
   passes m =
-      let no : getD types rtype 0 ≡ typeWord 9 rtype → ⊥ = λ e. omega (arith, m .1) in
-      rw (lt-ltb rtype 64 (m .0), ne-eqb _ _ no, eq-eqb _ _ (m .1))
+      let not-9 : getD types rtype 0 ≡ typeWord 9 rtype → ⊥ = λ e. omega (arith, m .1) in
+      rw (lt-ltb rtype 64 (m .0), ne-eqb _ _ not-9, eq-eqb _ _ (m .1))
 
   refuses : Marked types 11 rtype → rowIn types rtype ≡ pick (eqb rtype 37) turnedAway markedRefuse
   unfolding rowIn rowUnder
   refuses m =
-      let no : getD types rtype 0 ≡ typeWord 9 rtype → ⊥ = λ e. omega (arith, m .1) in
-      let nor : getD types rtype 0 ≡ typeWord 10 rtype → ⊥ = λ e. omega (arith, m .1) in
-      rw (lt-ltb rtype 64 (m .0), ne-eqb _ _ no, ne-eqb _ _ nor)
+      let not-9 : getD types rtype 0 ≡ typeWord 9 rtype → ⊥ = λ e. omega (arith, m .1) in
+      let not-10 : getD types rtype 0 ≡ typeWord 10 rtype → ⊥ = λ e. omega (arith, m .1) in
+      rw (lt-ltb rtype 64 (m .0), ne-eqb _ _ not-9, ne-eqb _ _ not-10)
 
   over : 64 ≤ rtype → rowIn types rtype ≡ passedOver
   unfolding rowIn rowUnder
