@@ -67,16 +67,19 @@ kept setting os os′ l r small name k s a e pos =
     )
 
 -- a bound set passed refusals 1 to 12
+prepared-so :
+    (setting : Setting) (sheet bytes : List ℕ) (size words : ℕ) (arena report : List ℕ) → AllPassed setting sheet bytes size words arena report
+    → prepareVerdict setting Passed (setOf sheet bytes) size ≡ Passed
+unfolding prepareVerdict unless
+prepared-so setting sheet bytes size words arena report p =
+    rw (p .arena-ok, p .no-duplicate) (loads-same setting size (filesOf (setOf sheet bytes)) ∙ p .loads)
+
 loaded :
     (setting : Setting) (sheet bytes : List ℕ) (size : ℕ) (policy : Policy) (words : ℕ) (arena report : List ℕ)
     → BoundBy setting sheet bytes size policy words arena report → PassesLoading (settingAt (setting .address)) sheet bytes size
 loaded setting sheet bytes size policy words arena report e =
     let p = bound-passed setting sheet bytes size policy words arena report e in
-    (p .sheet-ok, verdict-as setting Passed (setOf sheet bytes) size ∙ passed p)
-  where
-    passed : AllPassed setting sheet bytes size words arena report → prepareVerdict setting Passed (setOf sheet bytes) size ≡ Passed
-    unfolding prepareVerdict unless
-    passed p = rw (p .arena-ok, p .no-duplicate) (loads-same setting size (filesOf (setOf sheet bytes)) ∙ p .loads)
+    (p .sheet-ok, verdict-as setting Passed (setOf sheet bytes) size ∙ prepared-so setting sheet bytes size words arena report p)
 
 -- what a set that is not refused replies
 pub asked :

@@ -1,5 +1,5 @@
 -- The pair of sheets is as it is said to be. Assumes nothing.
-use mathlib.Core.Path.{_≡_, refl, sym, subst, _∙_}
+use mathlib.Core.Path.{_≡_, refl, sym, ap, subst, _∙_}
 use mathlib.Core.Bool.{Bool, true, false}
 use mathlib.Core.List.{List, [], _∷_, _++_, List·Memᴰ, List·Memᴰ·head, List·Memᴰ·tail, List·Memᴰ·not-nil}
 use Prim.Native.Nat.{ℕ, zero, suc, _+_, _-_, _≤_, _<_}
@@ -38,11 +38,12 @@ use Rattle.binder.specs.declared.Policy.the-variants.{Lenient}
 use Rattle.binder.specs.declared.Answer.the-variants.{Bound}
 use Rattle.binder.specs.Instance.{File, exportedOf, placesOf, namedWords, relasOf, entryBy, objectAt, multipleFrom, nextOffset, objectFrom}
 use Rattle.binder.specs.Verdict.{verdict, refusalBy, wordsVerdict, entriesVerdict, objectVerdict, orderVerdict}
+use Rattle.binder.specs.declared.Verdict.{Verdict}
 use Rattle.binder.specs.declared.Verdict.the-variants.{Passed}
 use Rattle.binder.specs.Steps.Prepared.{loadFrom}
 use Rattle.binder.specs.Report.{reportWord, isAbsent, undefinedBy, entryReport, objectWords, orderWords}
 use Rattle.binder.specs.SetOrder.{neededObjects, setOrder}
-use Rattle.binder.specs.Bind.{filesOf, namesOf, objectsOf, unless, prepareVerdict, relocateVerdict, outcome, outcomeOf, bindIn, bindSet, bindOf, queryOf, replied, replyOf}
+use Rattle.binder.specs.Bind.{filesOf, namesOf, objectsOf, unless, prepareVerdict, typesVerdict, relocateVerdict, outcome, outcomeOf, bindIn, bindSet, bindOf, queryOf, replied, replyOf}
 use Rattle.demands.specs.LongerSet.{PassesLoading, BoundBy, setObjects}
 use Rattle.demands.specs.PairOfSheets.{wordBytes, hostFile, programFile, libraryFile, setting, sheet, bytes, longerSheet, longerBytes, PairOfSheets}
 use Rattle.demands.proofs.LongerQueryLaw.{asked}
@@ -124,7 +125,7 @@ unfolding objectFrom objectAt nextOffset
 host-is = rw (host-reads .image-is, host-reads .record-is, host-reads .span-is)
 
 program-is : objectFrom setting (file false programFile) 0x1000 ≡ programObj
-unfolding objectFrom objectAt nextOffset wordBytes tab mem byteOf leAt untilZero placesOf namedWords relrWords relrsFrom relasOf relasFrom relaAt entryBy rowIn rowUnder appliedRow suppliedTypes mayApply
+unfolding objectFrom objectAt nextOffset wordBytes tab mem byteOf leAt untilZero placesOf namedWords relrWords relrsFrom relasOf relasFrom relaAt entryBy rowIn rowUnder appliedRow suppliedTypes mayApply some
 program-is = rw (program-reads .align-is, program-reads .image-is, program-reads .record-is, program-reads .span-is)
 
 a-is : objectFrom setting (file false (libraryFile 97)) 0x3000 ≡ libraryObj 97 0x3000
@@ -256,7 +257,7 @@ look = record { a-in-S = refl; a-in-T = refl; b-in-S = refl; b-in-T = refl }
 program-words :
     (A : Objs) (t : Bool) → isAbsent (resolve A 1 (byName (97 ∷ []))) ≡ false → isAbsent (resolve A 1 (byName (98 ∷ []))) ≡ t
     → objectWords (setting .row) A 1 (file false programFile) ≡ 0x50000001 ∷ pick t (0x60000001 ∷ []) []
-unfolding objectWords entryReport undefinedBy wordBytes tab mem byteOf leAt untilZero relasOf relasFrom relaAt rowIn rowUnder appliedRow suppliedTypes mayApply symbolFrom
+unfolding objectWords entryReport undefinedBy wordBytes tab mem byteOf leAt untilZero relasOf relasFrom relaAt rowIn rowUnder appliedRow suppliedTypes mayApply some symbolFrom
 program-words A true a b = rw (program-reads .image-is, program-reads .record-is, a, b)
 program-words A false a b = rw (program-reads .image-is, program-reads .record-is, a, b)
 
@@ -276,6 +277,15 @@ T-words = rw (library-words T 2 97 a-reads, library-words T 3 98 b-reads, progra
 
 -- ---- bound
 
+types-passed : typesVerdict setting ≡ Passed
+unfolding unless
+types-passed = rw supplied-ok
+
+prepared-typed :
+    (sheet bytes : List ℕ) (size : ℕ) → PassesLoading setting sheet bytes size
+    → prepareVerdict setting (typesVerdict setting) (setOf sheet bytes) size ≡ Passed
+prepared-typed sheet bytes size v = ap (λ (t : Verdict). prepareVerdict setting t (setOf sheet bytes) size) types-passed ∙ v .1
+
 -- a set whose stages are known
 bind-passed :
     (sheet bytes : List ℕ) (size : ℕ) (os : List Input) (order ws : List ℕ) (A : Objs) → setOf sheet bytes ≡ os
@@ -283,7 +293,7 @@ bind-passed :
     → orderVerdict (setting .row) A (filesOf os) order ≡ Passed → orderWords (setting .row) A (filesOf os) order ≡ ws → leb (length ws) 16 ≡ true
     → bindOf setting sheet bytes size Lenient 16 ≡ outcome Bound (tab size (bound A order)) (ws ++ replicate (16 - length ws) 0)
 unfolding bindOf bindSet bindIn relocateVerdict unless outcomeOf
-bind-passed sheet bytes size os order ws A s v o r e w l = rw (supplied-ok, v .0, v .1, s, o, r, e, w, l)
+bind-passed sheet bytes size os order ws A s v o r e w l = rw (v .0, prepared-typed sheet bytes size v, s, o, r, e, w, l)
 
 S-bound : BoundBy setting sheet bytes 0x4000 Lenient 16 (tab 0x4000 (bound S (2 ∷ 1 ∷ []))) (0x50000002 ∷ 0x50000001 ∷ 0x60000001 ∷ replicate 13 0)
 unfolding filesOf namesOf

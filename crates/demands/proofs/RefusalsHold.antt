@@ -160,8 +160,8 @@ module _ (setting : Setting) (sheet bytes : List ℕ) (size : ℕ) where
       u = firstUndefined (setting .row) (objectsIn setting os) (filesOf os) (orderIn os)
 
       entry-of : (n k : ℕ) → 14 ≤ n → n ≢ 20 → n ≢ 24 → 1 ≤ k → k < length (namesOf os) + 2 → ObjectOf (length os) n k
-      entry-of n k l ne no pos small =
-          of-object (length os) n k (λ e. omega arith) (λ e. omega arith) (λ e. omega arith) ne no
+      entry-of n k l ne not-24 pos small =
+          of-object (length os) n k (λ e. omega arith) (λ e. omega arith) (λ e. omega arith) ne not-24
           (omega (arith, counts sheet bytes good)) (λ e. absurd (omega arith)) (λ g i j. pos)
 
       undefined : (policy : Policy) → allows policy u ≡ false → u ≢ 0
@@ -178,7 +178,7 @@ module _ (setting : Setting) (sheet bytes : List ℕ) (size : ℕ) where
       (unless-meets (Right BindNumber (length os)) (setting .typed) 24 0
       (λ _. (omega arith, without (length os) 24 refl (λ e. omega arith) (λ l h i. i refl)))))
       (λ v.
-      relocate-right BindNumber (λ n l h ne no nor. omega arith) (sheet-prepared sheet bytes setting (typesVerdict setting) size v .0) policy words)
+      relocate-right BindNumber (λ n l h ne not-23 not-24. omega arith) (sheet-prepared sheet bytes setting (typesVerdict setting) size v .0) policy words)
 
   query-right :
       (requester : ℕ)
