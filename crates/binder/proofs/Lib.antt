@@ -32,4 +32,6 @@ pub mod RelativeLaws
 pub mod SymbolicLaws
 pub mod BitLaws
 pub mod BindIs
+pub mod OwnOrderLaws
+pub mod OwnOrderIs
 pub mod LoadsSame

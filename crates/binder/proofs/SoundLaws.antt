@@ -80,7 +80,7 @@ module _ (setting : Setting) (size : ℕ) where
 
 -- ---- every object of the order is checked
 
-order-checked :
+pub order-checked :
     (S : Objs) (files : List File) (order : List ℕ) → orderVerdict S files order ≡ Passed → (k : ℕ) → 0 < times k order
     → objectVerdict S k (getD files k noFile) ≡ Passed
 unfolding orderVerdict

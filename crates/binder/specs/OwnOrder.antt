@@ -45,10 +45,10 @@ libraryCopies files = some hasCopy (drop 2 files)
 
 -- ---- the call
 
--- not 35: "for other sets only document 01's order is taken"
+-- not 35: document 01's order, or any other where no library has a COPY entry; "for other sets only document 01's order is taken"
 unfoldable pub mayTake : List File → List (List ℕ) → List ℕ → Bool
 mayTake files names order =
-    both (isOrder (length names) order) (either (not (libraryCopies files)) (sameBytes order (setOrder files names)))
+    both (isOrder (length names) order) (either (sameBytes order (setOrder files names)) (not (libraryCopies files)))
 
 -- "35, after 12 .. [has] passed every object, an order that may not be taken (object 0)"
 unfoldable pub bindOrderedSet : Setting → List Input → ℕ → Policy → ℕ → List ℕ → Outcome

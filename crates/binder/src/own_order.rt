@@ -3,7 +3,7 @@ ghost use mathlib.Core.Path.{_≡_};
 ghost use Prim.Native.Nat.{_≤_};
 ghost use lib.Dec.{eqb};
 ghost use lib.ListN.{length, replicate, take};
-ghost use Rattle.words.specs.Choice.{every, some};
+ghost use Rattle.words.specs.Choice.{pick, every, some};
 ghost use Rattle.words.specs.Names.{sameBytes};
 ghost use Rattle.model.specs.Order.{listed, upFrom, times};
 ghost use Rattle.object.specs.Entries.{relasFrom};
@@ -20,6 +20,16 @@ use sheet::sheet::Parts;
 
 // ---- each library once, then the program, and nothing else
 
+// 1 where two numbers are equal, else 0.
+fn one_if_equal(a: u32, b: u32) -> usize
+    ensures { λ r. ⌜ (r ≡ pick (eqb a b) 1 0) × (r ≤ 1) ⌝ }
+{
+    if a == b {
+        return 1;
+    }
+    0
+}
+
 // How often `k` is in a list.
 fn times_in(list: &[u32], k: u32) -> usize
     ensures { λ r. ⌜ r ≡ times k (now (list .entry)) ⌝ }
@@ -27,9 +37,7 @@ fn times_in(list: &[u32], k: u32) -> usize
     let mut n = 0;
     let mut i = 0;
     while i < list.len() {
-        if list[i] == k {
-            n += 1;
-        }
+        n += one_if_equal(list[i], k);
         i += 1;
     }
     n
@@ -50,6 +58,19 @@ fn each_once(list: &[u32], libraries: usize) -> bool
     true
 }
 
+fn is_library(k: u32, libraries: usize) -> bool
+    requires { ⌜ libraries ≤ 62 ⌝ }
+    ensures { λ r. ⌜ r ≡ listed libraries k ⌝ }
+{
+    if k < 2 {
+        return false;
+    }
+    if libraries + 2 <= k as usize {
+        return false;
+    }
+    true
+}
+
 // Whether all numbers of the list are libraries'.
 fn only_libraries(list: &[u32], libraries: usize) -> bool
     requires { ⌜ libraries ≤ 62 ⌝ }
@@ -57,11 +78,7 @@ fn only_libraries(list: &[u32], libraries: usize) -> bool
 {
     let mut i = 0;
     while i < list.len() {
-        let k = list[i] as usize;
-        if k < 2 {
-            return false;
-        }
-        if libraries + 2 <= k {
+        if !is_library(list[i], libraries) {
             return false;
         }
         i += 1;
@@ -165,8 +182,9 @@ fn library_copies(bytes: &[u8], parts: Parts, arena: &[u8], table: &[u64]) -> bo
     requires { ⌜ (2 ≤ parts .count) × (parts .count ≤ 64) ⌝ }
     ensures { λ r. ⌜ r ≡ copiesAt (inputsIn (now (bytes .entry)) parts) (parts .count) (now (arena .entry)) (now (table .entry)) ⌝ }
 {
+    let count = parts.count;
     let mut k = 2;
-    while k < parts.count {
+    while k < count {
         let s = scope::links::link_at(table, k);
         if has_copy(
             sheet::sheet::part_of(arena, s.offset, s.span),
