@@ -1,0 +1,262 @@
+-- The statements on `bind_ordered` hold. Assumes nothing.
+use mathlib.Core.Path.{_≡_, refl, sym, ap, subst, _∙_, fun-ext}
+use mathlib.Core.Bool.{Bool, true, false}
+use mathlib.Core.Logic.{_⊎_, inl, inr, ⊎-elim, _≢_}
+use mathlib.Core.List.{List, [], _∷_, _++_, map}
+use Prim.Native.Nat.{ℕ, _+_, _-_, _^_, _≤_, _<_}
+use native.Mathlib.Omega.{arith}
+use borrow.Author.Tests.{eqb-true, eq-eqb}
+use lib.Dec.{eqb, leb}
+use lib.ListN.{length, replicate, length-map}
+use Rattle.words.specs.Choice.{pick, both, either, every, some}
+use Rattle.words.specs.Names.{sameBytes}
+use Rattle.words.specs.Memory.{tab}
+use Rattle.words.proofs.Choice.{both-true}
+use Rattle.words.proofs.NameLaws.{same-refl}
+use Rattle.words.proofs.Slices.{length-tab}
+use Rattle.model.specs.Objects.{Objs, count}
+use Rattle.model.specs.Order.{has, times, OnceEach}
+use Rattle.model.specs.Relocation.{bound}
+use Rattle.model.specs.Layout.{objsOf}
+use Rattle.model.proofs.OrderFree.{order-free}
+use Rattle.sheet.specs.Sheet.{Input, sheetOk, setOf}
+use Rattle.sheet.proofs.SheetLonger.{Shape, sheet-shape}
+use Rattle.binder.specs.declared.Policy.{Policy}
+use Rattle.binder.specs.declared.Policy.the-variants.{Strict, Lenient}
+use Rattle.binder.specs.declared.Answer as answers
+use Rattle.binder.specs.declared.Answer.{Answer}
+use Rattle.binder.specs.declared.Verdict.{Verdict}
+use Rattle.binder.specs.declared.Verdict.the-variants.{Passed, Refused}
+use Rattle.binder.specs.Setting.{Setting}
+use Rattle.binder.specs.Instance.{File, objectFrom}
+use Rattle.binder.specs.Verdict.{first, orderVerdict}
+use Rattle.binder.specs.Report.{orderWords, firstUndefined}
+use Rattle.binder.specs.SetOrder.{setOrder}
+use Rattle.binder.specs.Steps.Prepared.{loadFrom}
+use Rattle.binder.specs.Bind.{
+  filesOf,
+  namesOf,
+  objectsOf,
+  unless,
+  prepareVerdict,
+  allows,
+  relocateVerdict,
+  Outcome,
+  outcome,
+  refusedBind,
+  outcomeOf,
+  bindIn,
+  bindSet,
+  bindOf,
+}
+use Rattle.binder.specs.OwnOrder.{isOrder, libraryCopies, mayTake, bindOrderedSet, bindOrderedOf}
+use Rattle.binder.proofs.FileLaws.{hostFile, fileOf, files-are}
+use Rattle.binder.proofs.SoundLaws.{count-is, set-sound}
+use Rattle.binder.proofs.OrderIs.{set-order, names-length}
+use Rattle.binder.proofs.OutcomeLaws.{refused-not, first-passed, unless-passed, objectsIn, orderIn, sheetVerdict, bind-one, bound-outcome}
+use Rattle.binder.proofs.OwnOrderLaws.{count-has, order-once, once-order}
+use Rattle.demands.specs.LongerSet.{PassesLoading, setObjects}
+use Rattle.demands.specs.OrderReport.{numbersOf}
+use Rattle.demands.specs.Refusals.{BindNumber, ObjectOf}
+use Rattle.demands.specs.OwnOrders.{
+  OrderCases,
+  OrderRefused,
+  SameBinding,
+  OrderFree,
+  DocumentOrder,
+  OrderUsed,
+  OrderedAnswers,
+  OrderedRefused,
+}
+use Rattle.demands.proofs.PassedSet.{prepared, sheet-prepared, counts}
+use Rattle.demands.proofs.ProgramCopies.{only-program}
+use Rattle.demands.proofs.OrdersAlike.{once-times, once-among, verdicts-same, undefined-same, lengths-same, order-words}
+use Rattle.demands.proofs.OrderReported.{reported-numbers}
+use Rattle.demands.proofs.RefusalNumbers.{Meets, first-then, unless-meets}
+use Rattle.demands.proofs.RefusalsHold.{Right, prepare-right, relocate-right, refused-outcome, bind-lengths, room}
+
+-- ---- cases
+
+pub order-cases : OrderCases
+unfolding isOrder every some
+order-cases =
+    record {
+      ascending = refl;
+      descending = refl;
+      alone = refl;
+      program-first = refl;
+      program-missing = refl;
+      library-twice = refl;
+      library-missing = refl;
+      host = refl;
+      program-twice = refl;
+      no-object = refl;
+      word-after = refl;
+      empty = refl;
+      empty-alone = refl;
+      copy = λ p s a. refl;
+      copy-of-nothing = refl;
+      high-bit = λ p s a. refl;
+      address = λ p s a. refl;
+    }
+
+-- ---- one verdict
+
+first-none : (v : Verdict) → first v Passed ≡ v
+first-none Passed = refl
+first-none (Refused n k) = refl
+
+pub ordered-one :
+    (setting : Setting) (sheet bytes : List ℕ) (size : ℕ) (policy : Policy) (words : ℕ) (order : List ℕ)
+    → bindOrderedOf setting sheet bytes size policy words order
+    ≡ bindIn setting
+    (first (sheetVerdict setting sheet bytes size) (unless (mayTake (filesOf (setOf sheet bytes)) (namesOf (setOf sheet bytes)) order) 35 0))
+    (filesOf (setOf sheet bytes)) order size policy words
+unfolding bindOrderedOf bindOrderedSet bindIn outcomeOf unless
+ordered-one setting sheet bytes size policy words order = go (sheetOk sheet (length bytes))
+  where
+    os : List Input
+    os = setOf sheet bytes
+
+    go :
+        (t : Bool) → pick t (bindOrderedSet setting os size policy words order) (refusedBind size words 1 0)
+        ≡ bindIn setting (first (first (unless t 1 0) (prepareVerdict setting os size)) (unless (mayTake (filesOf os) (namesOf os) order) 35 0))
+        (filesOf os) order size policy words
+    go true = refl
+    go false = refl
+
+-- ---- 35
+
+pub order-refused : OrderRefused
+unfolding bindOrderedOf bindOrderedSet bindIn outcomeOf unless
+order-refused =
+    record {
+      loading = λ setting sheet bytes size policy words order n k ok e. rw (ok, e);
+      not-taken = λ setting sheet bytes size policy words order v e. rw (v .0, v .1, e);
+      entries = λ setting sheet bytes size policy words order n k v e w. rw (v .0, v .1, e, w);
+    }
+
+-- ---- document 01's order
+
+own-taken : (files : List File) (names : List (List ℕ)) → mayTake files names (setOrder files names) ≡ true
+unfolding mayTake
+own-taken files names =
+    rw (once-order (length names) (setOrder files names) (set-order files names), same-refl (setOrder files names))
+
+pub document-order : DocumentOrder
+unfolding bindOrderedOf bindOf bindOrderedSet bindSet unless
+document-order setting sheet bytes size policy words =
+    rw (own-taken (filesOf (setOf sheet bytes)) (namesOf (setOf sheet bytes)), first-none (prepareVerdict setting (setOf sheet bytes) size))
+
+-- ---- every order
+
+either-last : (a : Bool) → either a true ≡ true
+either-last true = refl
+either-last false = refl
+
+free-taken :
+    (files : List File) (names : List (List ℕ)) (order : List ℕ) → libraryCopies files ≡ false → isOrder (length names) order ≡ true
+    → mayTake files names order ≡ true
+unfolding mayTake
+free-taken files names order c o = rw (o, c) (either-last (sameBytes order (setOrder files names)))
+
+module _ (S : Objs) (files : List File) (policy : Policy) (words : ℕ) (xs ys : List ℕ) (same : (k : ℕ) → times k xs ≡ times k ys)
+    (pos : (k : ℕ) → 0 < times k xs → 1 ≤ k) where
+  allowed : (p : Policy) → allows p (firstUndefined S files xs) ≡ true → allows p (firstUndefined S files ys) ≡ true
+  allowed Strict e = eq-eqb _ 0 (undefined-same S files xs ys same pos (eqb-true _ 0 e))
+  allowed Lenient e = refl
+
+  -- 14 to 20, and 22
+  relocates-same : relocateVerdict S files xs policy words ≡ Passed → relocateVerdict S files ys policy words ≡ Passed
+  unfolding relocateVerdict unless
+  relocates-same v =
+      let a = first-passed (orderVerdict S files xs) _ v in
+      let b = first-passed (unless (allows policy (firstUndefined S files xs)) 19 (firstUndefined S files xs)) _ (a .1) in
+      let c = unless-passed (leb (length (orderWords S files xs)) words) 20 0 (b .1) in
+      let d : leb (length (orderWords S files ys)) words ≡ true = ap (λ (n : ℕ). leb n words) (sym (lengths-same S files xs ys same)) ∙ c in
+      rw (verdicts-same S files xs ys same (a .0), allowed policy (unless-passed (allows policy (firstUndefined S files xs)) 19 _ (b .0)), d)
+
+-- the bytes
+bytes-same :
+    (setting : Setting) (size : ℕ) (h p : File) (fs : List File) → loadFrom setting size 0 0 (h ∷ (p ∷ fs)) ≡ Passed
+    → libraryCopies (h ∷ (p ∷ fs)) ≡ false
+    → (xs ys : List ℕ) → OnceEach (count (objsOf (objectFrom setting) h p fs)) xs → OnceEach (count (objsOf (objectFrom setting) h p fs)) ys
+    → orderVerdict (objsOf (objectFrom setting) h p fs) (h ∷ (p ∷ fs)) xs ≡ Passed
+    → bound (objsOf (objectFrom setting) h p fs) xs ≡ bound (objsOf (objectFrom setting) h p fs) ys
+bytes-same setting size h p fs v none xs ys o o′ w =
+    fun-ext
+    (order-free (objsOf (objectFrom setting) h p fs) xs ys (set-sound setting size h p fs v xs o w) (only-program setting size h p fs v none) o o′)
+
+set-bytes :
+    (setting : Setting) (size : ℕ) (os : List Input) → Shape os → loadFrom setting size 0 0 (filesOf os) ≡ Passed → libraryCopies (filesOf os) ≡ false
+    → (xs ys : List ℕ) → OnceEach (length (namesOf os) + 2) xs → OnceEach (length (namesOf os) + 2) ys
+    → orderVerdict (objectsIn setting os) (filesOf os) xs ≡ Passed
+    → bound (objectsIn setting os) xs ≡ bound (objectsIn setting os) ys
+unfolding objectsOf
+set-bytes setting size os s v none xs ys o o′ w =
+    let fs : List File = map fileOf (s .libs) in
+    let files : filesOf os ≡ hostFile (s .host) ∷ (fileOf (s .program) ∷ fs) = ap filesOf (s .is) ∙ files-are (s .host) (s .program) (s .libs) in
+    let n : length (namesOf os) + 2 ≡ count (objsOf (objectFrom setting) (hostFile (s .host)) (fileOf (s .program)) fs) =
+    omega (arith, ap (λ (l : List Input). length (namesOf l)) (s .is), names-length (s .host) (s .program) (s .libs),
+    length-map (s .libs) fileOf, count-is setting size (hostFile (s .host)) (fileOf (s .program)) fs) in
+    rw files
+    (bytes-same setting size (hostFile (s .host)) (fileOf (s .program)) fs (rw files at v) (rw files at none) xs ys
+    (subst (λ (i : ℕ). OnceEach i xs) n o) (subst (λ (i : ℕ). OnceEach i ys) n o′) (rw files at w))
+
+module _ (setting : Setting) (sheet bytes : List ℕ) (size : ℕ) (policy : Policy) (words : ℕ) (order : List ℕ)
+    (none : libraryCopies (filesOf (setOf sheet bytes)) ≡ false) (is : isOrder (length (namesOf (setOf sheet bytes))) order ≡ true) where
+  abbrev os : List Input
+  os = setOf sheet bytes
+
+  abbrev S : Objs
+  S = objectsIn setting os
+
+  abbrev own : List ℕ
+  own = orderIn os
+
+  once : OnceEach (length (namesOf os) + 2) order
+  once = order-once (length (namesOf os)) order is
+
+  once-own : OnceEach (length (namesOf os) + 2) own
+  once-own = set-order (filesOf os) (namesOf os)
+
+  same : (k : ℕ) → times k order ≡ times k own
+  same = once-times (length (namesOf os) + 2) order own once once-own
+
+  pos : (xs : List ℕ) → OnceEach (length (namesOf os) + 2) xs → (k : ℕ) → 0 < times k xs → 1 ≤ k
+  pos xs o k h = once-among (length (namesOf os) + 2) xs (omega arith) o k h .0
+
+  loaded-same :
+      sheetVerdict setting sheet bytes size ≡ Passed → (w w′ : Verdict) → relocateVerdict S (filesOf os) order policy words ≡ w
+      → relocateVerdict S (filesOf os) own policy words ≡ w′
+      → SameBinding (outcomeOf size words w (tab size (bound S order)) (orderWords S (filesOf os) order))
+      (outcomeOf size words w′ (tab size (bound S own)) (orderWords S (filesOf os) own))
+  unfolding outcomeOf
+  loaded-same v (Refused n k) (Refused n′ k′) e e′ = record { bound = refl; arena = refl; words = λ j. refl }
+  loaded-same v Passed (Refused n k) e e′ =
+      refused-not n k (sym e′ ∙ relocates-same S (filesOf os) policy words order own same (pos order once) e)
+  loaded-same v (Refused n k) Passed e e′ =
+      refused-not n k (sym e ∙ relocates-same S (filesOf os) policy words own order (λ j. sym (same j)) (pos own once-own) e′)
+  loaded-same v Passed Passed e e′ =
+      let p = prepared sheet bytes setting size (sheet-prepared sheet bytes setting size v) in
+      let c = counts sheet bytes (p .sheet-ok) in
+      let small : (xs : List ℕ) → OnceEach (length (namesOf os) + 2) xs → (j : ℕ) → 0 < times j xs → j < 2 ^ 28 =
+      λ xs o j h. let r = once-among (length (namesOf os) + 2) xs (omega arith) o j h in omega (arith, c .few) in
+      record {
+        bound = refl;
+        arena = ap (tab size)
+            (set-bytes setting size os (sheet-shape sheet bytes (length bytes) (p .sheet-ok)) (p .loads) none order own once once-own
+            (passes e));
+        words = λ k.
+            order-words k S (filesOf os) false order (words - length (orderWords S (filesOf os) order)) (small order once)
+            ∙ (ap (λ (n : ℕ). alike k n) (same k)
+            ∙ sym (order-words k S (filesOf os) false own (words - length (orderWords S (filesOf os) own)) (small own once-own)));
+      }
+    where
+      passes : relocateVerdict S (filesOf os) order policy words ≡ Passed → orderVerdict S (filesOf os) order ≡ Passed
+      passes q = relocated-order S (filesOf os) order policy words q
+
+  set-same : (v : Verdict) → sheetVerdict setting sheet bytes size ≡ v → SameBinding (bindIn setting v (filesOf os) order size policy words) (bindIn setting v (filesOf os) own size policy words)
+  unfolding bindIn outcomeOf
+  set-same (Refused n k) e = record { bound = refl; arena = refl; words = λ j. refl }
+  set-same Passed e = loaded-same e _ _ refl refl
