@@ -2,7 +2,7 @@
  *
  * Link with libexport.a, which `rt staticlib export` writes to target/staticlib/. It needs memcpy and memset, and nothing else.
  *
- * Both functions:
+ * All functions:
  * - answer every call that keeps to "What the caller owes"; what they answer is proved, for any contents of the slices, refused calls too
  *   (crates/export/src/lib.rt, crates/export/specs/Calls.antt);
  * - keep no pointer, allocate nothing, have no global state, and may run in several threads at once over different memory;
@@ -25,7 +25,7 @@
 extern "C" {
 #endif
 
-/* The answer of both functions is 0, or a refusal: its number in the low 32 bits, its object in the high 32.
+/* The answer of every function is 0, or a refusal: its number in the low 32 bits, its object in the high 32.
  * Objects: the host is 0, the program 1, libraries are numbered from 2 in the order of the sheet.
  *
  *  no.  object    refused because
@@ -50,6 +50,8 @@ extern "C" {
  *                 chain that leads outside its table or does not end. Table bytes are those of the object that are in no writable
  *                 segment; of the host, all. The host's relocation tables are not read
  *   13  0         lugwormpin_query only: the requester is no object of the set
+ *   35  0         lugwormpin_bind_ordered only: the order does not list each library once, then the program, and nothing else; or a library has a
+ *                 relocation entry of type 5 and the order is not the one that lugwormpin_bind takes
  *   14  not 0     a relocation entry of type 1, 2, 5, 6, 7, 10, 11 or 24 has a symbol index at or above the symbol count, where that is known
  *   15  not 0     that symbol or its name is not in table bytes
  *   16  not 0     a relocation entry of type 37 (R_X86_64_IRELATIVE)
@@ -59,8 +61,9 @@ extern "C" {
  *   20  0         the report is too short
  *   22  not 0     after 17: a result of 32 bits (types 2, 10 and 11) does not fit
  *
- * The first refusal in this order is answered: 4 to 12 and 21 object by object, 14 to 18 and 22 entry by entry in binding order. lugwormpin_bind
- * answers all but 13, lugwormpin_query 1 to 13 and 21. */
+ * The first refusal in this order is answered: 4 to 12 and 21 object by object, 14 to 18 and 22 entry by entry in binding order, which is the
+ * order that is handed in where one is. lugwormpin_bind answers all but 13 and 35, lugwormpin_bind_ordered all but 13, lugwormpin_query 1 to 13
+ * and 21. */
 #define LUGWORMPIN_NUMBER(answer) ((uint32_t)(answer))
 #define LUGWORMPIN_OBJECT(answer) ((uint32_t)((answer) >> 32))
 
@@ -81,6 +84,17 @@ extern "C" {
  * Returns 0 where the set is bound, else the refusal; then arena and report are all 0. */
 uint64_t lugwormpin_bind(const uint32_t *sheet, size_t sheet_len, const uint8_t *bytes, size_t bytes_len, uint8_t *arena, size_t arena_len,
                          uint64_t address, uint32_t strict, uint32_t *report, size_t report_len);
+
+/* Binds a set in an order of the caller's.
+ *
+ * sheet to report     as above; the report is in the order that is handed in
+ * order, order_len    object numbers: each library once, then 1, the program. Where a library has a relocation entry of type 5 (COPY) only the order
+ *                     of lugwormpin_bind is taken, each library after those that it needs. For all other sets every order is bound where
+ *                     lugwormpin_bind binds the set, and leaves the same arena
+ *
+ * Returns 0 where the set is bound, else the refusal; then arena and report are all 0. */
+uint64_t lugwormpin_bind_ordered(const uint32_t *sheet, size_t sheet_len, const uint8_t *bytes, size_t bytes_len, uint8_t *arena, size_t arena_len,
+                                 uint64_t address, uint32_t strict, uint32_t *report, size_t report_len, const uint32_t *order, size_t order_len);
 
 /* The address of a name, as an object of the set would find it.
  *

@@ -57,11 +57,11 @@ once-among n order two o k h = go (decide (eqb 1 k)) (rw (ap (times k) (o .split
 -- ---- sums over a list
 
 module _ (g : ℕ → ℕ) where
-  sum : List ℕ → ℕ
+  unfoldable sum : List ℕ → ℕ
   sum [] = 0
   sum (x ∷ xs) = g x + sum xs
 
-without : ℕ → List ℕ → List ℕ
+unfoldable without : ℕ → List ℕ → List ℕ
 without x [] = []
 without x (y ∷ ys) = pick (eqb y x) ys (y ∷ without x ys)
 
@@ -166,6 +166,11 @@ module _ (S : Objs) (files : List File) where
 
 -- ---- the words of one object in a report
 
+-- a list `n` times
+unfoldable pub again : ℕ → List ℕ → List ℕ
+again zero ws = []
+again (suc n) ws = ws ++ again n ws
+
 module _ (k : ℕ) where
   -- a word of another kind than 5, which is not 0
   other-word :
@@ -219,11 +224,6 @@ module _ (k : ℕ) where
   zero-words false zero = refl
   zero-words true (suc n) = zero-words true n
   zero-words false (suc n) = zero-words false n
-
-  -- a list `n` times
-  again : ℕ → List ℕ → List ℕ
-  again zero ws = []
-  again (suc n) ws = ws ++ again n ws
 
   module _ (S : Objs) (files : List File) where
     object-words :

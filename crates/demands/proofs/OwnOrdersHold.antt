@@ -7,7 +7,7 @@ use Prim.Native.Nat.{ℕ, _+_, _-_, _^_, _≤_, _<_}
 use native.Mathlib.Omega.{arith}
 use borrow.Author.Tests.{eqb-true, eq-eqb}
 use lib.Dec.{eqb, leb}
-use lib.ListN.{length, replicate, length-map}
+use lib.ListN.{length, getD, replicate, length-map}
 use Rattle.words.specs.Choice.{pick, both, either, every, some}
 use Rattle.words.specs.Names.{sameBytes}
 use Rattle.words.specs.Memory.{tab}
@@ -29,8 +29,8 @@ use Rattle.binder.specs.declared.Verdict.{Verdict}
 use Rattle.binder.specs.declared.Verdict.the-variants.{Passed, Refused}
 use Rattle.binder.specs.Setting.{Setting}
 use Rattle.binder.specs.Instance.{File, objectFrom}
-use Rattle.binder.specs.Verdict.{first, orderVerdict}
-use Rattle.binder.specs.Report.{orderWords, firstUndefined}
+use Rattle.binder.specs.Verdict.{first, noFile, orderVerdict}
+use Rattle.binder.specs.Report.{objectWords, orderWords, firstUndefined}
 use Rattle.binder.specs.SetOrder.{setOrder}
 use Rattle.binder.specs.Steps.Prepared.{loadFrom}
 use Rattle.binder.specs.Bind.{
@@ -70,7 +70,7 @@ use Rattle.demands.specs.OwnOrders.{
 }
 use Rattle.demands.proofs.PassedSet.{prepared, sheet-prepared, counts}
 use Rattle.demands.proofs.ProgramCopies.{only-program}
-use Rattle.demands.proofs.OrdersAlike.{once-times, once-among, verdicts-same, undefined-same, lengths-same, order-words}
+use Rattle.demands.proofs.OrdersAlike.{once-times, once-among, verdicts-same, undefined-same, lengths-same, again, order-words}
 use Rattle.demands.proofs.OrderReported.{reported-numbers}
 use Rattle.demands.proofs.RefusalNumbers.{Meets, first-then, unless-meets}
 use Rattle.demands.proofs.RefusalsHold.{Right, prepare-right, relocate-right, refused-outcome, bind-lengths, room}
@@ -160,6 +160,10 @@ free-taken :
 unfolding mayTake
 free-taken files names order c o = rw (o, c) (either-last (sameBytes order (setOrder files names)))
 
+taken-none : (v : Verdict) {t : Bool} → t ≡ true → first v (unless t 35 0) ≡ v
+unfolding unless
+taken-none v e = rw e (first-none v)
+
 module _ (S : Objs) (files : List File) (policy : Policy) (words : ℕ) (xs ys : List ℕ) (same : (k : ℕ) → times k xs ≡ times k ys)
     (pos : (k : ℕ) → 0 < times k xs → 1 ≤ k) where
   allowed : (p : Policy) → allows p (firstUndefined S files xs) ≡ true → allows p (firstUndefined S files ys) ≡ true
@@ -231,7 +235,7 @@ module _ (setting : Setting) (sheet bytes : List ℕ) (size : ℕ) (policy : Pol
       → relocateVerdict S (filesOf os) own policy words ≡ w′
       → SameBinding (outcomeOf size words w (tab size (bound S order)) (orderWords S (filesOf os) order))
       (outcomeOf size words w′ (tab size (bound S own)) (orderWords S (filesOf os) own))
-  unfolding outcomeOf
+  unfolding outcomeOf relocateVerdict
   loaded-same v (Refused n k) (Refused n′ k′) e e′ = record { bound = refl; arena = refl; words = λ j. refl }
   loaded-same v Passed (Refused n k) e e′ =
       refused-not n k (sym e′ ∙ relocates-same S (filesOf os) policy words order own same (pos order once) e)
@@ -246,17 +250,86 @@ module _ (setting : Setting) (sheet bytes : List ℕ) (size : ℕ) (policy : Pol
         bound = refl;
         arena = ap (tab size)
             (set-bytes setting size os (sheet-shape sheet bytes (length bytes) (p .sheet-ok)) (p .loads) none order own once once-own
-            (passes e));
+            (first-passed (orderVerdict S (filesOf os) order) _ e .0));
         words = λ k.
             order-words k S (filesOf os) false order (words - length (orderWords S (filesOf os) order)) (small order once)
-            ∙ (ap (λ (n : ℕ). alike k n) (same k)
+            ∙ (ap (λ (n : ℕ). again n (objectWords S k (getD (filesOf os) k noFile))) (same k)
             ∙ sym (order-words k S (filesOf os) false own (words - length (orderWords S (filesOf os) own)) (small own once-own)));
       }
-    where
-      passes : relocateVerdict S (filesOf os) order policy words ≡ Passed → orderVerdict S (filesOf os) order ≡ Passed
-      passes q = relocated-order S (filesOf os) order policy words q
 
   set-same : (v : Verdict) → sheetVerdict setting sheet bytes size ≡ v → SameBinding (bindIn setting v (filesOf os) order size policy words) (bindIn setting v (filesOf os) own size policy words)
   unfolding bindIn outcomeOf
   set-same (Refused n k) e = record { bound = refl; arena = refl; words = λ j. refl }
   set-same Passed e = loaded-same e _ _ refl refl
+
+pub orders-free : OrderFree
+orders-free setting sheet bytes size policy words order none is =
+    let v : Verdict = sheetVerdict setting sheet bytes size in
+    let taken : mayTake (filesOf (setOf sheet bytes)) (namesOf (setOf sheet bytes)) order ≡ true =
+    free-taken (filesOf (setOf sheet bytes)) (namesOf (setOf sheet bytes)) order none is in
+    rw (ordered-one setting sheet bytes size policy words order, bind-one setting sheet bytes size policy words, taken-none v taken)
+    (set-same setting sheet bytes size policy words order none is v refl)
+
+-- ---- the report
+
+pub order-used : OrderUsed
+unfolding bindIn mayTake
+order-used setting sheet bytes size policy words order arena report e =
+    let os : List Input = setOf sheet bytes in
+    let o = bound-outcome size words _ _ _ arena report (sym (ordered-one setting sheet bytes size policy words order) ∙ e) in
+    let a = first-passed (first (sheetVerdict setting sheet bytes size) (unless (mayTake (filesOf os) (namesOf os) order) 35 0)) _ (o .0) in
+    let b = first-passed (sheetVerdict setting sheet bytes size) (unless (mayTake (filesOf os) (namesOf os) order) 35 0) (a .0) in
+    let t = unless-passed (mayTake (filesOf os) (namesOf os) order) 35 0 (b .1) in
+    let c = counts sheet bytes (sheet-prepared sheet bytes setting size (b .0) .0) in
+    let once = order-once (length (namesOf os)) order (both-true (isOrder (length (namesOf os)) order) _ t .0) in (
+      ap (λ (l : List ℕ). numbersOf 5 l) (o .2)
+          ∙ reported-numbers (objectsIn setting os) (filesOf os) order (words - length (orderWords (objectsIn setting os) (filesOf os) order))
+          (λ k h. let r = once-among (length (namesOf os) + 2) order (omega arith) once k (count-has k order h) in omega (arith, c .few)),
+      subst (λ (n : ℕ). OnceEach n order) (c .all) once,
+    )
+
+-- ---- demand 1
+
+abbrev Ordered : ℕ → ℕ → ℕ → Type 0
+Ordered count n k = Right BindNumber count n k ⊎ ((n ≡ 35) × (k ≡ 0))
+
+weaker : (count : ℕ) (v : Verdict) → Meets (Right BindNumber count) v → Meets (Ordered count) v
+weaker count Passed m = tt
+weaker count (Refused n k) m = inl m
+
+ordered-right :
+    (setting : Setting) (sheet bytes : List ℕ) (size : ℕ) (policy : Policy) (words : ℕ) (order : List ℕ)
+    → Meets (Ordered (length (setOf sheet bytes)))
+    (first (first (sheetVerdict setting sheet bytes size) (unless (mayTake (filesOf (setOf sheet bytes)) (namesOf (setOf sheet bytes)) order) 35 0))
+    (relocateVerdict (objectsIn setting (setOf sheet bytes)) (filesOf (setOf sheet bytes)) order policy words))
+unfolding mayTake
+ordered-right setting sheet bytes size policy words order =
+    let os : List Input = setOf sheet bytes in
+    let taken : Bool = mayTake (filesOf os) (namesOf os) order in
+    first-then (Ordered (length os)) (first (sheetVerdict setting sheet bytes size) (unless taken 35 0)) _
+    (first-then (Ordered (length os)) (sheetVerdict setting sheet bytes size) (unless taken 35 0)
+    (weaker (length os) (sheetVerdict setting sheet bytes size)
+    (prepare-right setting sheet bytes size BindNumber (λ n l h. omega arith) (omega arith)))
+    (λ v. unless-meets (Ordered (length os)) taken 35 0 (λ f. inr (refl, refl))))
+    (λ v.
+    let a = first-passed (sheetVerdict setting sheet bytes size) (unless taken 35 0) v in
+    let t = unless-passed taken 35 0 (a .1) in
+    let once = order-once (length (namesOf os)) order (both-true (isOrder (length (namesOf os)) order) _ t .0) in
+    weaker (length os) (relocateVerdict (objectsIn setting os) (filesOf os) order policy words)
+    (relocate-right setting sheet bytes size BindNumber (λ n l h ne. omega arith) (sheet-prepared sheet bytes setting size (a .0) .0) order
+    (λ k h. once-among (length (namesOf os) + 2) order (omega arith) once k (count-has k order h)) policy words))
+
+pub ordered-answers : OrderedAnswers
+unfolding bindIn
+ordered-answers =
+    record {
+      refused = λ setting sheet bytes size policy words order n k arena report e.
+          let o = refused-outcome (Ordered (length (setOf sheet bytes))) size words _ _ _ n k arena report
+          (ordered-right setting sheet bytes size policy words order) (sym (ordered-one setting sheet bytes size policy words order) ∙ e) in
+          record { number = o .0; arena-zeros = o .1; report-zeros = o .2 };
+      lengths = λ setting sheet bytes size policy words order x arena report e.
+          bind-lengths size words _ _ _ x arena report (length-tab size _)
+          (room (objectsIn setting (setOf sheet bytes)) (filesOf (setOf sheet bytes)) order policy words
+          (first (sheetVerdict setting sheet bytes size) (unless (mayTake (filesOf (setOf sheet bytes)) (namesOf (setOf sheet bytes)) order) 35 0)))
+          (sym (ordered-one setting sheet bytes size policy words order) ∙ e);
+    }
