@@ -118,7 +118,8 @@ order-report setting sheet bytes size policy words arena report e =
     let c = counts sheet bytes (p .sheet-ok) in
     let is : numbersOf 5 report ≡ orderIn os =
     ap (λ (l : List ℕ). numbersOf 5 l) (p .report-is)
-    ∙ reported-numbers (objectsIn setting os) (filesOf os) (orderIn os) _ (order-small (filesOf os) (namesOf os) (c .few)) in
+    ∙ reported-numbers (objectsIn setting os) (filesOf os) (orderIn os)
+    (words - length (orderWords (objectsIn setting os) (filesOf os) (orderIn os))) (order-small (filesOf os) (namesOf os) (c .few)) in
     record {
       order = is;
       once = rw is (subst (λ (n : ℕ). OnceEach n (orderIn os)) (c .all) (set-order (filesOf os) (namesOf os)));

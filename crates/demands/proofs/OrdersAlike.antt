@@ -99,7 +99,7 @@ times-more k x xs ys e = go (eqb x k) refl
     go true t = let s : suc (times k xs) ≡ suc (times k ys) = rw t at e in omega arith
     go false t = rw t at e
 
-pub sums-same : (g : ℕ → ℕ) (xs ys : List ℕ) → ((k : ℕ) → times k xs ≡ times k ys) → sum g xs ≡ sum g ys
+sums-same : (g : ℕ → ℕ) (xs ys : List ℕ) → ((k : ℕ) → times k xs ≡ times k ys) → sum g xs ≡ sum g ys
 unfolding sum
 sums-same g [] [] same = refl
 sums-same g [] (y ∷ ys) same = absurd (omega (arith, same y, times-head y ys))

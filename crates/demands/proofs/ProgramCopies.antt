@@ -24,56 +24,43 @@ use Rattle.binder.proofs.SoundLaws.{count-is, object-is, from-pick}
 
 -- ---- one entry
 
-unfoldable isCopies : Row → Bool
-isCopies ignored = false
-isCopies passedOver = false
-isCopies turnedAway = false
-isCopies (writes s f) = false
-isCopies copies = true
+-- a row that does not copy
+data Plain : Row → Type 0 where
+  is-ignored : Plain ignored
+  is-passed : Plain passedOver
+  is-away : Plain turnedAway
+  is-written : (s : Search) (f : Calculation) → Plain (writes s f)
 
-module _ {x y : Row} where
-  pick-false : (b : Bool) → isCopies x ≡ false → isCopies y ≡ false → isCopies (pick b x y) ≡ false
-  pick-false true p q = p
-  pick-false false p q = q
-
-none-ignored : isCopies ignored ≡ false
-unfolding isCopies
-none-ignored = refl
-
-none-passed : isCopies passedOver ≡ false
-unfolding isCopies
-none-passed = refl
-
-none-away : isCopies turnedAway ≡ false
-unfolding isCopies
-none-away = refl
-
-none-writes : {s : Search} {f : Calculation} → isCopies (writes s f) ≡ false
-unfolding isCopies
-none-writes = refl
+pick-plain : {x y : Row} (b : Bool) → Plain x → Plain y → Plain (pick b x y)
+pick-plain true p q = p
+pick-plain false p q = q
 
 -- only the row of type 5 copies
-row-copies : (t : ℕ) → eqb t 5 ≡ false → isCopies (rowOf t) ≡ false
+row-plain : (t : ℕ) → eqb t 5 ≡ false → Plain (rowOf t)
 unfolding rowOf
-row-copies t h =
+row-plain t h =
     rw h
-    (pick-false (eqb t 0) none-ignored
-    (pick-false (eqb t 1) none-writes
-    (pick-false (eqb t 2) none-writes
-    (pick-false (eqb t 6) none-writes
-    (pick-false (eqb t 7) none-writes
-    (pick-false (eqb t 8) none-writes
-    (pick-false (eqb t 10) none-writes
-    (pick-false (eqb t 11) none-writes (pick-false (eqb t 24) none-writes (pick-false (eqb t 37) none-away none-passed))))))))))
+    (pick-plain (eqb t 0) is-ignored
+    (pick-plain (eqb t 1) (is-written _ _)
+    (pick-plain (eqb t 2) (is-written _ _)
+    (pick-plain (eqb t 6) (is-written _ _)
+    (pick-plain (eqb t 7) (is-written _ _)
+    (pick-plain (eqb t 8) (is-written _ _)
+    (pick-plain (eqb t 10) (is-written _ _)
+    (pick-plain (eqb t 11) (is-written _ _) (pick-plain (eqb t 24) (is-written _ _) (pick-plain (eqb t 37) is-away is-passed))))))))))
+
+neither : (a b : Bool) → either a b ≡ false → (a ≡ false) × (b ≡ false)
+neither true b e = absurd (true≢false e)
+neither false b e = (refl, e)
 
 module _ (image : List ℕ) (r : Record) (base : ℕ) where
-  entry-not : (e : Rela) (x : Row) → isCopies x ≡ false → NotCopy (entryBy image r base e x)
-  unfolding entryBy isCopies
-  entry-not e ignored z = tt
-  entry-not e passedOver z = tt
-  entry-not e turnedAway z = tt
-  entry-not e (writes noSearch f) z = tt
-  entry-not e (writes (inScope searched) f) z = go (searched (e .symbol))
+  entry-not : (e : Rela) {x : Row} → Plain x → NotCopy (entryBy image r base e x)
+  unfolding entryBy
+  entry-not e is-ignored = tt
+  entry-not e is-passed = tt
+  entry-not e is-away = tt
+  entry-not e (is-written noSearch f) = tt
+  entry-not e (is-written (inScope searched) f) = go (searched (e .symbol))
     where
       go :
           (b : Bool)
@@ -83,20 +70,15 @@ module _ (image : List ℕ) (r : Record) (base : ℕ) where
           (fixed (e .place) (f .width) (f .value 0 (e .addend) base (base + e .place))))
       go true = tt
       go false = tt
-  entry-not e copies z = absurd (true≢false z)
-
-  none-first : (a b : Bool) → either a b ≡ false → (a ≡ false) × (b ≡ false)
-  none-first true b e = absurd (true≢false e)
-  none-first false b e = (refl, e)
 
   entries-not : (es : List Rela) → some isCopy es ≡ false → (x : Entry) → List·Memᴰ x (map (entryOf image r base) es) → NotCopy x
   unfolding some
   entries-not [] z x m = absurd (List·Memᴰ·not-nil m)
   entries-not (e ∷ es) z x m =
-      let a = none-first (isCopy e) (some isCopy es) z in
+      let a = neither (isCopy e) (some isCopy es) z in
       ⊎-elim
       (λ (t : x ≡ entryOf image r base e).
-      subst (λ (y : Entry). NotCopy y) (sym t) (entry-not e (rowOf (e .rtype)) (row-copies (e .rtype) (a .0))))
+      subst (λ (y : Entry). NotCopy y) (sym t) (entry-not e (row-plain (e .rtype) (a .0))))
       (λ (t : List·Memᴰ x (map (entryOf image r base) es)). entries-not es (a .1) x t)
       (List·Memᴰ·cases-cons m)
 
@@ -105,16 +87,8 @@ module _ (image : List ℕ) (r : Record) (base : ℕ) where
 none-at : (fs : List File) (j : ℕ) → some hasCopy fs ≡ false → j < length fs → hasCopy (getD fs j noFile) ≡ false
 unfolding some
 none-at [] j z h = absurd (omega arith)
-none-at (f ∷ fs) zero z h = first-of (hasCopy f) (some hasCopy fs) z .0
-  where
-    first-of : (a b : Bool) → either a b ≡ false → (a ≡ false) × (b ≡ false)
-    first-of true b e = absurd (true≢false e)
-    first-of false b e = (refl, e)
-none-at (f ∷ fs) (suc j) z h = none-at fs j (first-of (hasCopy f) (some hasCopy fs) z) (omega arith)
-  where
-    first-of : (a b : Bool) → either a b ≡ false → b ≡ false
-    first-of true b e = absurd (true≢false e)
-    first-of false b e = e
+none-at (f ∷ fs) zero z h = neither (hasCopy f) (some hasCopy fs) z .0
+none-at (f ∷ fs) (suc j) z h = none-at fs j (neither (hasCopy f) (some hasCopy fs) z .1) (omega arith)
 
 pub only-program :
     (setting : Setting) (size : ℕ) (h p : File) (fs : List File) → loadFrom setting size 0 0 (h ∷ (p ∷ fs)) ≡ Passed → libraryCopies (h ∷ (p ∷ fs)) ≡ false
