@@ -222,9 +222,12 @@ once-order n order o =
     let many : length (o .front) + 1 ≡ length order = sym (ap length (o .split) ∙ length-append (o .front) (1 ∷ [])) in
     let w : getD order (length order - 1) 0 ≡ 1 = last (o .front) order (o .split) in
     let f : take (length order - 1) order ≡ o .front = firsts (o .front) order (o .split) in
-    rw (eq-eqb _ _ w, f,
-    has-every (λ k. eqb (times k (o .front)) 1) (upFrom 2 n)
-    (λ k h. let r = up-has 2 n k h in eq-eqb _ _ (o .once k (r .0) (omega arith))))
+    rw (
+      eq-eqb _ _ w,
+      f,
+      has-every (λ k. eqb (times k (o .front)) 1) (upFrom 2 n)
+          (λ k h. let r = up-has 2 n k h in eq-eqb _ _ (o .once k (r .0) (omega arith))),
+    )
     (has-every (listed n) (o .front) (λ k h. let r = o .only k (count-has k (o .front) h) in range-listed n k (r .0) (r .1)))
   where
     last : (xs ys : List ℕ) → ys ≡ xs ++ (1 ∷ []) → getD ys (length ys - 1) 0 ≡ 1
@@ -244,7 +247,6 @@ once-order n order o =
         start : (zs : List ℕ) → take (length zs) (zs ++ (1 ∷ [])) ≡ zs
         start [] = refl
         start (z ∷ zs) = ap (λ (r : List ℕ). z ∷ r) (start zs)
-
 
 -- words of another number are none
 pub other-length : (n : ℕ) (order : List ℕ) → (length order ≡ n + 1 → ⊥) → isOrder n order ≡ false

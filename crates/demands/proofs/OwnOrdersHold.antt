@@ -201,8 +201,13 @@ set-bytes setting size os s v none xs ys o o′ w =
     let fs : List File = map fileOf (s .libs) in
     let files : filesOf os ≡ hostFile (s .host) ∷ (fileOf (s .program) ∷ fs) = ap filesOf (s .is) ∙ files-are (s .host) (s .program) (s .libs) in
     let n : length (namesOf os) + 2 ≡ count (objsOf (objectFrom setting) (hostFile (s .host)) (fileOf (s .program)) fs) =
-    omega (arith, ap (λ (l : List Input). length (namesOf l)) (s .is), names-length (s .host) (s .program) (s .libs),
-    length-map (s .libs) fileOf, count-is setting size (hostFile (s .host)) (fileOf (s .program)) fs) in
+    omega (
+      arith,
+      ap (λ (l : List Input). length (namesOf l)) (s .is),
+      names-length (s .host) (s .program) (s .libs),
+      length-map (s .libs) fileOf,
+      count-is setting size (hostFile (s .host)) (fileOf (s .program)) fs,
+    ) in
     rw files
     (bytes-same setting size (hostFile (s .host)) (fileOf (s .program)) fs (rw files at v) (rw files at none) xs ys
     (subst (λ (i : ℕ). OnceEach i xs) n o) (subst (λ (i : ℕ). OnceEach i ys) n o′) (rw files at w))

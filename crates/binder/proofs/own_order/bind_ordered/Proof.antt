@@ -41,13 +41,12 @@ returns c =
     ∙ ordered-refused (settingAt (a .address)) (now (a .sheet)) (now (a .bytes)) (length (now (a .arena))) _ (c .before .before .before .before .before .before .before .before .before .parts-of .ensures) (a .policy) (length (now (a .report))) (now (a .order)) (c .before .before .before .before .before .before .before .if1 .taken)
 
 bind-set-ordered-requires : tie.Need-bind-set-ordered-requires
-bind-set-ordered-requires c κs =
-    (
-      omega (arith, c .before .before .if1 .left),
-      c .before .before .before .before .parts-of .ensures .few,
-      many-parts (c .before .before .before .before .parts-of .ensures) (now (c .before .before .before .before .before .before .before .before .before .before .before .before .before .before .args .bytes)),
-      c .before .before .before .before .before .before .before .clear-words .ensures ∙ ap (λ (n : ℕ). replicate n 0) (sym (c .before .before .before .before .before .before .before .clear-words .kept .0)),
-    )
+bind-set-ordered-requires c κs = (
+  omega (arith, c .before .before .if1 .left),
+  c .before .before .before .before .parts-of .ensures .few,
+  many-parts (c .before .before .before .before .parts-of .ensures) (now (c .before .before .before .before .before .before .before .before .before .before .before .before .before .before .args .bytes)),
+  c .before .before .before .before .before .before .before .clear-words .ensures ∙ ap (λ (n : ℕ). replicate n 0) (sym (c .before .before .before .before .before .before .before .clear-words .kept .0)),
+)
 
 finish-requires-2 : tie.Need-finish-requires-2
 finish-requires-2 c κs = search needs

@@ -57,9 +57,13 @@ loop-less c =
     counts-down (c .before .before .before .before .before .loop-test .taken)
 
 loop-again : tie.Need-loop-again Inv-loop μ-loop
-loop-again c =
-    (omega arith, omega arith, search needs, sym (some-up (copyAt (inputsIn (now (c .before .before .before .before .before .before .before .before .before .before .args .bytes)) (c .before .before .before .before .before .before .before .before .before .before .args .parts)) (now (c .before .before .before .before .before .before .before .before .before .before .args .arena)) (now (c .before .before .before .before .before .before .before .before .before .before .args .table))) (c .before .before .before .before .before .before .loop .k) (c .before .before .before .before .before .before .before .before .before .before .args .parts .count) false (c .before .before .before .before .before .loop-test .taken)
-    (rw (← c .before .before .before .before .link-at .ensures, ← c .before .before .before .part-of .ensures, ← c .before .before .file-of .ensures) (sym (c .before .has-copy .ensures) ∙ c .if1 .left))) ∙ c .before .before .before .before .before .before .loop .inv .3)
+loop-again c = (
+  omega arith,
+  omega arith,
+  search needs,
+  sym (some-up (copyAt (inputsIn (now (c .before .before .before .before .before .before .before .before .before .before .args .bytes)) (c .before .before .before .before .before .before .before .before .before .before .args .parts)) (now (c .before .before .before .before .before .before .before .before .before .before .args .arena)) (now (c .before .before .before .before .before .before .before .before .before .before .args .table))) (c .before .before .before .before .before .before .loop .k) (c .before .before .before .before .before .before .before .before .before .before .args .parts .count) false (c .before .before .before .before .before .loop-test .taken)
+      (rw (← c .before .before .before .before .link-at .ensures, ← c .before .before .before .part-of .ensures, ← c .before .before .file-of .ensures) (sym (c .before .has-copy .ensures) ∙ c .if1 .left))) ∙ c .before .before .before .before .before .before .loop .inv .3,
+)
 
 returns-2 : tie.Need-returns-2 Inv-loop μ-loop
 returns-2 c =
