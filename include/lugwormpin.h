@@ -6,7 +6,8 @@
  * - answer every call that keeps to "What the caller owes"; what they answer is proved, for any contents of the slices, refused calls too
  *   (crates/export/src/lib.rt, crates/export/specs/Calls.antt);
  * - keep no pointer, allocate nothing, have no global state, and may run in several threads at once over different memory;
- * - use about 54 KiB of stack (lugwormpin_bind) or 45 KiB (lugwormpin_query, lugwormpin_query_all), whatever the set: the sum of the compiled frames;
+ * - use about 54 KiB of stack (lugwormpin_bind), 59 KiB (lugwormpin_bind_ordered) or 45 KiB (lugwormpin_query, lugwormpin_query_all), whatever the set:
+ *   the sum of the compiled frames;
  * - end on every input, but a file can be made so that a call takes seconds (docs/BENCHMARKS.md): bound the size of files of unknown origin,
  *   or the time of the call.
  *
@@ -54,6 +55,8 @@ extern "C" {
  *   13  0         lugwormpin_query and lugwormpin_query_all only: the requester is no object of the set
  *   23  0         lugwormpin_query_all only, after 13: the last byte of the names is not zero, or the count of their zero bytes is not
  *                 addresses_len
+ *   35  0         lugwormpin_bind_ordered only: the order does not list each library once, then the program, and nothing else; or a library has a
+ *                 relocation entry of type 5 and the order is not the one that lugwormpin_bind takes
  *   14  not 0     an applied entry of type 1, 2, 5, 6, 7, 10, 11 or 24 has a symbol index at or above the symbol count, where that is known
  *   15  not 0     that symbol or its name is not in table bytes
  *   16  not 0     an entry of type 37 (R_X86_64_IRELATIVE), where that is marked refuse
@@ -64,8 +67,9 @@ extern "C" {
  *   20  0         the report is too short
  *   22  not 0     after 17: a result of 32 bits (types 2, 10 and 11) does not fit
  *
- * The first refusal in this order is answered: 4 to 12 and 21 object by object, 14 to 18, 22 and 25 entry by entry in binding order.
- * lugwormpin_bind answers all but 13 and 23, lugwormpin_query 1 to 13 and 21, lugwormpin_query_all these and 23. */
+ * The first refusal in this order is answered: 4 to 12 and 21 object by object, 14 to 18, 22 and 25 entry by entry in binding order, which is the
+ * order that is handed in where one is. lugwormpin_bind answers all but 13, 23 and 35, lugwormpin_bind_ordered all but 13 and 23, lugwormpin_query 1 to
+ * 13 and 21, lugwormpin_query_all these and 23. */
 #define LUGWORMPIN_NUMBER(answer) ((uint32_t)(answer))
 #define LUGWORMPIN_OBJECT(answer) ((uint32_t)((answer) >> 32))
 
@@ -95,6 +99,18 @@ void lugwormpin_types(uint32_t *types, size_t types_len);
  * Returns 0 where the set is bound, else the refusal; then arena and report are all 0. */
 uint64_t lugwormpin_bind(const uint32_t *sheet, size_t sheet_len, const uint8_t *bytes, size_t bytes_len, uint8_t *arena, size_t arena_len,
                          uint64_t address, uint32_t strict, const uint32_t *types, size_t types_len, uint32_t *report, size_t report_len);
+
+/* Binds a set in an order of the caller's.
+ *
+ * sheet to report     as above; the report is in the order that is handed in
+ * order, order_len    object numbers: each library once, then 1, the program. Where a library has a relocation entry of type 5 (COPY) only the order
+ *                     of lugwormpin_bind is taken, each library after those that it needs. For all other sets every order is bound where
+ *                     lugwormpin_bind binds the set, and leaves the same arena
+ *
+ * Returns 0 where the set is bound, else the refusal; then arena and report are all 0. */
+uint64_t lugwormpin_bind_ordered(const uint32_t *sheet, size_t sheet_len, const uint8_t *bytes, size_t bytes_len, uint8_t *arena, size_t arena_len,
+                                 uint64_t address, uint32_t strict, const uint32_t *types, size_t types_len, uint32_t *report, size_t report_len,
+                                 const uint32_t *order, size_t order_len);
 
 /* The address of a name, as an object of the set would find it.
  *

@@ -171,8 +171,16 @@ class Set:
             need(to + n <= start or start + n <= to, 18)
             self.arena[to : to + n] = self.arena[start : start + n]
 
-    def relocate(self):
-        for k in self.order():
+    def may_take(self, order):
+        """Document 02, (l): each library once, then the program; and where a library has an entry of type 5, document 01's order only."""
+        libraries = range(2, len(self.objects))
+        copies = any(o.u(table + 24 * i + 8, 4) == 5 for o in self.objects[2:] for table, n in ((o.rela, o.relas), (o.plt, o.plts)) for i in range(n))
+        return sorted(order[:-1]) == [*libraries] and order[-1:] == [1] and (not copies or order == self.order())
+
+    def relocate(self, order=None):
+        if order is not None and not self.may_take(order):
+            raise Stop(35, 0)
+        for k in order or self.order():
             o = self.objects[k]
             self.report.append(5 << 28 | k)
             try:
@@ -188,9 +196,10 @@ class Set:
 
 
 class Expected:
-    """What the rules say of a call to bind at any address, in any arena, with any report, policy and words of the types; of a query by ask()."""
+    """What the rules say of a call to bind at any address, in any arena, with any report, policy and words of the types, and in an order of the caller's
+    where one is given; of a query by ask()."""
 
-    def __init__(self, data, address, arena, words, strict, limit=INPUT, types=SUPPLIED):
+    def __init__(self, data, address, arena, words, strict, limit=INPUT, types=SUPPLIED, order=None):
         global ADDRESS, ARENA, WORDS, INPUT, TYPES
         ADDRESS, ARENA, WORDS, INPUT, TYPES = address, arena, 1 << 32, limit, types
         self.address, self.loaded, self.relocated, self.refusal = address, None, None, None
@@ -202,7 +211,7 @@ class Expected:
                 raise Stop(24, 0)
             self.loaded = Set(data)
             self.placed = bytes(self.loaded.arena)
-            self.loaded.relocate()
+            self.loaded.relocate(order)
             report, kinds = self.loaded.report, [w >> 28 for w in self.loaded.report]
             if strict and 6 in kinds:
                 last = max(i for i in range(kinds.index(6)) if kinds[i] == 5)

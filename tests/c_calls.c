@@ -55,6 +55,22 @@ static void bind(uint32_t strict, size_t report_len)
            zeros(arena, sizeof arena) ? "zeros" : "bound", zeros(report, report_len * 4) ? "zeros" : "words", report[report_len]);
 }
 
+/* Whether the arena is that of lugwormpin_bind, and the report's words. */
+static void ordered(size_t order_len, uint32_t first, uint32_t second, uint32_t third)
+{
+    static uint8_t bound[sizeof arena];
+    const uint32_t order[] = {first, second, third};
+    lugwormpin_bind(input + 1, words, bytes, bytes_len, bound, sizeof bound, 0x10000000, 0, types, types_len, report, 6);
+    memset(arena, 0xff, sizeof arena);
+    memset(report, 0xff, sizeof report);
+    uint64_t r = lugwormpin_bind_ordered(input + 1, words, bytes, bytes_len, arena, sizeof arena, 0x10000000, 0, types, types_len, report, 6, order, order_len);
+    printf("bind_ordered: %" PRIu32 " %" PRIu32 ", arena %s,", LUGWORMPIN_NUMBER(r), LUGWORMPIN_OBJECT(r),
+           zeros(arena, sizeof arena) ? "zeros" : memcmp(arena, bound, sizeof arena) ? "another" : "the same");
+    for (size_t i = 0; i < 7; i++)
+        printf(" %" PRIx32, report[i]);
+    printf("\n");
+}
+
 int main(int argc, char **argv)
 {
     FILE *file = argc == 2 ? fopen(argv[1], "rb") : NULL;
@@ -83,6 +99,11 @@ int main(int argc, char **argv)
     bind(0, 4);
     bind(0, 3);
     bind(1, 4);
+    ordered(3, 2, 3, 1);
+    ordered(3, 3, 2, 1);
+    ordered(3, 1, 2, 3);
+    ordered(2, 2, 3, 1);
+    ordered(0, 2, 3, 1);
     /* the words of the types: 63 of them, type 6 refused, type 6 passed over */
     types_len = 63;
     bind(0, 4);
@@ -94,6 +115,7 @@ int main(int argc, char **argv)
     bind(0, 12);
     lugwormpin_types(types, 7);
     words -= 1;
+    ordered(3, 2, 3, 1);
     ask(1, "a_call", 4);
     ask_all(1, "a_call", 7, 1);
     bind(0, 6);

@@ -34,6 +34,8 @@ pub mod RelativeLaws
 pub mod SymbolicLaws
 pub mod BitLaws
 pub mod BindIs
+pub mod OwnOrderLaws
+pub mod OwnOrderIs
 pub mod LoadsSame
 pub mod TypesLaws
 pub mod TypeWords

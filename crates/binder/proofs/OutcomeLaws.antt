@@ -49,7 +49,7 @@ verdict-passed n k e = eqb-true n 0 (picked (eqb n 0) n k e)
 
 -- ---- the answer `Bound`
 
-bound-outcome :
+pub bound-outcome :
     (size words : ℕ) (v : Verdict) (a r arena report : List ℕ) → outcomeOf size words v a r ≡ outcome Bound arena report
     → (v ≡ Passed) × (arena ≡ a) × (report ≡ r ++ replicate (words - length r) 0)
 unfolding outcomeOf

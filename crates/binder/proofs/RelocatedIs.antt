@@ -41,7 +41,7 @@ record Turns (n : ℕ) (order : List ℕ) : Type 0 where
   once : (j : ℕ) → times j order ≤ 1
   among : (j : ℕ) → 0 < times j order → (1 ≤ j) × (j < n)
 
-times-end : (j : ℕ) (front : List ℕ) → times j (front ++ (1 ∷ [])) ≡ times j front + pick (eqb 1 j) 1 0
+pub times-end : (j : ℕ) (front : List ℕ) → times j (front ++ (1 ∷ [])) ≡ times j front + pick (eqb 1 j) 1 0
 times-end j [] = ⊎-elim (λ (t : eqb 1 j ≡ true). rw t) (λ (t : eqb 1 j ≡ false). rw t) (decide (eqb 1 j))
 times-end j (x ∷ xs) =
     ⊎-elim (λ (t : eqb x j ≡ true). rw t (omega (arith, times-end j xs))) (λ (t : eqb x j ≡ false). rw t (times-end j xs)) (decide (eqb x j))

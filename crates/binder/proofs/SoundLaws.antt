@@ -33,10 +33,10 @@ use Rattle.binder.proofs.InsideLaws.{writable-inside, words-inside, ent
 -- ---- where an object stands
 
 -- `o` is the object of the file `f` at an offset, and ends within the arena
-record Stands (setting : Setting) (size : ℕ) (f : File) (o : Obj) : Type 0 where
-  off : ℕ
-  is : o ≡ objectAt setting f off
-  fits : off + objectSpan (f .host) (f .bytes) ≤ size
+pub record Stands (setting : Setting) (size : ℕ) (f : File) (o : Obj) : Type 0 where
+  pub off : ℕ
+  pub is : o ≡ objectAt setting f off
+  pub fits : off + objectSpan (f .host) (f .bytes) ≤ size
 
 module _ (setting : Setting) (size : ℕ) where
   stands :
@@ -62,7 +62,7 @@ module _ (setting : Setting) (size : ℕ) where
   unfolding layouts.objsOf
   count-is h p fs = omega (arith, layout-length fs (layouts.nextFree (objectFrom setting) p (layouts.nextFree (objectFrom setting) h 0)))
 
-  object-is :
+  pub object-is :
       (h p : File) (fs : List File) → loadFrom setting size 0 0 (h ∷ (p ∷ fs)) ≡ Passed → (k : ℕ) → k < count (objsOf (objectFrom setting) h p fs)
       → Stands setting size (getD (h ∷ (p ∷ fs)) k noFile) (obj (objsOf (objectFrom setting) h p fs) k)
   unfolding layouts.objsOf layouts.layout
@@ -81,7 +81,7 @@ module _ (setting : Setting) (size : ℕ) where
 
 -- ---- every object of the order is checked
 
-order-checked :
+pub order-checked :
     (row : ℕ → Row) (S : Objs) (files : List File) (order : List ℕ) → orderVerdict row S files order ≡ Passed → (k : ℕ) → 0 < times k order
     → objectVerdict row S k (getD files k noFile) ≡ Passed
 unfolding orderVerdict
@@ -113,7 +113,7 @@ in-order n order o k a b = rw (o .split) (go (decLe 2 k))
 
 -- ---- what is picked
 
-from-pick : {A : Type 0} {x : A} (t : Bool) (xs : List A) → List·Memᴰ x (pick t [] xs) → List·Memᴰ x xs
+pub from-pick : {A : Type 0} {x : A} (t : Bool) (xs : List A) → List·Memᴰ x (pick t [] xs) → List·Memᴰ x xs
 from-pick true xs m = absurd (List·Memᴰ·not-nil m)
 from-pick false xs m = m
 

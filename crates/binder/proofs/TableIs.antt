@@ -51,7 +51,7 @@ unfolding relasFrom
 relas-length image at i zero = refl
 relas-length image at i (suc c) = ap suc (relas-length image at (i + 1) c)
 
-some-append : {A : Type 0} (p : A → Bool) (xs ys : List A) → some p (xs ++ ys) ≡ either (some p xs) (some p ys)
+pub some-append : {A : Type 0} (p : A → Bool) (xs ys : List A) → some p (xs ++ ys) ≡ either (some p xs) (some p ys)
 unfolding some
 some-append p [] ys = refl
 some-append p (x ∷ xs) ys = ap (either (p x)) (some-append p xs ys) ∙ either-assoc (p x) (some p xs) (some p ys)

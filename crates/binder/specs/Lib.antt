@@ -5,4 +5,5 @@ pub mod Report
 pub mod SetOrder
 pub mod Bind
 pub mod QueryAll
+pub mod OwnOrder
 pub mod Steps

@@ -10,3 +10,4 @@ pub mod Needed
 pub mod Finished
 pub mod AllNames
 pub mod TypesBefore
+pub mod OrderTaken

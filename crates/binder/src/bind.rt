@@ -60,7 +60,7 @@ fn end(p: Progress, policy: Policy) -> Verdict
 }
 
 // Refusals 14 to 20, 22 and 25 of the objects that the table of parts names, which are loaded: they are relocated in any order of them.
-fn bind_in(
+pub(crate) fn bind_in(
     bytes: &[u8],
     parts: Parts,
     arena: &mut [u8],
@@ -100,8 +100,8 @@ fn bind_set(
     bind_in(bytes, parts, arena, policy, report, &table, order)
 }
 
-// The answer; a refusal leaves zeros. No other function clears after a refusal of `bind`.
-fn finish(m: Verdict, arena: &mut [u8], report: &mut [u32]) -> Answer
+// The answer; a refusal leaves zeros. No other function clears after a refusal of a call that binds.
+pub(crate) fn finish(m: Verdict, arena: &mut [u8], report: &mut [u32]) -> Answer
     ensures { λ r. ⌜ outcome r (now (arena .exit)) (now (report .exit)) ≡ finishedOf m (now (arena .entry)) (now (report .entry)) ⌝ }
 {
     let Verdict::Refused { number, object } = m else {

@@ -3,6 +3,7 @@ pub mod bind;
 pub mod copy;
 pub mod needs;
 pub mod order;
+pub mod own_order;
 pub mod prepare;
 pub mod query;
 pub mod query_all;

@@ -16,3 +16,6 @@ pub mod PairFiles
 pub mod PairHolds
 pub mod ObjectRunsHold
 pub mod WalksEndLaw
+pub mod ProgramCopies
+pub mod OrdersAlike
+pub mod OwnOrdersHold

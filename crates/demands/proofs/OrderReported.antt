@@ -89,6 +89,15 @@ append-nil : (l : List ℕ) → l ++ [] ≡ l
 append-nil [] = refl
 append-nil (x ∷ l) = ap (λ (r : List ℕ). x ∷ r) (append-nil l)
 
+-- the words of kind 5 of a report are the order
+pub reported-numbers :
+    (row : ℕ → Row) (S : Objs) (files : List File) (order : List ℕ) (n : ℕ) → ((k : ℕ) → has k order ≡ true → k < 2 ^ 28)
+    → numbersOf 5 (orderWords row S files order ++ replicate n 0) ≡ order
+reported-numbers row S files order n small =
+    let ws : List ℕ = orderWords row S files order in
+    numbers-append 5 ws (replicate n 0)
+    ∙ (ap (λ (l : List ℕ). numbersOf 5 ws ++ l) (no-zeros n) ∙ (append-nil (numbersOf 5 ws) ∙ order-numbers row S files order small))
+
 -- ---- the order of a set of at most 62 libraries
 
 order-small : (files : List File) (names : List (List ℕ)) → length names ≤ 62 → (k : ℕ) → has k (setOrder files names) ≡ true → k < 2 ^ 28
@@ -107,13 +116,10 @@ order-report setting sheet bytes size policy words arena report e =
     let os : List Input = setOf sheet bytes in
     let p = bound-passed setting sheet bytes size policy words arena report e in
     let c = counts sheet bytes (p .sheet-ok) in
-    let ws : List ℕ = orderWords (setting .row) (objectsIn setting os) (filesOf os) (orderIn os) in
     let is : numbersOf 5 report ≡ orderIn os =
     ap (λ (l : List ℕ). numbersOf 5 l) (p .report-is)
-    ∙ (numbers-append 5 ws (replicate (words - length ws) 0)
-    ∙ (ap (λ (l : List ℕ). numbersOf 5 ws ++ l) (no-zeros (words - length ws))
-    ∙ (append-nil (numbersOf 5 ws)
-    ∙ order-numbers (setting .row) (objectsIn setting os) (filesOf os) (orderIn os) (order-small (filesOf os) (namesOf os) (c .few))))) in
+    ∙ reported-numbers (setting .row) (objectsIn setting os) (filesOf os) (orderIn os)
+    (words - length (orderWords (setting .row) (objectsIn setting os) (filesOf os) (orderIn os))) (order-small (filesOf os) (namesOf os) (c .few)) in
     record {
       order = is;
       once = rw is (subst (λ (n : ℕ). OnceEach n (orderIn os)) (c .all) (set-order (filesOf os) (namesOf os)));

@@ -63,7 +63,7 @@ use Rattle.demands.proofs.RefusalNumbers.{
 -- ---- a refusal's number and its object
 
 -- of a set of `count` objects, whose refusals have numbers that satisfy N
-abbrev Right : (ℕ → Type 0) → ℕ → ℕ → ℕ → Type 0
+abbrev pub Right : (ℕ → Type 0) → ℕ → ℕ → ℕ → Type 0
 Right N count n k = N n × ObjectOf count n k
 
 -- a refusal without an object
@@ -96,12 +96,17 @@ unfolding filesOf
 host-first [] = tt
 host-first (h ∷ os) = refl
 
+-- 24
+pub types-right : (setting : Setting) (count : ℕ) → Meets (Right BindNumber count) (typesVerdict setting)
+types-right setting count =
+    unless-meets (Right BindNumber count) (setting .typed) 24 0 (λ _. (omega arith, without count 24 refl (λ e. omega arith) (λ l h i. i refl)))
+
 module _ (setting : Setting) (sheet bytes : List ℕ) (size : ℕ) where
   abbrev os : List Input
   os = setOf sheet bytes
 
   -- 1 to 12 and 21, and what is met between 2 and 3
-  prepare-right :
+  pub prepare-right :
       (N : ℕ → Type 0) → ((n : ℕ) → 1 ≤ n → n ≤ 12 → N n) → N 21 → (types : Verdict) → Meets (Right N (length os)) types
       → Meets (Right N (length os)) (sheetVerdict setting types sheet bytes size)
   unfolding prepareVerdict
@@ -136,28 +141,29 @@ module _ (setting : Setting) (sheet bytes : List ℕ) (size : ℕ) where
       ))
       q)))))
 
-  -- 14 to 20, 22 and 25
-  relocate-right :
-      (N : ℕ → Type 0) → ((n : ℕ) → 14 ≤ n → n ≤ 25 → n ≢ 21 → n ≢ 23 → n ≢ 24 → N n) → sheetOk sheet (length bytes) ≡ true → (policy : Policy) (words : ℕ)
-      → Meets (Right N (length os)) (relocateVerdict (setting .row) (objectsIn setting os) (filesOf os) (orderIn os) policy words)
+  -- 14 to 20, 22 and 25, in any order
+  pub relocate-right :
+      (N : ℕ → Type 0) → ((n : ℕ) → 14 ≤ n → n ≤ 25 → n ≢ 21 → n ≢ 23 → n ≢ 24 → N n) → sheetOk sheet (length bytes) ≡ true
+      → (order : List ℕ) → ((k : ℕ) → has k order ≡ true → (1 ≤ k) × (k < length (namesOf os) + 2)) → (policy : Policy) (words : ℕ)
+      → Meets (Right N (length os)) (relocateVerdict (setting .row) (objectsIn setting os) (filesOf os) order policy words)
   unfolding relocateVerdict
-  relocate-right N ok good policy words =
-      first-meets (Right N (length os)) (orderVerdict (setting .row) (objectsIn setting os) (filesOf os) (orderIn os)) _
-      (order-meets (Right N (length os)) (setting .row) (objectsIn setting os) (filesOf os) (orderIn os)
+  relocate-right N ok good order among policy words =
+      first-meets (Right N (length os)) (orderVerdict (setting .row) (objectsIn setting os) (filesOf os) order) _
+      (order-meets (Right N (length os)) (setting .row) (objectsIn setting os) (filesOf os) order
       (λ n k x m.
-      let b : (1 ≤ k) × (k < length (namesOf os) + 2) = order-objects (filesOf os) (namesOf os) k m in
+      let b : (1 ≤ k) × (k < length (namesOf os) + 2) = among k m in
       (ok n (x .0) (x .1) (x .4) (x .5) (x .6), entry-of n k (x .0) (x .3) (x .6) (b .0) (b .1))))
       (first-meets (Right N (length os)) (unless (allows policy u) 19 u) _
       (unless-meets (Right N (length os)) (allows policy u) 19 u
       (λ e.
-      let m = first-undefined (setting .row) (objectsIn setting os) (filesOf os) (orderIn os) (undefined policy e) in
-      let b : (1 ≤ u) × (u < length (namesOf os) + 2) = order-objects (filesOf os) (namesOf os) u m in
+      let m = first-undefined (setting .row) (objectsIn setting os) (filesOf os) order (undefined policy e) in
+      let b : (1 ≤ u) × (u < length (namesOf os) + 2) = among u m in
       (ok 19 (omega arith) (omega arith) (λ e. omega arith) (λ e. omega arith) (λ e. omega arith), entry-of 19 u (omega arith) (λ e. omega arith) (λ e. omega arith) (b .0) (b .1))))
-      (unless-meets (Right N (length os)) (leb (length (orderWords (setting .row) (objectsIn setting os) (filesOf os) (orderIn os))) words) 20 0
+      (unless-meets (Right N (length os)) (leb (length (orderWords (setting .row) (objectsIn setting os) (filesOf os) order)) words) 20 0
       (λ _. (ok 20 (omega arith) (omega arith) (λ e. omega arith) (λ e. omega arith) (λ e. omega arith), without (length os) 20 refl (λ e. omega arith) (λ l h i. omega arith)))))
     where
       u : ℕ
-      u = firstUndefined (setting .row) (objectsIn setting os) (filesOf os) (orderIn os)
+      u = firstUndefined (setting .row) (objectsIn setting os) (filesOf os) order
 
       entry-of : (n k : ℕ) → 14 ≤ n → n ≢ 20 → n ≢ 24 → 1 ≤ k → k < length (namesOf os) + 2 → ObjectOf (length os) n k
       entry-of n k l ne not-24 pos small =
@@ -174,11 +180,10 @@ module _ (setting : Setting) (sheet bytes : List ℕ) (size : ℕ) where
       (first (sheetVerdict setting (typesVerdict setting) sheet bytes size) (relocateVerdict (setting .row) (objectsIn setting os) (filesOf os) (orderIn os) policy words))
   bind-right policy words =
       first-then (Right BindNumber (length os)) (sheetVerdict setting (typesVerdict setting) sheet bytes size) _
-      (prepare-right BindNumber (λ n l h. omega arith) (omega arith) (typesVerdict setting)
-      (unless-meets (Right BindNumber (length os)) (setting .typed) 24 0
-      (λ _. (omega arith, without (length os) 24 refl (λ e. omega arith) (λ l h i. i refl)))))
+      (prepare-right BindNumber (λ n l h. omega arith) (omega arith) (typesVerdict setting) (types-right setting (length os)))
       (λ v.
-      relocate-right BindNumber (λ n l h ne not-23 not-24. omega arith) (sheet-prepared sheet bytes setting (typesVerdict setting) size v .0) policy words)
+      relocate-right BindNumber (λ n l h ne not-23 not-24. omega arith) (sheet-prepared sheet bytes setting (typesVerdict setting) size v .0) (orderIn os)
+      (order-objects (filesOf os) (namesOf os)) policy words)
 
   query-right :
       (requester : ℕ)
@@ -192,7 +197,7 @@ module _ (setting : Setting) (sheet bytes : List ℕ) (size : ℕ) where
 
 -- ---- what is left
 
-refused-outcome :
+pub refused-outcome :
     (P : ℕ → ℕ → Type 0) (size words : ℕ) (v : Verdict) (a r : List ℕ) (n k : ℕ) (arena report : List ℕ) → Meets P v
     → outcomeOf size words v a r ≡ outcome (answers.the-variants.Refused n k) arena report
     → P n k × (arena ≡ replicate size 0) × (report ≡ replicate words 0)
@@ -266,7 +271,7 @@ answered =
 words-fit : (words : ℕ) (ws : List ℕ) → length ws ≤ words → length (ws ++ replicate (words - length ws) 0) ≡ words
 words-fit words ws l = simp (length-append, length-replicate) (omega arith)
 
-bind-lengths :
+pub bind-lengths :
     (size words : ℕ) (v : Verdict) (a r : List ℕ) (x : Answer) (arena report : List ℕ) → length a ≡ size → (v ≡ Passed → length r ≤ words)
     → outcomeOf size words v a r ≡ outcome x arena report
     → (length arena ≡ size) × (length report ≡ words)
@@ -288,7 +293,7 @@ query-length size Passed x l r arena n e = let is : arena ≡ l = cc in ap lengt
 query-length size (Refused i j) x l r arena n e = let is : arena ≡ replicate size 0 = cc in ap length is ∙ length-replicate size 0
 
 -- 20 was passed
-room :
+pub room :
     (row : ℕ → Row) (S : Objs) (files : List File) (order : List ℕ) (policy : Policy) (words : ℕ) (v : Verdict)
     → first v (relocateVerdict row S files order policy words) ≡ Passed → length (orderWords row S files order) ≤ words
 unfolding relocateVerdict

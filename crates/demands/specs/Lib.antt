@@ -11,3 +11,4 @@ pub mod LargePages
 pub mod PairOfSheets
 pub mod ObjectRuns
 pub mod WalksEnd
+pub mod OwnOrders

@@ -1,4 +1,4 @@
--- No refusal of `bind` or `query` has the number 0. Assumes nothing.
+-- No refusal of `bind`, `bind_ordered` or `query` has the number 0. Assumes nothing.
 use mathlib.Core.Path.{_≡_, refl, sym, _∙_}
 use mathlib.Core.Bool.{Bool, true, false}
 use mathlib.Core.List.{List, [], _∷_}
@@ -15,7 +15,7 @@ use Rattle.object.specs.Entries.{Word}
 use Rattle.object.specs.Record.{Record}
 use Rattle.object.specs.Loaded.{objectRefusal}
 use Rattle.object.specs.declared.relocate.Rela.{Rela}
-use Rattle.sheet.specs.Sheet.{sheetOk, arenaOk, setOf, duplicateOf}
+use Rattle.sheet.specs.Sheet.{Input, sheetOk, arenaOk, setOf, duplicateOf}
 use Rattle.binder.specs.declared.Policy.{Policy}
 use Rattle.binder.specs.declared.Answer as answers
 use Rattle.binder.specs.declared.Reply as replies
@@ -28,10 +28,12 @@ use Rattle.binder.specs.declared.Verdict.the-variants.{Passed, Refused}
 use Rattle.object.specs.RelocationTypes.{Row}
 use Rattle.binder.specs.Report.{orderWords, firstUndefined}
 use Rattle.binder.specs.Bind as binding
-use Rattle.binder.specs.Bind.{filesOf, objectsOf, unless, typesVerdict, allows, relocateVerdict, outcome, outcomeOf, replied, repliedOf, replyOf}
+use Rattle.binder.specs.Bind.{filesOf, namesOf, objectsOf, unless, prepareVerdict, typesVerdict, allows, relocateVerdict, outcome, refusedBind, outcomeOf, replied, repliedOf, replyOf}
 use Rattle.binder.specs.declared.ReplyAll as allReplies
 use Rattle.binder.specs.QueryAll as all
 use Rattle.binder.specs.QueryAll.{listOk, repliedAll, repliedAllOf}
+use Rattle.binder.specs.OwnOrder as ordering
+use Rattle.binder.specs.OwnOrder.{mayTake, bindOrderedSet, bindOrderedOf}
 use Rattle.binder.proofs.OutcomeLaws.{refused-not, sheetVerdict, bind-one, query-one}
 use Rattle.binder.proofs.QueryAllIs.{query-all-one}
 use Rattle.export.specs.Calls.{ZeroTells}
@@ -99,21 +101,24 @@ of-relocate row S files order policy words =
     either-one (orderVerdict row S files order) (first (unless (allows policy u) 19 u) (unless room 20 0)) (of-order row S files order)
     (either-one (unless (allows policy u) 19 u) (unless room 20 0) (of-test (allows policy u) 19 u (omega arith)) (of-test room 20 0 (omega arith)))
 
-of-prepare :
-    (setting : Setting) (types : Verdict) (sheet bytes : List ℕ) (size : ℕ) → Numbered types → Numbered (sheetVerdict setting types sheet bytes size)
+of-set : (setting : Setting) (types : Verdict) (os : List Input) (size : ℕ) → Numbered types → Numbered (prepareVerdict setting types os size)
 unfolding binding.prepareVerdict
-of-prepare setting types sheet bytes size typed =
-    let one = sheetOk sheet (length bytes) in
+of-set setting types os size typed =
     let two = arenaOk size (setting .address) in
-    let duplicate = duplicateOf (setOf sheet bytes) in
-    let files : List File = filesOf (setOf sheet bytes) in
-    let loaded = loadVerdict (objectsOf setting files) size 0 files in
+    let duplicate = duplicateOf os in
+    let loaded = loadVerdict (objectsOf setting (filesOf os)) size 0 (filesOf os) in
     let rest = first (unless (eqb duplicate 0) 3 duplicate) loaded in
-    either-one (unless one 1 0) (first (unless two 2 0) (first types rest)) (of-test one 1 0 (omega arith))
-    (either-one (unless two 2 0) (first types rest) (of-test two 2 0 (omega arith))
+    either-one (unless two 2 0) (first types rest) (of-test two 2 0 (omega arith))
     (either-one types rest typed
     (either-one (unless (eqb duplicate 0) 3 duplicate) loaded (of-test (eqb duplicate 0) 3 duplicate (omega arith))
-    (of-load (objectsOf setting files) size 0 files))))
+    (of-load (objectsOf setting (filesOf os)) size 0 (filesOf os))))
+
+of-prepare :
+    (setting : Setting) (types : Verdict) (sheet bytes : List ℕ) (size : ℕ) → Numbered types → Numbered (sheetVerdict setting types sheet bytes size)
+of-prepare setting types sheet bytes size typed =
+    let one = sheetOk sheet (length bytes) in
+    either-one (unless one 1 0) (prepareVerdict setting types (setOf sheet bytes) size) (of-test one 1 0 (omega arith))
+    (of-set setting types (setOf sheet bytes) size typed)
 
 -- ---- the answers
 
@@ -123,6 +128,29 @@ of-outcome :
 unfolding binding.outcomeOf
 of-outcome size words Passed a r arena report n k h e = let z : _≡_ {A = ℕ} 0 1 = cc in absurd (omega arith)
 of-outcome size words (Refused m j) a r arena report n k h e = h n k cc
+
+of-ordered :
+    (setting : Setting) (sheet bytes : List ℕ) (size : ℕ) (policy : Policy) (words : ℕ) (order : List ℕ) (n k : ℕ) (arena report : List ℕ)
+    → bindOrderedOf setting sheet bytes size policy words order ≡ outcome (answers.the-variants.Refused n k) arena report → 0 < n
+unfolding ordering.bindOrderedOf ordering.bindOrderedSet binding.bindIn
+of-ordered setting sheet bytes size policy words order n k arena report e = go (sheetOk sheet (length bytes)) e
+  where
+    os : List Input
+    os = setOf sheet bytes
+
+    go :
+        (t : Bool)
+        → pick t (bindOrderedSet setting os size policy words order) (refusedBind size words 1 0) ≡ outcome (answers.the-variants.Refused n k) arena report
+        → 0 < n
+    go true q =
+        let taken : Bool = mayTake (filesOf os) (namesOf os) order in
+        of-outcome size words _ _ _ arena report n k
+        (either-one (first (prepareVerdict setting (typesVerdict setting) os size) (unless taken 35 0)) _
+        (either-one (prepareVerdict setting (typesVerdict setting) os size) (unless taken 35 0)
+        (of-set setting (typesVerdict setting) os size (of-test (setting .typed) 24 0 (omega arith))) (of-test taken 35 0 (omega arith)))
+        (of-relocate _ _ _ _ policy words))
+        q
+    go false q = let one : 1 ≡ n = cc in omega arith
 
 not-refused : {P : Type 0} (s : symbols.Resolved) (a arena : List ℕ) (n k : ℕ) → replied (replyOf s) a ≡ replied (replies.the-variants.Refused n k) arena → P
 not-refused symbols.absent a arena n k e = let z : _≡_ {A = ℕ} 0 1 = cc in absurd (omega arith)
@@ -151,6 +179,7 @@ zero-tells = (
       (of-prepare setting (typesVerdict setting) sheet bytes size (of-test (setting .typed) 24 0 (omega arith)))
       (of-relocate _ _ _ _ policy words))
       (sym (bind-one setting sheet bytes size policy words) ∙ e),
+  of-ordered,
   λ setting sheet bytes size requester name n k arena e.
       of-replied size _ (resolve (objectsOf setting (filesOf (setOf sheet bytes))) requester (symbols.byName name)) _ arena n k
       (either-one (sheetVerdict setting Passed sheet bytes size) (unless (ltb requester (length (setOf sheet bytes))) 13 0)

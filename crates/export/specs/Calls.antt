@@ -1,4 +1,4 @@
--- What the functions for C answer, as numbers: `bindOf`, `queryOf` and `queryAllOf` say what is answered, and this file how it is written. Document 01,
+-- What the functions for C answer, as numbers: `bindOf`, `bindOrderedOf`, `queryOf` and `queryAllOf` say what is answered, and this file how it is written. Document 01,
 -- "Where an answer is an enum, a definition gives this paper's number and values for each of its cases". Assumes nothing.
 use mathlib.Core.List.{List, [], _∷_}
 use mathlib.Core.Path.{_≡_}
@@ -17,6 +17,7 @@ use Rattle.binder.specs.declared.ReplyAll as allReplies
 use Rattle.binder.specs.Setting.{Setting}
 use Rattle.binder.specs.QueryAll.{RepliedAll, repliedAll, queryAllOf}
 use Rattle.binder.specs.Bind.{Outcome, outcome, bindOf, Replied, replied, queryOf}
+use Rattle.binder.specs.OwnOrder.{bindOrderedOf}
 
 -- a refusal: its number in the low 32 bits, its object in the high 32
 abbrev pub packed : ℕ → ℕ → ℕ
@@ -82,6 +83,8 @@ abbrev pub ZeroTells : Type 0
 ZeroTells =
     ((setting : Setting) (sheet bytes : List ℕ) (size : ℕ) (policy : Policy) (words number object : ℕ) (arena report : List ℕ)
     → bindOf setting sheet bytes size policy words ≡ outcome (answers.the-variants.Refused number object) arena report → 0 < number)
+    × ((setting : Setting) (sheet bytes : List ℕ) (size : ℕ) (policy : Policy) (words : ℕ) (order : List ℕ) (number object : ℕ) (arena report : List ℕ)
+    → bindOrderedOf setting sheet bytes size policy words order ≡ outcome (answers.the-variants.Refused number object) arena report → 0 < number)
     × ((setting : Setting) (sheet bytes : List ℕ) (size requester : ℕ) (name : List ℕ) (number object : ℕ) (arena : List ℕ)
     → queryOf setting sheet bytes size requester name ≡ replied (replies.the-variants.Refused number object) arena → 0 < number)
     × ((setting : Setting) (sheet bytes : List ℕ) (size requester : ℕ) (list : List ℕ) (slots number object : ℕ) (arena words : List ℕ)

@@ -7,6 +7,7 @@ ghost use Rattle.object.specs.RelocationTypes.{suppliedTypes};
 ghost use Rattle.binder.specs.Setting.{settingOf, settingAt};
 ghost use Rattle.binder.specs.Bind.{bindOf, queryOf};
 ghost use Rattle.binder.specs.QueryAll.{queryAllOf};
+ghost use Rattle.binder.specs.OwnOrder.{bindOrderedOf};
 ghost use Rattle.export.specs.Calls.{packed, policyOf, answerNumber, replyNumber, replyWords, fitted, called, calledOf, asked, askedOf, replyAllNumber, askedAllOf};
 use binder::Answer;
 use binder::Policy;
@@ -115,6 +116,34 @@ pub extern "C" fn lugwormpin_bind(
 {
     let policy = policy_of(strict);
     let a = binder::bind::bind(sheet, bytes, arena, address, policy, types, report);
+    answer_number(a)
+}
+
+// The same in an order of the caller's.
+#[no_mangle]
+pub extern "C" fn lugwormpin_bind_ordered(
+    sheet: &[u32],
+    bytes: &[u8],
+    arena: &mut [u8],
+    address: u64,
+    strict: u32,
+    types: &[u32],
+    report: &mut [u32],
+    order: &[u32],
+) -> u64
+    ensures { λ r. ⌜ called r (now (arena .exit)) (now (report .exit)) ≡ calledOf (bindOrderedOf (settingOf address (now (types .entry))) (now (sheet .entry)) (now (bytes .entry)) (length (now (arena .entry))) (policyOf strict) (length (now (report .entry))) (now (order .entry))) ⌝ }
+{
+    let policy = policy_of(strict);
+    let a = binder::own_order::bind_ordered(
+        sheet,
+        bytes,
+        arena,
+        address,
+        policy,
+        types,
+        order,
+        report,
+    );
     answer_number(a)
 }
 
