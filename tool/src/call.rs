@@ -1,0 +1,167 @@
+//! The calls, over a set.
+use crate::archive::{self, Slices};
+use crate::{elf, Set};
+
+/// The most bytes of an arena.
+pub const ARENA_LIMIT: usize = 1 << 28;
+
+/// What a call that is refused answers. docs/REFUSALS.md has what a number means, and what to do about it.
+#[derive(Clone, Copy, Debug, PartialEq, Eq)]
+pub struct Refusal {
+    /// Document 01's number, or document 02's.
+    pub number: u32,
+    /// The object that it is about; 0, too, where it is about none.
+    pub object: u32,
+}
+
+impl Refusal {
+    fn check(answer: u64) -> Result<(), Refusal> {
+        match answer {
+            0 => Ok(()),
+            _ => Err(Refusal { number: answer as u32, object: (answer >> 32) as u32 }),
+        }
+    }
+}
+
+/// What becomes of entries whose symbol nobody defines.
+#[derive(Clone, Copy, Debug, PartialEq, Eq, Default)]
+pub enum Policy {
+    /// They are reported.
+    #[default]
+    Lenient,
+    /// They are refused, by number 19.
+    Strict,
+}
+
+/// A word of the report.
+#[derive(Clone, Copy, Debug, PartialEq, Eq)]
+pub enum Word {
+    /// An object, by its number. The entries of the words that follow are its own.
+    Object(u32),
+    /// An entry, by its number, whose symbol nobody defines.
+    Undefined(u32),
+    /// An entry, by its number, of a type that is passed over.
+    Passed(u32),
+}
+
+impl Word {
+    fn of(word: u32) -> Option<Word> {
+        let low = word & 0x0FFF_FFFF;
+        match word >> 28 {
+            5 => Some(Word::Object(low)),
+            6 => Some(Word::Undefined(low)),
+            7 => Some(Word::Passed(low)),
+            _ => None,
+        }
+    }
+}
+
+/// A set that is bound.
+#[derive(Clone, Debug, PartialEq, Eq)]
+pub struct Bound {
+    /// The image, to be mapped at the call's address.
+    pub image: Vec<u8>,
+    /// The words of the report, as document 01 has them, without the zeros at the end.
+    pub report: Vec<u32>,
+}
+
+impl Bound {
+    /// The words of the report, taken apart.
+    pub fn words(&self) -> impl Iterator<Item = Word> + '_ {
+        self.report.iter().filter_map(|word| Word::of(*word))
+    }
+
+    /// The objects in binding order, by number.
+    pub fn order(&self) -> impl Iterator<Item = usize> + '_ {
+        self.words().filter_map(|word| match word {
+            Word::Object(k) => Some(k as usize),
+            _ => None,
+        })
+    }
+}
+
+/// Where a name is.
+#[derive(Clone, Copy, Debug, PartialEq, Eq)]
+pub struct Found {
+    /// The number of the object that defines it.
+    pub object: u32,
+    /// The index of its symbol there.
+    pub symbol: u32,
+    /// Its address.
+    pub address: u64,
+}
+
+/// A set, and what it is bound or asked with.
+#[derive(Clone)]
+pub struct Call<'a> {
+    /// The set.
+    pub set: &'a Set,
+    /// Where the arena will be mapped.
+    pub address: u64,
+    /// The bytes of the arena.
+    pub arena: usize,
+    /// The words of the report.
+    pub report: usize,
+    /// What becomes of undefined entries.
+    pub policy: Policy,
+}
+
+impl<'a> Call<'a> {
+    /// A lenient call, with the least arena that holds the set at that address (at most [`ARENA_LIMIT`]) and a report that is long enough.
+    pub fn new(set: &'a Set, address: u64) -> Call<'a> {
+        let modules = elf::modules(set);
+        let needed = elf::arena_needed(&elf::layout(&modules, address));
+        Call {
+            set,
+            address,
+            arena: needed.min(ARENA_LIMIT as u64) as usize,
+            report: elf::report_needed(&modules),
+            policy: Policy::Lenient,
+        }
+    }
+
+    /// An arena. Every length over the limit gets the same answer, refusal 2.
+    fn room(&self) -> Vec<u8> {
+        vec![0; self.arena.min(ARENA_LIMIT + 1)]
+    }
+
+    fn slices<'b>(&'b self, arena: &'b mut [u8]) -> Slices<'b> {
+        Slices { sheet: self.set.sheet(), bytes: self.set.bytes(), arena, address: self.address }
+    }
+
+    fn strict(&self) -> bool {
+        self.policy == Policy::Strict
+    }
+
+    /// Binds the set.
+    pub fn bind(&self) -> Result<Bound, Refusal> {
+        let (mut image, mut report) = (self.room(), vec![0; self.report]);
+        Refusal::check(archive::bind(self.slices(&mut image), self.strict(), &mut report))?;
+        Ok(Bound { image, report: used(report) })
+    }
+
+    /// Where a name is, as the object `requester` finds it; None where no object has it.
+    pub fn query(&self, requester: u32, name: &[u8]) -> Result<Option<Found>, Refusal> {
+        self.query_in(&mut self.room(), requester, name)
+    }
+
+    /// Where each of these names is: as many queries, in one arena.
+    pub fn query_each(&self, requester: u32, names: &[impl AsRef<[u8]>]) -> Result<Vec<Option<Found>>, Refusal> {
+        let mut arena = self.room();
+        names.iter().map(|name| self.query_in(&mut arena, requester, name.as_ref())).collect()
+    }
+
+    fn query_in(&self, arena: &mut [u8], requester: u32, name: &[u8]) -> Result<Option<Found>, Refusal> {
+        let mut answer = [0; 4];
+        Refusal::check(archive::query(self.slices(arena), requester, name, &mut answer))?;
+        let [found, object, symbol, address] = answer;
+        Ok((found == 1).then_some(Found { object: object as u32, symbol: symbol as u32, address }))
+    }
+}
+
+/// The words before the first 0.
+fn used(mut report: Vec<u32>) -> Vec<u32> {
+    let end = report.iter().position(|word| *word == 0).unwrap_or(report.len());
+    report.truncate(end);
+    report
+}
