@@ -5,33 +5,12 @@
 //! 53 KiB of stack.
 #![allow(unsafe_code)]
 
+#[rustfmt::skip]
 extern "C" {
-    fn lugwormpin_bind(
-        sheet: *const u32,
-        sheet_len: usize,
-        bytes: *const u8,
-        bytes_len: usize,
-        arena: *mut u8,
-        arena_len: usize,
-        address: u64,
-        strict: u32,
-        report: *mut u32,
-        report_len: usize,
-    ) -> u64;
-    fn lugwormpin_query(
-        sheet: *const u32,
-        sheet_len: usize,
-        bytes: *const u8,
-        bytes_len: usize,
-        arena: *mut u8,
-        arena_len: usize,
-        address: u64,
-        requester: u32,
-        name: *const u8,
-        name_len: usize,
-        answer: *mut u64,
-        answer_len: usize,
-    ) -> u64;
+    fn lugwormpin_bind(sheet: *const u32, sheet_len: usize, bytes: *const u8, bytes_len: usize, arena: *mut u8, arena_len: usize,
+                       address: u64, strict: u32, report: *mut u32, report_len: usize) -> u64;
+    fn lugwormpin_query(sheet: *const u32, sheet_len: usize, bytes: *const u8, bytes_len: usize, arena: *mut u8, arena_len: usize,
+                        address: u64, requester: u32, name: *const u8, name_len: usize, answer: *mut u64, answer_len: usize) -> u64;
 }
 
 /// What every call takes.
@@ -42,40 +21,20 @@ pub struct Slices<'a> {
     pub address: u64,
 }
 
+#[rustfmt::skip]
 pub fn bind(s: Slices, strict: bool, report: &mut [u32]) -> u64 {
     // SAFETY: the head of this file.
     unsafe {
-        lugwormpin_bind(
-            s.sheet.as_ptr(),
-            s.sheet.len(),
-            s.bytes.as_ptr(),
-            s.bytes.len(),
-            s.arena.as_mut_ptr(),
-            s.arena.len(),
-            s.address,
-            strict.into(),
-            report.as_mut_ptr(),
-            report.len(),
-        )
+        lugwormpin_bind(s.sheet.as_ptr(), s.sheet.len(), s.bytes.as_ptr(), s.bytes.len(), s.arena.as_mut_ptr(), s.arena.len(), s.address,
+                        strict.into(), report.as_mut_ptr(), report.len())
     }
 }
 
+#[rustfmt::skip]
 pub fn query(s: Slices, requester: u32, name: &[u8], answer: &mut [u64]) -> u64 {
     // SAFETY: the head of this file.
     unsafe {
-        lugwormpin_query(
-            s.sheet.as_ptr(),
-            s.sheet.len(),
-            s.bytes.as_ptr(),
-            s.bytes.len(),
-            s.arena.as_mut_ptr(),
-            s.arena.len(),
-            s.address,
-            requester,
-            name.as_ptr(),
-            name.len(),
-            answer.as_mut_ptr(),
-            answer.len(),
-        )
+        lugwormpin_query(s.sheet.as_ptr(), s.sheet.len(), s.bytes.as_ptr(), s.bytes.len(), s.arena.as_mut_ptr(), s.arena.len(), s.address,
+                         requester, name.as_ptr(), name.len(), answer.as_mut_ptr(), answer.len())
     }
 }

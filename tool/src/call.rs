@@ -165,3 +165,50 @@ fn used(mut report: Vec<u32>) -> Vec<u32> {
     report.truncate(end);
     report
 }
+
+#[cfg(test)]
+mod tests {
+    use super::*;
+
+    fn set(program: &[u8]) -> Set {
+        Set::new(&Set::MINIMAL_HOST[..], program).unwrap()
+    }
+
+    #[test]
+    fn bound() {
+        // the minimal host is a program too
+        let set = set(&Set::MINIMAL_HOST);
+        let call = Call::new(&set, 0x1000_0000);
+        let bound = call.bind().unwrap();
+        assert_eq!((bound.image.len(), call.arena), (0x2000, 0x2000));
+        assert_eq!(bound.image, [Set::MINIMAL_HOST, Set::MINIMAL_HOST].concat());
+        assert_eq!(bound.report, [0x5000_0001]);
+        assert_eq!(bound.words().collect::<Vec<Word>>(), [Word::Object(1)]);
+        assert_eq!(bound.order().collect::<Vec<usize>>(), [1]);
+        assert_eq!(call.query(1, b"x"), Ok(None));
+        assert_eq!(call.query_each(1, &["x", "y"]), Ok(vec![None, None]));
+    }
+
+    #[test]
+    fn refused() {
+        let set = set(b"no module");
+        let mut call = Call::new(&set, 0x1000_0000);
+        assert_eq!(call.bind(), Err(Refusal { number: 4, object: 1 }));
+        assert_eq!(call.query(1, b"x"), Err(Refusal { number: 4, object: 1 }));
+        call.address = 1;
+        assert_eq!(call.bind(), Err(Refusal { number: 2, object: 0 }));
+        call.address = 0;
+        call.arena = usize::MAX;
+        assert_eq!(call.bind(), Err(Refusal { number: 2, object: 0 }));
+        call.arena = 0;
+        assert_eq!(call.bind(), Err(Refusal { number: 8, object: 0 }));
+    }
+
+    #[test]
+    fn short_report() {
+        let set = set(&Set::MINIMAL_HOST);
+        let mut call = Call::new(&set, 0);
+        call.report = 0;
+        assert_eq!(call.bind(), Err(Refusal { number: 20, object: 0 }));
+    }
+}

@@ -386,3 +386,99 @@ pub fn host_image(file: &[u8]) -> Result<Vec<u8>, &'static str> {
     }
     Ok(image)
 }
+
+#[cfg(test)]
+mod tests {
+    use super::*;
+
+    /// Numbers that look random (xorshift).
+    struct Numbers(u64);
+
+    impl Numbers {
+        fn below(&mut self, n: usize) -> usize {
+            self.0 ^= self.0 << 13;
+            self.0 ^= self.0 >> 7;
+            self.0 ^= self.0 << 17;
+            (self.0 % n as u64) as usize
+        }
+    }
+
+    fn all_of(file: &[u8], whole: bool) {
+        for module in [Module::of_file(file), Module::of_image(file)] {
+            assert!(module.span() <= END && module.align() >= PAGE);
+            for number in (0..40).chain([module.entry_count().wrapping_sub(1), module.rela_count, u64::MAX]) {
+                if let Some(entry) = module.entry(number) {
+                    module.symbol(entry.symbol as usize);
+                }
+            }
+            for (_, symbol) in module.symbols().take(40) {
+                let _ = (symbol.exported(), symbol.protected(), symbol.address(u64::MAX));
+            }
+            assert!(module.needs().count() <= file.len() && module.soname().map_or(0, <[u8]>::len) <= file.len());
+            let places = layout(&[Module::of_image(file), module], u64::MAX - 5);
+            assert!(arena_needed(&places) >= file.len() as u64);
+        }
+        if whole && Module::of_file(file).span() < 1 << 24 {
+            let _ = host_image(file);
+        }
+    }
+
+    /// No bytes make a function here panic.
+    #[test]
+    fn total() {
+        let program = std::fs::read("/proc/self/exe").unwrap();
+        let program = &program[..program.len().min(1 << 18)];
+        for sample in [&Set::MINIMAL_HOST[..], program] {
+            let (segments, dynamic) = headers(sample);
+            let array = dynamic.map_or(0, |d| {
+                segments.iter().find(|s| s.vaddr <= d && d - s.vaddr < s.filesz).map_or(0, |s| d - s.vaddr + s.offset)
+            });
+            let mut numbers = Numbers(22);
+            let mut file = sample.to_vec();
+            for turn in 0..20_000 {
+                let mut undo = Vec::new();
+                for _ in 0..1 + numbers.below(4) {
+                    let start =
+                        [0, 64, (array as usize).min(file.len() - 1), numbers.below(file.len())][numbers.below(4)];
+                    let reach = [64, 512, 512, 8][numbers.below(4)];
+                    let at = (start + numbers.below(reach)).min(file.len() - 8);
+                    undo.push((at, bytes_at::<8>(&file, at).unwrap()));
+                    let value = [0, u64::MAX, 1 << numbers.below(64), numbers.0][numbers.below(4)];
+                    let width = [1, 2, 4, 8][numbers.below(4)];
+                    file[at..at + width].copy_from_slice(&value.to_le_bytes()[..width]);
+                }
+                all_of(&file, turn % 50 == 0);
+                for (at, bytes) in undo.into_iter().rev() {
+                    file[at..at + 8].copy_from_slice(&bytes);
+                }
+            }
+            assert_eq!(file, sample);
+            (0..600).for_each(|end| all_of(&sample[..end], true));
+        }
+    }
+
+    #[test]
+    fn the_minimal_host() {
+        let host = Module::of_image(&Set::MINIMAL_HOST);
+        assert_eq!((host.needs().count(), host.symbol_count, host.entry_count()), (0, 10, 0));
+        assert_eq!(host_image(&Set::MINIMAL_HOST).unwrap(), Set::MINIMAL_HOST);
+        assert_eq!(host.symbols().filter(|(_, symbol)| symbol.exported()).count(), 0);
+    }
+
+    #[test]
+    fn places() {
+        let host = [0; 4096];
+        let program = |align: u64| {
+            let mut file = Set::MINIMAL_HOST.to_vec();
+            file[112..120].copy_from_slice(&align.to_le_bytes());
+            file
+        };
+        let (large, plain) = (program(0x2000), program(0));
+        let modules = [Module::of_image(&host), Module::of_file(&large), Module::of_file(&plain)];
+        let offsets = |address| layout(&modules, address).iter().map(|place| place.offset).collect::<Vec<u64>>();
+        assert_eq!(offsets(0x1000_0000), [0, 0x2000, 0x3000]);
+        assert_eq!(offsets(0x1000_1000), [0, 0x1000, 0x2000]);
+        assert_eq!(arena_needed(&layout(&modules, 0)), 0x4000);
+        assert_eq!(report_needed(&modules), 3);
+    }
+}

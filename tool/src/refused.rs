@@ -3,7 +3,7 @@ use crate::json::Json;
 use crate::show::{self, decimal, hex, paragraph};
 use crate::subject::View;
 use crate::{commands, refusals, relocations, Said};
-use lugwormpin::{Policy, Refusal, ARENA_LIMIT};
+use lugwormpin::{elf, Policy, Refusal, ARENA_LIMIT};
 
 /// What can be told besides docs/REFUSALS.md, from this very set.
 fn notes(view: &View, refusal: Refusal) -> Vec<String> {
@@ -12,7 +12,8 @@ fn notes(view: &View, refusal: Refusal) -> Vec<String> {
     let mut notes = Vec::new();
     match refusal.number {
         2 => {
-            if view.call.address % 4096 != 0 {
+            let past = view.call.address % elf::PAGE;
+            if past != 0 {
                 notes.push(format!("the address {} is no multiple of 4,096", hex(view.call.address)));
             }
             if arena > ARENA_LIMIT as u64 {

@@ -172,7 +172,7 @@ impl Set {
         };
         let wrong = |object, reason| Err(SetError { object, fault: Fault::NoSet(reason) });
         let count = word(input).map_err(|error| cut(0, error))? as usize;
-        if count < 2 || count % 2 != 0 || count > 2 + 2 * LIBRARY_LIMIT {
+        if count < 2 || count % 2 == 1 || count > 2 + 2 * LIBRARY_LIMIT {
             return wrong(0, "the count of its sheet's words is odd, under 2 or over 126");
         }
         let mut set = Set { sheet: Vec::new(), bytes: Vec::new(), parts: Vec::new() };
@@ -244,4 +244,58 @@ const fn minimal_host() -> [u8; 4096] {
     put(p, 0x230, 8, 11); // DT_SYMENT
     put(p, 0x238, 8, 24);
     page
+}
+
+#[cfg(test)]
+mod tests {
+    use super::*;
+
+    fn small() -> Set {
+        let mut set = Set::new(&Set::MINIMAL_HOST[..], &b"program"[..]).unwrap();
+        set.add(b"liba.so", &b"a"[..]).unwrap();
+        set.add(b"b", &b""[..]).unwrap();
+        set
+    }
+
+    #[test]
+    fn sheet_and_bytes_fit() {
+        let set = small();
+        assert_eq!(set.sheet(), [0x1000_1000, 0x2000_0007, 0x3000_0001, 0x4000_0007, 0x3000_0000, 0x4000_0001]);
+        assert_eq!(set.bytes(), [&Set::MINIMAL_HOST[..], b"programaliba.sob"].concat());
+        assert_eq!(set.objects(), 4);
+        assert_eq!([1, 2, 3, 4, 99].map(|k| set.file(k)), [&b"program"[..], b"a", b"", b"", b""]);
+        assert_eq!([0, 1, 2, 3, 4].map(|k| set.name(k)), [&b""[..], b"", b"liba.so", b"b", b""]);
+    }
+
+    #[test]
+    fn written_and_read() {
+        let set = small();
+        let mut input = Vec::new();
+        set.write(&mut input).unwrap();
+        assert_eq!(input.len(), set.input_length());
+        let again = Set::read(&mut &input[..]).unwrap();
+        assert_eq!((again.sheet(), again.bytes(), again.name(2)), (set.sheet(), set.bytes(), &b"liba.so"[..]));
+        for end in 0..input.len() {
+            assert!(Set::read(&mut &input[..end]).is_err(), "{end}");
+        }
+        input.push(0);
+        assert!(matches!(Set::read(&mut &input[..]), Err(SetError { fault: Fault::NoSet(_), .. })));
+    }
+
+    #[test]
+    fn limits() {
+        let mut set = small();
+        let words = set.sheet().to_vec();
+        for name in [&b""[..], &[b'n'; 256]] {
+            let error = set.add(name, &b"x"[..]).unwrap_err();
+            assert!(matches!(error, SetError { object: 4, fault: Fault::NameLength(n) } if n == name.len()));
+        }
+        let error = set.add(b"long", io::repeat(0)).unwrap_err();
+        assert!(matches!(error.fault, Fault::TooLong));
+        assert_eq!((set.sheet(), set.bytes().len()), (&words[..], 4096 + 16));
+        while set.objects() < 2 + LIBRARY_LIMIT {
+            set.add(&[b'n'; NAME_LIMIT], &b""[..]).unwrap();
+        }
+        assert!(matches!(set.add(b"n", &b""[..]).unwrap_err().fault, Fault::TooMany));
+    }
 }

@@ -39,15 +39,10 @@ pub fn hex(n: u64) -> String {
 
 /// A count or a size.
 pub fn decimal(n: u64) -> String {
-    let digits = n.to_string();
-    let mut text = String::new();
-    for (k, digit) in digits.chars().enumerate() {
-        if k > 0 && (digits.len() - k) % 3 == 0 {
-            text.push(',');
-        }
-        text.push(digit);
+    match n {
+        0..1000 => n.to_string(),
+        _ => format!("{},{:03}", decimal(n / 1000), n % 1000),
     }
-    text
 }
 
 /// `1 entry`, `2 entries`.
