@@ -4,6 +4,7 @@ pub mod LongerSetLaw
 pub mod LongerQueryLaw
 pub mod CasesHold
 pub mod FieldCasesHold
+pub mod RefusalCasesHold
 pub mod OrderReported
 pub mod RefusalNumbers
 pub mod RefusalsHold

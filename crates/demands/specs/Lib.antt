@@ -3,6 +3,7 @@ pub mod LongerSet
 pub mod OrderReport
 pub mod Cases
 pub mod FieldCases
+pub mod RefusalCases
 pub mod Refusals
 pub mod LargePages
 pub mod PairOfSheets
