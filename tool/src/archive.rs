@@ -5,6 +5,9 @@
 //! 53 KiB of stack.
 #![allow(unsafe_code)]
 
+#[cfg(not(all(target_arch = "x86_64", target_os = "linux")))]
+compile_error!("the archive is one for x86-64 Linux");
+
 #[rustfmt::skip]
 extern "C" {
     fn lugwormpin_bind(sheet: *const u32, sheet_len: usize, bytes: *const u8, bytes_len: usize, arena: *mut u8, arena_len: usize,

@@ -39,7 +39,7 @@ fn check_outputs(options: &Options) -> Result<(), Failure> {
         }
     }
     match outputs[..] {
-        [a, b] if a == b || files::same(a, b) => {
+        [a, b] if files::same(a, b) => {
             Err(Failure::files(format!("{}: both the image and the report are to be written there", show::path(a)), a))
         }
         _ => Ok(()),

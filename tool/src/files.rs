@@ -82,10 +82,23 @@ fn create_beside(place: &Path) -> io::Result<(File, PathBuf)> {
     }
 }
 
-/// Whether two paths lead to one regular file.
+/// Whether two paths lead to one regular file, there already or to be written.
 pub fn same(a: &Path, b: &Path) -> bool {
     match (fs::metadata(a), fs::metadata(b)) {
         (Ok(a), Ok(b)) => a.is_file() && (a.dev(), a.ino()) == (b.dev(), b.ino()),
+        (Err(_), Err(_)) => match (resolved(a), resolved(b)) {
+            (Some(a), Some(b)) => a == b,
+            _ => a == b,
+        },
         _ => false,
     }
+}
+
+/// The path of a file that is to be written, from the root.
+fn resolved(path: &Path) -> Option<PathBuf> {
+    let folder = match path.parent()? {
+        folder if folder.as_os_str().is_empty() => Path::new("."),
+        folder => folder,
+    };
+    Some(fs::canonicalize(folder).ok()?.join(path.file_name()?))
 }
