@@ -56,7 +56,7 @@ fn bind(options: &Options, subject: &Subject) -> Result<Said, Failure> {
     let image = output(options)?;
     let view = View::new(subject, options)?;
     let call = &view.call;
-    subject.progress.say(|| format!("binding {} bytes of files", decimal(subject.set.bytes().len() as u64)));
+    subject.say_binding();
     let bound = match call.bind() {
         Ok(bound) => bound,
         Err(refusal) => return Ok(refused::said("bind", &view, refusal)),
@@ -372,6 +372,7 @@ fn order(options: &Options, subject: &Subject) -> Result<Said, Failure> {
         return Err(options.command.usage("--dot and --json: only one of them can be given"));
     }
     let view = View::new(subject, options)?;
+    subject.say_binding();
     let bound = match view.call.bind() {
         Ok(bound) => bound,
         Err(refusal) => return Ok(refused::said("order", &view, refusal)),

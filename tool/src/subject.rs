@@ -93,6 +93,10 @@ impl Subject {
         }
     }
 
+    pub fn say_binding(&self) {
+        self.progress.say(|| format!("binding {} bytes of files", decimal(self.set.bytes().len() as u64)));
+    }
+
     fn from_set(path: &Path) -> Result<Subject, Failure> {
         // of any length: the limit is that of each part
         let opened = File::open(path).and_then(|file| Ok((file.metadata()?, file)));
