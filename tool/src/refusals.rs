@@ -62,19 +62,23 @@ fn with_object(text: &str, object: u32) -> String {
 mod tests {
     use super::*;
 
-    /// The numbers of the list in include/lugwormpin.h: those that a call can answer.
-    fn numbers() -> Vec<u32> {
+    /// The list in include/lugwormpin.h: each number that a call can answer, and whether its object is always 0.
+    fn numbers() -> Vec<(u32, bool)> {
         let header = include_str!("../../include/lugwormpin.h");
         let list = &header[header.find(" *  no.  object").expect("the list of refusals")..];
         let list = &list[..list.find("*/").expect("its end")];
-        list.lines().filter_map(|line| line.strip_prefix(" * ")?.split_whitespace().next()?.parse().ok()).collect()
+        let row = |line: &str| {
+            let mut words = line.strip_prefix(" * ")?.split_whitespace();
+            Some((words.next()?.parse().ok()?, words.next()? == "0"))
+        };
+        list.lines().filter_map(row).collect()
     }
 
     #[test]
     fn every_number_is_told() {
         let numbers = numbers();
         assert!(numbers.len() >= 22, "{numbers:?}");
-        for number in numbers {
+        for (number, _) in numbers {
             let row = told(number, 7).unwrap_or_else(|| panic!("docs/REFUSALS.md has no row for {number}"));
             assert!(row.meaning.len() > 10 && row.advice.len() > 10, "{row:?}");
             assert!(!row.advice.starts_with("As "), "{row:?}");
@@ -90,11 +94,14 @@ mod tests {
         assert_eq!(once.len(), numbers.len(), "{numbers:?}");
     }
 
+    /// The page's sentence on the numbers whose object says nothing has those for which the header's list has the object 0.
     #[test]
     fn numbers_without_object() {
-        let without = without_object();
-        assert!([1, 2, 13, 20].iter().all(|number| without.contains(number)), "{without:?}");
-        assert!(!without.contains(&4), "{without:?}");
+        let mut without = without_object();
+        let mut listed: Vec<u32> = numbers().into_iter().filter_map(|(number, zero)| zero.then_some(number)).collect();
+        without.sort();
+        listed.sort();
+        assert_eq!(without, listed);
     }
 
     #[test]
