@@ -59,15 +59,14 @@ fn bind(options: &Options, subject: &Subject) -> Result<Said, Failure> {
     subject.say_binding();
     let bound = match call.bind() {
         Ok(bound) => bound,
-        Err(refusal) => return Ok(refused::said("bind", &view, refusal)),
+        Err(refusal) => return Ok(refused::said(options, &view, refusal)),
     };
     subject.progress.say(|| format!("writing {}: {} bytes", show::path(image), decimal(bound.image.len() as u64)));
     let mut pending = vec![Pending::write(image, |out| out.write_all(&bound.image))?];
-    let report: Vec<String> = bound.report.iter().map(|word| format!("{word:08x}")).collect();
     if let Some(path) = &options.report {
         pending.push(Pending::write(path, |out| {
             let mut out = BufWriter::new(out);
-            report.iter().try_for_each(|word| writeln!(out, "{word}"))?;
+            bound.report.iter().try_for_each(|word| writeln!(out, "{word:08x}"))?;
             out.flush()
         })?);
     }
@@ -75,23 +74,25 @@ fn bind(options: &Options, subject: &Subject) -> Result<Said, Failure> {
 
     let (undefined, passed) = listed(&view, &bound);
     let unlisted = unlisted_needs(&view);
-    let text = bound_text(&view, &bound, image, &undefined, &passed, &unlisted);
-    let json = fields! {
-        "command": "bind",
-        "result": "bound",
-        "image": show::path(image),
-        "address": hex(call.address),
-        "arena": call.arena,
-        "arena_needed": view.needed(),
-        "strict": call.policy == Policy::Strict,
-        "host": object_json(&view, 0),
-        "objects": bound.order().map(|k| object_json(&view, k)).collect::<Json>(),
-        "undefined": undefined.iter().map(Listed::json).collect::<Json>(),
-        "passed": passed.iter().map(Listed::json).collect::<Json>(),
-        "needs_not_in_set": unlisted.iter().map(Unlisted::json).collect::<Json>(),
-        "report": report.into_iter().collect::<Json>(),
+    let words = || bound_text(&view, &bound, image, &undefined, &passed, &unlisted);
+    let value = || {
+        fields! {
+            "command": "bind",
+            "result": "bound",
+            "image": show::path(image),
+            "address": hex(call.address),
+            "arena": call.arena,
+            "arena_needed": view.needed(),
+            "strict": call.policy == Policy::Strict,
+            "host": object_json(&view, 0),
+            "objects": bound.order().map(|k| object_json(&view, k)).collect::<Json>(),
+            "undefined": undefined.iter().map(Listed::json).collect::<Json>(),
+            "passed": passed.iter().map(Listed::json).collect::<Json>(),
+            "needs_not_in_set": unlisted.iter().map(Unlisted::json).collect::<Json>(),
+            "report": bound.report.iter().map(|word| format!("{word:08x}")).collect::<Json>(),
+        }
     };
-    Ok(Said { text, json, refused: false })
+    Ok(Said::new(options.json, words, value))
 }
 
 fn object_json(view: &View, object: usize) -> Json {
@@ -296,37 +297,36 @@ fn query(options: &Options, subject: &Subject) -> Result<Said, Failure> {
     subject.progress.say(|| format!("asking for {}", counted(names.len(), "name", "names")));
     let found = match view.call.query_each(requester, &names) {
         Ok(found) => found,
-        Err(refusal) => return Ok(refused::said("query", &view, refusal)),
+        Err(refusal) => return Ok(refused::said(options, &view, refusal)),
     };
-    let answers: Vec<(&Vec<u8>, &Option<Found>)> = names.iter().zip(&found).collect();
-    let rows: Vec<Vec<String>> = answers
-        .iter()
-        .map(|(name, found)| {
-            let name = show::printable(name);
-            match found {
-                Some(f) => vec![hex(f.address), view.object(f.object as usize), f.symbol.to_string(), name],
-                None => vec!["-".into(), "no object has it".into(), "-".into(), name],
+    let answers = || names.iter().map(|name| show::printable(name)).zip(&found);
+    let words = || {
+        let row = |(name, found): (String, &Option<Found>)| match found {
+            Some(f) => vec![hex(f.address), view.object(f.object as usize), f.symbol.to_string(), name],
+            None => vec!["-".into(), "no object has it".into(), "-".into(), name],
+        };
+        table(&["address", "object", "symbol", "name"], &answers().map(row).collect::<Vec<Vec<String>>>())
+    };
+    let value = || {
+        let one = |(name, found): (String, &Option<Found>)| {
+            fields! {
+                "name": name,
+                "address": found.map(|f| hex(f.address)),
+                "object": found.map(|f| f.object),
+                "object_name": found.map(|f| view.label(f.object as usize).name.clone()),
+                "symbol": found.map(|f| f.symbol),
             }
-        })
-        .collect();
-    let json = answers.iter().map(|(name, found)| {
+        };
         fields! {
-            "name": show::printable(name),
-            "address": found.map(|f| hex(f.address)),
-            "object": found.map(|f| f.object),
-            "object_name": found.map(|f| view.label(f.object as usize).name.clone()),
-            "symbol": found.map(|f| f.symbol),
+            "command": "query",
+            "result": "answered",
+            "address": hex(view.call.address),
+            "arena": view.call.arena,
+            "requester": requester,
+            "names": answers().map(one).collect::<Json>(),
         }
-    });
-    let json = fields! {
-        "command": "query",
-        "result": "answered",
-        "address": hex(view.call.address),
-        "arena": view.call.arena,
-        "requester": requester,
-        "names": json.collect::<Json>(),
     };
-    Ok(Said { text: table(&["address", "object", "symbol", "name"], &rows), json, refused: false })
+    Ok(Said::new(options.json, words, value))
 }
 
 /// The names that are asked for: the arguments, then the lines of a file.
@@ -375,23 +375,25 @@ fn order(options: &Options, subject: &Subject) -> Result<Said, Failure> {
     subject.say_binding();
     let bound = match view.call.bind() {
         Ok(bound) => bound,
-        Err(refusal) => return Ok(refused::said("order", &view, refusal)),
+        Err(refusal) => return Ok(refused::said(options, &view, refusal)),
     };
     let order: Vec<usize> = bound.order().collect();
-    let text = match options.dot {
+    let words = || match options.dot {
         true => dot(&view, &order),
         false => {
             let rows: Vec<Vec<String>> = order.iter().map(|k| order_row(&view, *k)).collect();
             format!("binding order\n{}", table(&["no.", "name", "needs"], &rows))
         }
     };
-    let objects = order.iter().map(|k| {
-        let label = view.label(*k);
-        let needs = view.needs(*k).into_iter().map(|(name, object)| fields! { "name": name, "object": object });
-        fields! { "number": *k, "name": label.name.clone(), "file": label.file.clone(), "needs": needs.collect::<Json>() }
-    });
-    let json = fields! { "command": "order", "result": "answered", "objects": objects.collect::<Json>() };
-    Ok(Said { text, json, refused: false })
+    let value = || {
+        let objects = order.iter().map(|k| {
+            let label = view.label(*k);
+            let needs = view.needs(*k).into_iter().map(|(name, object)| fields! { "name": name, "object": object });
+            fields! { "number": *k, "name": label.name.clone(), "file": label.file.clone(), "needs": needs.collect::<Json>() }
+        });
+        fields! { "command": "order", "result": "answered", "objects": objects.collect::<Json>() }
+    };
+    Ok(Said::new(options.json, words, value))
 }
 
 fn order_row(view: &View, object: usize) -> Vec<String> {
@@ -441,21 +443,26 @@ fn set(options: &Options, subject: &Subject) -> Result<Said, Failure> {
     let set: &Set = &subject.set;
     Pending::write(path, |mut out| set.write(&mut out))?.commit()?;
     let length = set.input_length();
-    let libraries = counted(set.objects() - 2, "library", "libraries");
-    let mut text =
-        format!("written: {}, {} bytes: host, program, {libraries}\n", show::path(path), decimal(length as u64));
-    if length > PROGRAM_INPUT {
-        text.push_str(
-            "over 65,536 bytes: document 01's program refuses it by 1; `lugwormpin bind --set FILE` takes it\n",
-        );
-    }
-    let json = fields! {
-        "command": "set",
-        "result": "written",
-        "file": show::path(path),
-        "bytes": length,
-        "libraries": set.objects() - 2,
-        "document_01_takes_it": length <= PROGRAM_INPUT,
+    let libraries = set.objects() - 2;
+    let words = || {
+        let parts = format!("host, program, {}", counted(libraries, "library", "libraries"));
+        let mut text = format!("written: {}, {} bytes: {parts}\n", show::path(path), decimal(length as u64));
+        if length > PROGRAM_INPUT {
+            text.push_str(
+                "over 65,536 bytes: document 01's program refuses it by 1; `lugwormpin bind --set FILE` takes it\n",
+            );
+        }
+        text
     };
-    Ok(Said { text, json, refused: false })
+    let value = || {
+        fields! {
+            "command": "set",
+            "result": "written",
+            "file": show::path(path),
+            "bytes": length,
+            "libraries": libraries,
+            "document_01_takes_it": length <= PROGRAM_INPUT,
+        }
+    };
+    Ok(Said::new(options.json, words, value))
 }

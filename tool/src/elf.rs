@@ -112,6 +112,8 @@ pub struct Module<'a> {
     rela_count: u64,
     plt: &'a [u8],
     plt_count: u64,
+    /// Whether the dynamic array was read to its end.
+    complete: bool,
 }
 
 /// PT_LOAD headers in their order, and p_vaddr of the last PT_DYNAMIC.
@@ -176,7 +178,10 @@ impl<'a> Module<'a> {
         for entry in array.chunks_exact(16) {
             let (tag, value) = (u64_at(entry, 0).unwrap_or(0), u64_at(entry, 8).unwrap_or(0));
             match tag {
-                0 => break,
+                0 => {
+                    self.complete = true;
+                    break;
+                }
                 1 => self.needs.push(value),
                 2 => plt_size = value,
                 4 => sysv = sysv.or(Some(value)),
@@ -338,14 +343,16 @@ pub fn arena_needed(places: &[Place]) -> u64 {
     places.last().map_or(0, Place::end)
 }
 
-/// Words that hold every report of these objects: one for each, and one for each entry.
+/// Words that hold every report of these objects: one for each but the host, and one for each entry.
 pub fn report_needed(modules: &[Module]) -> usize {
-    let entries = modules.iter().map(|m| {
+    let objects = modules.get(1..).unwrap_or(&[]);
+    let entries = objects.iter().map(|m| {
         // a table lies in the span, so a count that is larger is refused
         let most = m.span() / 24 + 1;
-        m.rela_count.min(most) + m.plt_count.min(most)
+        let bounded = |count: u64| if m.complete { count.min(most) } else { most };
+        bounded(m.rela_count) + bounded(m.plt_count)
     });
-    modules.len() + entries.sum::<u64>() as usize
+    objects.len() + entries.sum::<u64>() as usize
 }
 
 /// The image that document 01 wants of a host: the segments of a module, placed as those of the other objects are, in whole pages from address
@@ -479,6 +486,6 @@ mod tests {
         assert_eq!(offsets(0x1000_0000), [0, 0x2000, 0x3000]);
         assert_eq!(offsets(0x1000_1000), [0, 0x1000, 0x2000]);
         assert_eq!(arena_needed(&layout(&modules, 0)), 0x4000);
-        assert_eq!(report_needed(&modules), 3);
+        assert_eq!(report_needed(&modules), 2);
     }
 }

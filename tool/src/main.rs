@@ -34,36 +34,38 @@ impl Failure {
     }
 }
 
-/// What the command has to say.
+/// What the command has to say, as it was asked for: in words, or as JSON.
 pub struct Said {
-    pub text: String,
-    pub json: Json,
-    pub refused: bool,
+    output: String,
+    refused: bool,
+}
+
+impl Said {
+    pub fn new(json: bool, words: impl FnOnce() -> String, value: impl FnOnce() -> Json) -> Said {
+        Said { output: if json { format!("{}\n", value()) } else { words() }, refused: false }
+    }
+
+    pub fn refused(self) -> Said {
+        Said { refused: true, ..self }
+    }
 }
 
 fn main() -> ExitCode {
     let arguments: Vec<OsString> = std::env::args_os().skip(1).collect();
     let json = arguments.iter().take_while(|argument| *argument != "--").any(|argument| argument == "--json");
     let said = args::parse(arguments).and_then(|asked| match asked {
-        args::Asked::Print(text) => Ok((text, None, 0)),
-        args::Asked::Run(options) => {
-            let said = commands::run(&options)?;
-            Ok((said.text, Some(said.json), u8::from(said.refused)))
-        }
+        args::Asked::Print(text) => Ok((text, 0)),
+        args::Asked::Run(options) => commands::run(&options).map(|said| (said.output, u8::from(said.refused))),
     });
-    let (text, value, status) = match said {
-        Ok(said) => said,
-        Err(failure) => {
-            let message = format!("lugwormpin: {}\n", failure.message);
-            let value = fields! { "result": "error", "message": failure.message, "file": failure.file };
-            (message, Some(value), 2)
-        }
-    };
+    let (output, status) = said.unwrap_or_else(|Failure { message, file }| {
+        let words = format!("lugwormpin: {message}\n");
+        let value = || fields! { "result": "error", "message": message, "file": file };
+        (Said::new(json, || words, value).output, 2)
+    });
     // people read refusals and errors beside the output, programs read all of it there
-    let written = match value {
-        Some(value) if json => io::stdout().write_all(format!("{value}\n").as_bytes()),
-        _ if status == 0 => io::stdout().write_all(text.as_bytes()),
-        _ => io::stderr().write_all(text.as_bytes()),
+    let written = match json || status == 0 {
+        true => io::stdout().write_all(output.as_bytes()),
+        false => io::stderr().write_all(output.as_bytes()),
     };
     let written = written.and_then(|()| io::stdout().flush());
     match written {

@@ -1,5 +1,6 @@
 //! A refusal, told.
-use crate::json::Json;
+use crate::args::Options;
+use crate::json::{fields, Json};
 use crate::show::{self, decimal, hex, paragraph};
 use crate::subject::View;
 use crate::{commands, refusals, relocations, Said};
@@ -63,50 +64,58 @@ fn first_entry(view: &View, object: usize, wanted: impl Fn(u32) -> bool) -> Opti
 }
 
 /// The refusal of a call about a set.
-pub fn said(command: &'static str, view: &View, refusal: Refusal) -> Said {
+pub fn said(options: &Options, view: &View, refusal: Refusal) -> Said {
     let object = refusal.object as usize;
     let about = !refusals::without_object().contains(&refusal.number) && object < view.subject.labels.len();
+    let label = about.then(|| view.label(object));
     let row = refusals::told(refusal.number, refusal.object);
     let unknown = "docs/REFUSALS.md has no row for this number";
-    let (meaning, advice) = row.map_or((unknown.to_string(), String::new()), |row| (row.meaning, row.advice));
+    let (meaning, advice) = row.map_or((unknown.into(), String::new()), |row| (row.meaning, row.advice));
     let notes = notes(view, refusal);
-    let label = view.label(object);
+    let undefined = undefined(view, refusal);
 
-    let mut text = match about {
-        true => format!("lugwormpin: refused {}, object {object}: {}\n", refusal.number, label.name),
-        false => format!("lugwormpin: refused {}\n", refusal.number),
-    };
-    if about {
-        text.push_str(&format!("  file        {}\n", label.file.as_deref().unwrap_or("none: the minimal host")));
-    }
-    text.push_str(&paragraph("  meaning     ", &meaning));
-    if !advice.is_empty() {
-        text.push_str(&paragraph("  what to do  ", &advice));
-    }
-    for note in &notes {
-        text.push_str(&paragraph("  here        ", note));
-    }
-    let mut fields = vec![
-        ("command", Json::from(command)),
-        ("result", "refused".into()),
-        ("number", refusal.number.into()),
-        ("object", about.then_some(object).into()),
-        ("name", about.then(|| label.name.clone()).into()),
-        ("file", if about { label.file.clone().into() } else { Json::Null }),
-        ("meaning", meaning.into()),
-        ("advice", advice.into()),
-        ("notes", notes.into_iter().collect()),
-    ];
-    // what is missing, by a call that reports it
-    if refusal.number == 19 {
-        let mut lenient = view.call.clone();
-        lenient.policy = Policy::Lenient;
-        if let Ok(bound) = lenient.bind() {
-            let (undefined, _) = commands::listed(view, &bound);
-            text.push('\n');
-            text.push_str(&commands::undefined_text(view, &undefined));
-            fields.push(("undefined", undefined.iter().map(commands::Listed::json).collect()));
+    let words = || {
+        let mut text = match label {
+            Some(label) => format!("lugwormpin: refused {}, object {object}: {}\n", refusal.number, label.name),
+            None => format!("lugwormpin: refused {}\n", refusal.number),
+        };
+        if let Some(label) = label {
+            text.push_str(&format!("  file        {}\n", label.file.as_deref().unwrap_or("none: the minimal host")));
         }
-    }
-    Said { text, json: Json::Fields(fields), refused: true }
+        text.push_str(&paragraph("  meaning     ", &meaning));
+        if !advice.is_empty() {
+            text.push_str(&paragraph("  what to do  ", &advice));
+        }
+        for note in &notes {
+            text.push_str(&paragraph("  here        ", note));
+        }
+        if let Some(undefined) = &undefined {
+            text.push('\n');
+            text.push_str(&commands::undefined_text(view, undefined));
+        }
+        text
+    };
+    let value = || {
+        fields! {
+            "command": options.command.name(),
+            "result": "refused",
+            "number": refusal.number,
+            "object": about.then_some(object),
+            "name": label.map(|label| label.name.clone()),
+            "file": label.and_then(|label| label.file.clone()),
+            "meaning": meaning.as_str(),
+            "advice": advice.as_str(),
+            "notes": notes.iter().map(String::as_str).collect::<Json>(),
+            "undefined": undefined.as_ref().map(|entries| entries.iter().map(commands::Listed::json).collect::<Json>()),
+        }
+    };
+    Said::new(options.json, words, value).refused()
+}
+
+/// After 19, what is undefined, by a call that reports it.
+fn undefined(view: &View, refusal: Refusal) -> Option<Vec<commands::Listed>> {
+    let mut lenient = view.call.clone();
+    lenient.policy = Policy::Lenient;
+    let bound = (refusal.number == 19).then(|| lenient.bind().ok())??;
+    Some(commands::listed(view, &bound).0)
 }
