@@ -52,10 +52,14 @@ impl Said {
 
 fn main() -> ExitCode {
     let arguments: Vec<OsString> = std::env::args_os().skip(1).collect();
-    let json = arguments.iter().take_while(|argument| *argument != "--").any(|argument| argument == "--json");
+    // for errors in the arguments themselves
+    let mut json = arguments.iter().take_while(|argument| *argument != "--").any(|argument| argument == "--json");
     let said = args::parse(arguments).and_then(|asked| match asked {
         args::Asked::Print(text) => Ok((text, 0)),
-        args::Asked::Run(options) => commands::run(&options).map(|said| (said.output, u8::from(said.refused))),
+        args::Asked::Run(options) => {
+            json = options.json;
+            commands::run(&options).map(|said| (said.output, u8::from(said.refused)))
+        }
     });
     let (output, status) = said.unwrap_or_else(|Failure { message, file }| {
         let words = format!("lugwormpin: {message}\n");
