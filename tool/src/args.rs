@@ -70,7 +70,7 @@ struct Spec {
 const ALL: &[Command] = &[Bind, Query, Order, Set];
 
 #[rustfmt::skip]
-const OPTIONS: [Spec; 16] = [
+const OPTIONS: &[Spec] = &[
     Spec { long: "output", short: Some('o'), value: Some("FILE"), of: &[Bind, Set], help: "where to write (the file appears whole or not at all)" },
     Spec { long: "address", short: None, value: Some("ADDRESS"), of: ALL, help: "where the image will be mapped: 0x10000000, or a decimal number; a multiple of 4,096" },
     Spec { long: "host", short: None, value: Some("FILE"), of: ALL, help: "the host, a module: its segments are laid out as an image" },
