@@ -8,6 +8,7 @@ pub mod RefusalCasesHold
 pub mod OrderReported
 pub mod RefusalNumbers
 pub mod RefusalsHold
+pub mod AllNamesHold
 pub mod HostStays
 pub mod LargePagesHold
 pub mod PairFiles

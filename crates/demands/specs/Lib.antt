@@ -5,6 +5,7 @@ pub mod Cases
 pub mod FieldCases
 pub mod RefusalCases
 pub mod Refusals
+pub mod AllNames
 pub mod LargePages
 pub mod PairOfSheets
 pub mod ObjectRuns

@@ -28,7 +28,11 @@ use Rattle.binder.specs.declared.Verdict.the-variants.{Passed, Refused}
 use Rattle.binder.specs.Report.{orderWords, firstUndefined}
 use Rattle.binder.specs.Bind as binding
 use Rattle.binder.specs.Bind.{filesOf, objectsOf, unless, allows, relocateVerdict, outcome, outcomeOf, replied, repliedOf, replyOf}
+use Rattle.binder.specs.declared.ReplyAll as allReplies
+use Rattle.binder.specs.QueryAll as all
+use Rattle.binder.specs.QueryAll.{listOk, repliedAll, repliedAllOf}
 use Rattle.binder.proofs.OutcomeLaws.{refused-not, sheetVerdict, bind-one, query-one}
+use Rattle.binder.proofs.QueryAllIs.{query-all-one}
 use Rattle.export.specs.Calls.{ZeroTells}
 
 abbrev Numbered : Verdict → Type 0
@@ -126,6 +130,13 @@ unfolding binding.repliedOf
 of-replied size Passed s a arena n k h e = not-refused s a arena n k e
 of-replied size (Refused m j) s a arena n k h e = h n k cc
 
+of-replied-all :
+    (size slots : ℕ) (v : Verdict) (a ws arena words : List ℕ) (n k : ℕ) → Numbered v
+    → repliedAllOf size slots v a ws ≡ repliedAll (allReplies.the-variants.Refused n k) arena words → 0 < n
+unfolding all.repliedAllOf
+of-replied-all size slots Passed a ws arena words n k h e = let z : _≡_ {A = ℕ} 0 1 = cc in absurd (omega arith)
+of-replied-all size slots (Refused m j) a ws arena words n k h e = h n k cc
+
 pub zero-tells : ZeroTells
 unfolding binding.bindIn
 zero-tells = (
@@ -137,4 +148,11 @@ zero-tells = (
       of-replied size _ (resolve (objectsOf setting (filesOf (setOf sheet bytes))) requester (symbols.byName name)) _ arena n k
       (either-one (sheetVerdict setting sheet bytes size) (unless (ltb requester (length (setOf sheet bytes))) 13 0) (of-prepare setting sheet bytes size)
       (of-test (ltb requester (length (setOf sheet bytes))) 13 0 (omega arith))) (sym (query-one setting sheet bytes size requester name) ∙ e),
+  λ setting sheet bytes size requester list slots n k arena words e.
+      let asking = unless (ltb requester (length (setOf sheet bytes))) 13 0 in
+      let listed = unless (listOk list slots) 23 0 in
+      of-replied-all size slots _ _ _ arena words n k
+      (either-one (sheetVerdict setting sheet bytes size) (first asking listed) (of-prepare setting sheet bytes size)
+      (either-one asking listed (of-test (ltb requester (length (setOf sheet bytes))) 13 0 (omega arith)) (of-test (listOk list slots) 23 0 (omega arith))))
+      (sym (query-all-one setting sheet bytes size requester list slots) ∙ e),
 )
