@@ -14,6 +14,8 @@ extern "C" {
                        address: u64, strict: u32, report: *mut u32, report_len: usize) -> u64;
     fn lugwormpin_query(sheet: *const u32, sheet_len: usize, bytes: *const u8, bytes_len: usize, arena: *mut u8, arena_len: usize,
                         address: u64, requester: u32, name: *const u8, name_len: usize, answer: *mut u64, answer_len: usize) -> u64;
+    fn lugwormpin_query_all(sheet: *const u32, sheet_len: usize, bytes: *const u8, bytes_len: usize, arena: *mut u8, arena_len: usize,
+                            address: u64, requester: u32, names: *const u8, names_len: usize, addresses: *mut u64, addresses_len: usize) -> u64;
 }
 
 /// What every call takes.
@@ -39,5 +41,14 @@ pub fn query(s: Slices, requester: u32, name: &[u8], answer: &mut [u64]) -> u64 
     unsafe {
         lugwormpin_query(s.sheet.as_ptr(), s.sheet.len(), s.bytes.as_ptr(), s.bytes.len(), s.arena.as_mut_ptr(), s.arena.len(), s.address,
                          requester, name.as_ptr(), name.len(), answer.as_mut_ptr(), answer.len())
+    }
+}
+
+#[rustfmt::skip]
+pub fn query_all(s: Slices, requester: u32, names: &[u8], addresses: &mut [u64]) -> u64 {
+    // SAFETY: the head of this file.
+    unsafe {
+        lugwormpin_query_all(s.sheet.as_ptr(), s.sheet.len(), s.bytes.as_ptr(), s.bytes.len(), s.arena.as_mut_ptr(), s.arena.len(), s.address,
+                             requester, names.as_ptr(), names.len(), addresses.as_mut_ptr(), addresses.len())
     }
 }

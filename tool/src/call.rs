@@ -142,20 +142,24 @@ impl<'a> Call<'a> {
 
     /// Where a name is, as the object `requester` finds it; None where no object has it.
     pub fn query(&self, requester: u32, name: &[u8]) -> Result<Option<Found>, Refusal> {
-        self.query_in(&mut self.room(), requester, name)
-    }
-
-    /// Where each of these names is: as many queries, in one arena.
-    pub fn query_each(&self, requester: u32, names: &[impl AsRef<[u8]>]) -> Result<Vec<Option<Found>>, Refusal> {
-        let mut arena = self.room();
-        names.iter().map(|name| self.query_in(&mut arena, requester, name.as_ref())).collect()
-    }
-
-    fn query_in(&self, arena: &mut [u8], requester: u32, name: &[u8]) -> Result<Option<Found>, Refusal> {
         let mut answer = [0; 4];
-        Refusal::check(archive::query(self.slices(arena), requester, name, &mut answer))?;
+        Refusal::check(archive::query(self.slices(&mut self.room()), requester, name, &mut answer))?;
         let [found, object, symbol, address] = answer;
         Ok((found == 1).then_some(Found { object: object as u32, symbol: symbol as u32, address }))
+    }
+
+    /// The addresses of names, as the object `requester` finds them, in one load; 0 where no object has the name. A name with a zero byte in it
+    /// is one that no object has.
+    pub fn query_all(&self, requester: u32, names: &[impl AsRef<[u8]>]) -> Result<Vec<u64>, Refusal> {
+        let asked = || names.iter().map(AsRef::as_ref).enumerate().filter(|(_, name)| !name.contains(&0));
+        let list: Vec<u8> = asked().flat_map(|(_, name)| name.iter().copied().chain([0])).collect();
+        let mut found = vec![0; asked().count()];
+        Refusal::check(archive::query_all(self.slices(&mut self.room()), requester, &list, &mut found))?;
+        let mut addresses = vec![0; names.len()];
+        for ((k, _), address) in asked().zip(found) {
+            addresses[k] = address;
+        }
+        Ok(addresses)
     }
 }
 
@@ -186,7 +190,9 @@ mod tests {
         assert_eq!(bound.words().collect::<Vec<Word>>(), [Word::Object(1)]);
         assert_eq!(bound.order().collect::<Vec<usize>>(), [1]);
         assert_eq!(call.query(1, b"x"), Ok(None));
-        assert_eq!(call.query_each(1, &["x", "y"]), Ok(vec![None, None]));
+        assert_eq!(call.query_all(1, &["x", "", "y\0"]), Ok(vec![0, 0, 0]));
+        assert_eq!(call.query_all(1, &[] as &[&str]), Ok(vec![]));
+        assert_eq!(call.query_all(2, &["x"]), Err(Refusal { number: 13, object: 0 }));
     }
 
     #[test]

@@ -5,7 +5,8 @@ use crate::json::{fields, Json};
 use crate::show::{self, counted, decimal, hex, table};
 use crate::subject::{self, Subject, View};
 use crate::{refused, relocations, Failure, Said};
-use lugwormpin::{Bound, Found, Policy, Set, Word};
+use lugwormpin::{Bound, Found, Policy, Refusal, Set, Word};
+use std::collections::HashMap;
 use std::fmt::Write as _;
 use std::io::{self, BufWriter, Read, Write};
 use std::path::{Path, PathBuf};
@@ -269,7 +270,7 @@ impl Unlisted {
 
 fn unlisted_needs(view: &View) -> Vec<Unlisted> {
     let mut unlisted: Vec<Unlisted> = Vec::new();
-    let mut place = std::collections::HashMap::new();
+    let mut place = HashMap::new();
     for object in 1..view.modules.len() {
         for (name, holder) in view.needs(object) {
             if holder.is_some() {
@@ -295,7 +296,8 @@ fn query(options: &Options, subject: &Subject) -> Result<Said, Failure> {
     let requester = requester(options, subject)?;
     let view = View::new(subject, options)?;
     subject.progress.say(|| format!("asking for {}", counted(names.len(), "name", "names")));
-    let found = match view.call.query_each(requester, &names) {
+    let found = match view.call.query_all(requester, &names).and_then(|found| located(&view, requester, &names, &found))
+    {
         Ok(found) => found,
         Err(refusal) => return Ok(refused::said(options, &view, refusal)),
     };
@@ -327,6 +329,31 @@ fn query(options: &Options, subject: &Subject) -> Result<Said, Failure> {
         }
     };
     Ok(Said::new(options.json, words, value))
+}
+
+/// The object and the symbol of each address. The archive's list has addresses alone; where one symbol of the set has that name and that
+/// address it is the one, and a name for which there are several, or for which 0 can be an address, is asked for by itself.
+fn located(view: &View, requester: u32, names: &[Vec<u8>], addresses: &[u64]) -> Result<Vec<Option<Found>>, Refusal> {
+    let mut places: HashMap<&[u8], (u64, Option<Found>, usize)> = HashMap::new();
+    for (name, address) in names.iter().zip(addresses) {
+        places.insert(name, (*address, None, 0));
+    }
+    for (object, module) in view.modules.iter().enumerate() {
+        for (index, symbol) in module.symbols() {
+            let Some((address, found, count)) = symbol.name.and_then(|name| places.get_mut(name)) else { continue };
+            if symbol.exported() && symbol.address(view.base(object)) == *address {
+                *found = Some(Found { object: object as u32, symbol: index as u32, address: *address });
+                *count += 1;
+            }
+        }
+    }
+    for (name, (address, found, count)) in &mut places {
+        let certain = if *address == 0 { *count == 0 } else { *count == 1 };
+        if !certain {
+            *found = view.call.query(requester, name)?;
+        }
+    }
+    Ok(names.iter().map(|name| places.get(name.as_slice()).and_then(|(_, found, _)| *found)).collect())
 }
 
 /// The names that are asked for: the arguments, then the lines of a file.
