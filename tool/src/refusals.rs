@@ -33,13 +33,17 @@ pub fn told(number: u32, object: u32) -> Option<Row> {
     let rows = rows();
     let find = |number| rows.iter().find(|row| row.number == number);
     let mut row = find(number)?.clone();
-    let other = row.advice.strip_prefix("As ").and_then(|rest| rest.trim_end_matches('.').parse().ok()).and_then(find);
-    if let Some(other) = other {
+    if let Some(other) = same_as(&row.advice).and_then(find) {
         row.advice = other.advice.clone();
     }
     row.meaning = with_object(&row.meaning, object);
     row.advice = with_object(&row.advice, object);
     Some(row)
+}
+
+/// The number that an advice leads to: 9, of `As 9.`
+fn same_as(advice: &str) -> Option<u32> {
+    advice.strip_prefix("As ")?.strip_suffix('.')?.parse().ok()
 }
 
 /// The text with the object's number for each M that stands alone.
@@ -81,7 +85,7 @@ mod tests {
         for (number, _) in numbers {
             let row = told(number, 7).unwrap_or_else(|| panic!("docs/REFUSALS.md has no row for {number}"));
             assert!(row.meaning.len() > 10 && row.advice.len() > 10, "{row:?}");
-            assert!(!row.advice.starts_with("As "), "{row:?}");
+            assert!(same_as(&row.advice).is_none(), "{row:?}");
         }
     }
 
