@@ -39,14 +39,15 @@ const COMMANDS: [About; 4] = [
         usage: "lugwormpin query PROGRAM [LIBRARY..] --address ADDRESS [OPTION..] -- NAME..\n       \
                 lugwormpin query --program PROGRAM [--library LIBRARY].. --address ADDRESS [OPTION..] NAME..",
         text: "Prints for each NAME its address in the image at ADDRESS, the object that defines it, and the index of its symbol there. A name \
-               that no object has is answered too: with a dash.",
+               that no object has is answered too: with a dash. Files, host and ADDRESS are those of `bind`.",
     },
     About {
         command: Order,
         name: "order",
         what: "tell the binding order, and the needs behind it",
         usage: "lugwormpin order PROGRAM [LIBRARY..] [OPTION..]",
-        text: "Prints the objects in binding order, each with the libraries that it needs; needs that are not in the set are marked.",
+        text: "Prints the objects in binding order, each with the libraries that it needs; needs that are not in the set are marked. The \
+               address plays no part.",
     },
     About {
         command: Set,
@@ -54,7 +55,8 @@ const COMMANDS: [About; 4] = [
         what: "write the set as one file, for a report of a fault",
         usage: "lugwormpin set PROGRAM [LIBRARY..] -o FILE [OPTION..]",
         text: "Writes host, program and libraries as one input of document 01's program. That program takes at most 65,536 bytes; `--set FILE` \
-               of this command takes any.",
+               of this command takes any. Address and arena are no part of \
+               such a file.",
     },
 ];
 
