@@ -171,7 +171,7 @@ impl Listed {
     fn new(view: &View, object: usize, entry: u32) -> Listed {
         let module = view.modules.get(object);
         let read = module.and_then(|module| module.entry(entry.into()));
-        let symbol = read.and_then(|read| module?.symbol(read.symbol as usize)?.name.map(show::printable));
+        let symbol = read.and_then(|read| module?.name(&module?.symbol(read.symbol as usize)?).map(show::printable));
         Listed {
             object,
             name: view.label(object).name.clone(),
@@ -296,8 +296,8 @@ fn query(options: &Options, subject: &Subject) -> Result<Said, Failure> {
     let requester = requester(options, subject)?;
     let view = View::new(subject, options)?;
     subject.progress.say(|| format!("asking for {}", counted(names.len(), "name", "names")));
-    let found = match view.call.query_all(requester, &names).and_then(|found| located(&view, requester, &names, &found))
-    {
+    let addresses = view.call.query_all(requester, &names);
+    let found = match addresses.and_then(|addresses| located(&view, requester, &names, &addresses)) {
         Ok(found) => found,
         Err(refusal) => return Ok(refused::said(options, &view, refusal)),
     };
@@ -338,10 +338,12 @@ fn located(view: &View, requester: u32, names: &[Vec<u8>], addresses: &[u64]) ->
     for (name, address) in names.iter().zip(addresses) {
         places.insert(name, (*address, None, 0));
     }
+    let longest = names.iter().map(Vec::len).max().unwrap_or(0);
     for (object, module) in view.modules.iter().enumerate() {
-        for (index, symbol) in module.symbols() {
-            let Some((address, found, count)) = symbol.name.and_then(|name| places.get_mut(name)) else { continue };
-            if symbol.exported() && symbol.address(view.base(object)) == *address {
+        for (index, symbol) in module.symbols().filter(|(_, symbol)| symbol.exported()) {
+            let name = module.name_within(&symbol, longest);
+            let Some((address, found, count)) = name.and_then(|name| places.get_mut(name)) else { continue };
+            if symbol.address(view.base(object)) == *address {
                 *found = Some(Found { object: object as u32, symbol: index as u32, address: *address });
                 *count += 1;
             }

@@ -4,6 +4,8 @@ use crate::{Set, ARENA_LIMIT, PART_LIMIT};
 
 /// The size of a page.
 pub const PAGE: u64 = 4096;
+/// The bytes of a name that are shown; a longer one is cut. A file can have many names that end far off.
+pub const NAME_SHOWN: usize = 4096;
 const LOAD: u32 = 1;
 const DYNAMIC: u32 = 2;
 /// Document 01's limits: program headers that are read, and where a segment may end.
@@ -69,16 +71,15 @@ pub struct Entry {
 
 /// An entry of the symbol table.
 #[derive(Clone, Copy, Debug)]
-pub struct Symbol<'a> {
-    /// Its name, where that can be read.
-    pub name: Option<&'a [u8]>,
+pub struct Symbol {
+    name: u32,
     info: u8,
     other: u8,
     section: u16,
     value: u64,
 }
 
-impl Symbol<'_> {
+impl Symbol {
     /// Document 01: section not 0, binding 1 or 2, visibility 0 or 3.
     pub fn exported(&self) -> bool {
         self.section != 0 && matches!(self.info >> 4, 1 | 2) && matches!(self.other & 3, 0 | 3)
@@ -254,10 +255,10 @@ impl<'a> Module<'a> {
     }
 
     /// A symbol by its index.
-    pub fn symbol(&self, index: usize) -> Option<Symbol<'a>> {
+    pub fn symbol(&self, index: usize) -> Option<Symbol> {
         let symbol = self.symbols.get(index.checked_mul(24)?..)?.get(..24)?;
         Some(Symbol {
-            name: self.string(u32_at(symbol, 0)?.into()),
+            name: u32_at(symbol, 0)?,
             info: symbol[4],
             other: symbol[5],
             section: u16_at(symbol, 6)?,
@@ -266,13 +267,29 @@ impl<'a> Module<'a> {
     }
 
     /// The symbols, as far as their table can be read.
-    pub fn symbols(&self) -> impl Iterator<Item = (usize, Symbol<'a>)> + '_ {
+    pub fn symbols(&self) -> impl Iterator<Item = (usize, Symbol)> + '_ {
         (0..self.symbol_count).filter_map(|index| Some((index, self.symbol(index)?)))
+    }
+
+    /// The name of a symbol of this object, where that can be read and has at most `most` bytes.
+    pub fn name_within(&self, symbol: &Symbol, most: usize) -> Option<&'a [u8]> {
+        let text = from(self.strings, symbol.name.into());
+        let near = &text[..text.len().min(most.saturating_add(1))];
+        near.iter().position(|byte| *byte == 0).map(|end| &near[..end])
+    }
+
+    /// The name of a symbol of this object, for showing.
+    pub fn name(&self, symbol: &Symbol) -> Option<&'a [u8]> {
+        self.string(symbol.name.into())
     }
 
     fn string(&self, offset: u64) -> Option<&'a [u8]> {
         let text = from(self.strings, offset);
-        text.iter().position(|byte| *byte == 0).map(|end| &text[..end])
+        let near = &text[..text.len().min(NAME_SHOWN)];
+        match near.iter().position(|byte| *byte == 0) {
+            Some(end) => Some(&near[..end]),
+            None => (near.len() == NAME_SHOWN).then_some(near),
+        }
     }
 
     /// The names of the libraries that it needs (DT_NEEDED), in their order.
@@ -414,9 +431,8 @@ mod tests {
         for module in [Module::of_file(file), Module::of_image(file)] {
             assert!(module.span() <= END && module.align() >= PAGE);
             for number in (0..40).chain([module.entry_count().wrapping_sub(1), module.rela_count, u64::MAX]) {
-                if let Some(entry) = module.entry(number) {
-                    module.symbol(entry.symbol as usize);
-                }
+                let symbol = module.entry(number).and_then(|entry| module.symbol(entry.symbol as usize));
+                let _ = symbol.map(|symbol| (module.name(&symbol), module.name_within(&symbol, 9)));
             }
             for (_, symbol) in module.symbols().take(40) {
                 let _ = (symbol.exported(), symbol.protected(), symbol.address(u64::MAX));
