@@ -6,9 +6,9 @@
 
 #include "lugwormpin.h"
 
-static uint32_t input[16384], report[1024];
+static uint32_t input[16384], report[1024], types[66];
 static uint8_t arena[32768];
-static size_t words, bytes_len;
+static size_t words, bytes_len, types_len = 64;
 static const uint8_t *bytes;
 
 static int zeros(const void *slice, size_t len)
@@ -49,7 +49,8 @@ static void bind(uint32_t strict, size_t report_len)
 {
     memset(arena, 0xff, sizeof arena);
     memset(report, 0xff, sizeof report);
-    uint64_t r = lugwormpin_bind(input + 1, words, bytes, bytes_len, arena, sizeof arena, 0x10000000, strict, report, report_len);
+    uint64_t r =
+        lugwormpin_bind(input + 1, words, bytes, bytes_len, arena, sizeof arena, 0x10000000, strict, types, types_len, report, report_len);
     printf("bind: %" PRIu32 " %" PRIu32 ", arena %s, report %s, next word %" PRIx32 "\n", LUGWORMPIN_NUMBER(r), LUGWORMPIN_OBJECT(r),
            zeros(arena, sizeof arena) ? "zeros" : "bound", zeros(report, report_len * 4) ? "zeros" : "words", report[report_len]);
 }
@@ -64,6 +65,10 @@ int main(int argc, char **argv)
     words = input[0];
     bytes = (const uint8_t *)(input + 1 + words);
     bytes_len = size - 4 - 4 * words;
+    memset(types, 0xff, sizeof types);
+    lugwormpin_types(types, 66);
+    printf("types: %" PRIx32 " %" PRIx32 " %" PRIx32 " %" PRIx32 ", %" PRIx32 " %" PRIx32 "\n", types[0], types[1], types[37], types[63],
+           types[64], types[65]);
     ask(1, "a_call", 4);
     ask(3, "shared_var", 6);
     ask(0, "only_b", 2);
@@ -75,9 +80,19 @@ int main(int argc, char **argv)
     ask_all(1, "a_call", 7, 2);
     ask_all(1, "a_call", 6, 0);
     ask_all(4, "a_call", 6, 3);
-    bind(0, 6);
+    bind(0, 4);
     bind(0, 3);
-    bind(1, 6);
+    bind(1, 4);
+    /* the words of the types: 63 of them, type 6 refused, type 6 passed over */
+    types_len = 63;
+    bind(0, 4);
+    types_len = 64;
+    types[6] = 0xb0000006;
+    bind(0, 4);
+    types[6] = 0xa0000006;
+    bind(0, 4);
+    bind(0, 12);
+    lugwormpin_types(types, 7);
     words -= 1;
     ask(1, "a_call", 4);
     ask_all(1, "a_call", 7, 1);

@@ -3,7 +3,8 @@ ghost use mathlib.Core.Path.{_≡_};
 ghost use mathlib.Core.List.{[], _∷_};
 ghost use lib.ListN.{length};
 ghost use Rattle.words.specs.Memory.{mem};
-ghost use Rattle.binder.specs.Setting.{settingAt};
+ghost use Rattle.object.specs.RelocationTypes.{suppliedTypes};
+ghost use Rattle.binder.specs.Setting.{settingOf, settingAt};
 ghost use Rattle.binder.specs.Bind.{bindOf, queryOf};
 ghost use Rattle.binder.specs.QueryAll.{queryAllOf};
 ghost use Rattle.export.specs.Calls.{packed, policyOf, answerNumber, replyNumber, replyWords, fitted, called, calledOf, asked, askedOf, replyAllNumber, askedAllOf};
@@ -91,7 +92,15 @@ fn store_reply(answer: &mut [u64], reply: Reply) -> u64
     }
 }
 
-// Binds the set of a sheet and its bytes in the arena at `address`: 0 where it is bound, else the refusal.
+// Fills the slice with the supplied words of the types, then zeros.
+#[no_mangle]
+pub extern "C" fn lugwormpin_types(types: &mut [u32])
+    ensures { λ _. ⌜ now (types .exit) ≡ fitted (length (now (types .entry))) suppliedTypes ⌝ }
+{
+    binder::types::supply(types);
+}
+
+// Binds the set of a sheet and its bytes in the arena at `address`, each type as its word says: 0 where it is bound, else the refusal.
 #[no_mangle]
 pub extern "C" fn lugwormpin_bind(
     sheet: &[u32],
@@ -99,12 +108,13 @@ pub extern "C" fn lugwormpin_bind(
     arena: &mut [u8],
     address: u64,
     strict: u32,
+    types: &[u32],
     report: &mut [u32],
 ) -> u64
-    ensures { λ r. ⌜ called r (now (arena .exit)) (now (report .exit)) ≡ calledOf (bindOf (settingAt address) (now (sheet .entry)) (now (bytes .entry)) (length (now (arena .entry))) (policyOf strict) (length (now (report .entry)))) ⌝ }
+    ensures { λ r. ⌜ called r (now (arena .exit)) (now (report .exit)) ≡ calledOf (bindOf (settingOf address (now (types .entry))) (now (sheet .entry)) (now (bytes .entry)) (length (now (arena .entry))) (policyOf strict) (length (now (report .entry)))) ⌝ }
 {
     let policy = policy_of(strict);
-    let a = binder::bind::bind(sheet, bytes, arena, address, policy, report);
+    let a = binder::bind::bind(sheet, bytes, arena, address, policy, types, report);
     answer_number(a)
 }
 
