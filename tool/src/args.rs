@@ -1,6 +1,5 @@
 //! The command line.
-use crate::show;
-use crate::Failure;
+use crate::{marks, show, Failure};
 use std::ffi::{OsStr, OsString};
 use std::os::unix::ffi::{OsStrExt, OsStringExt};
 use std::path::PathBuf;
@@ -82,6 +81,7 @@ const OPTIONS: &[Spec] = &[
     Spec { long: "library", short: None, value: Some("[NAME=]FILE"), of: ALL, help: "a library, in place of an argument; can be given many times" },
     Spec { long: "set", short: None, value: Some("FILE"), of: ALL, help: "host, program and libraries from a file that `lugwormpin set` wrote" },
     Spec { long: "strict", short: None, value: None, of: &[Bind], help: "refuse a set with an entry that nobody defines (refusal 19)" },
+    Spec { long: "types", short: None, value: Some("FILE"), of: &[Bind], help: "what is done with entries of each relocation type, in lines such as `1 refuse` and `37 pass`; types without a line are as `lugwormpin types` prints them" },
     Spec { long: "report", short: None, value: Some("FILE"), of: &[Bind], help: "write the report there too, in document 01's words" },
     Spec { long: "requester", short: None, value: Some("OBJECT"), of: &[Query], help: "the object that asks, by number or library name (default 1, the program); its own protected names come first" },
     Spec { long: "names", short: None, value: Some("FILE"), of: &[Query], help: "more names, one a line; - is standard input" },
@@ -120,6 +120,7 @@ pub struct Options {
     pub arena: Option<u64>,
     pub output: Option<PathBuf>,
     pub report: Option<PathBuf>,
+    pub types: Option<PathBuf>,
     pub requester: Option<OsString>,
     pub names: Vec<Vec<u8>>,
     pub names_file: Option<PathBuf>,
@@ -159,6 +160,7 @@ fn general_help() -> String {
     for about in &COMMANDS {
         text.push_str(&show::paragraph(&format!("  {:14}", about.name), about.what));
     }
+    text.push_str(&show::paragraph("  types         ", "print the table of relocation types, for `bind --types`"));
     text.push_str(&show::paragraph("  help COMMAND  ", "print what a command takes"));
     text.push_str(
         "\nA library is FILE, or NAME=FILE where the name by which other modules need it is not its file's name.\n",
@@ -195,13 +197,20 @@ fn help(command: Command) -> String {
 pub fn parse(arguments: Vec<OsString>) -> Result<Asked, Failure> {
     let mut arguments = arguments.into_iter();
     let Some(first) = arguments.next() else {
-        return Err(Failure::usage("no command: bind, query, order or set (`lugwormpin --help` tells more)"));
+        return Err(Failure::usage("no command: bind, query, order, set or types (`lugwormpin --help` tells more)"));
     };
     let command =
         |word: &OsStr| COMMANDS.iter().find(|about| OsStr::new(about.name) == word).map(|about| about.command);
     match first.to_str() {
         Some("--help" | "-h") => return Ok(Asked::Print(general_help())),
         Some("--version" | "-V") => return Ok(Asked::Print(version())),
+        Some("types") => {
+            return match arguments.next() {
+                None => Ok(Asked::Print(marks::supplied_text())),
+                Some(word) if word == "--help" || word == "-h" => Ok(Asked::Print(general_help())),
+                Some(word) => Err(Failure::usage(format!("types: {}: this command takes nothing", show::path(&word)))),
+            }
+        }
         Some("help") => {
             return match arguments.next() {
                 None => Ok(Asked::Print(general_help())),
@@ -219,7 +228,9 @@ pub fn parse(arguments: Vec<OsString>) -> Result<Asked, Failure> {
 
 fn no_command(word: &OsStr) -> Failure {
     let word = show::path(word);
-    Failure::usage(format!("{word}: no such command: bind, query, order or set (`lugwormpin --help` tells more)"))
+    Failure::usage(format!(
+        "{word}: no such command: bind, query, order, set or types (`lugwormpin --help` tells more)"
+    ))
 }
 
 /// The arguments, sorted.
@@ -344,6 +355,7 @@ impl Given {
             arena: self.number("arena", "a count of bytes, such as 65536 or 0x10000")?,
             output,
             report: self.file("report"),
+            types: self.file("types"),
             requester: self.value("requester"),
             names,
             names_file: self.file("names"),

@@ -1,6 +1,6 @@
 //! The calls, over a set.
 use crate::archive::{self, Slices};
-use crate::{elf, Set};
+use crate::{elf, Set, Types};
 
 /// The most bytes of an arena.
 pub const ARENA_LIMIT: usize = 1 << 28;
@@ -104,10 +104,12 @@ pub struct Call<'a> {
     pub report: usize,
     /// What becomes of undefined entries.
     pub policy: Policy,
+    /// What is done with entries of each type.
+    pub types: Types,
 }
 
 impl<'a> Call<'a> {
-    /// A lenient call, with the least arena that holds the set at that address (at most [`ARENA_LIMIT`]) and a report that is long enough.
+    /// A lenient call, with the supplied words of the types, the least arena that holds the set at that address (at most [`ARENA_LIMIT`]) and a report that is long enough.
     pub fn new(set: &'a Set, address: u64) -> Call<'a> {
         let modules = elf::modules(set);
         let needed = elf::arena_needed(&elf::layout(&modules, address));
@@ -117,6 +119,7 @@ impl<'a> Call<'a> {
             arena: needed.min(ARENA_LIMIT as u64) as usize,
             report: elf::report_needed(&modules),
             policy: Policy::Lenient,
+            types: Types::supplied(),
         }
     }
 
@@ -136,7 +139,7 @@ impl<'a> Call<'a> {
     /// Binds the set.
     pub fn bind(&self) -> Result<Bound, Refusal> {
         let (mut image, mut report) = (self.room(), vec![0; self.report]);
-        Refusal::check(archive::bind(self.slices(&mut image), self.strict(), &mut report))?;
+        Refusal::check(archive::bind(self.slices(&mut image), self.strict(), self.types.words(), &mut report))?;
         Ok(Bound { image, report: used(report) })
     }
 
@@ -173,6 +176,7 @@ fn used(mut report: Vec<u32>) -> Vec<u32> {
 #[cfg(test)]
 mod tests {
     use super::*;
+    use crate::Mark;
 
     fn set(program: &[u8]) -> Set {
         Set::new(&Set::MINIMAL_HOST[..], program).unwrap()
@@ -208,6 +212,16 @@ mod tests {
         assert_eq!(call.bind(), Err(Refusal { number: 2, object: 0 }));
         call.arena = 0;
         assert_eq!(call.bind(), Err(Refusal { number: 8, object: 0 }));
+    }
+
+    #[test]
+    fn types() {
+        let set = set(&Set::MINIMAL_HOST);
+        let mut call = Call::new(&set, 0);
+        call.types.set(37, Mark::Pass);
+        assert!(call.bind().is_ok());
+        call.types.set(37, Mark::Apply);
+        assert_eq!(call.bind(), Err(Refusal { number: 24, object: 0 }));
     }
 
     #[test]

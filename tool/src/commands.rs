@@ -5,7 +5,7 @@ use crate::json::{fields, Json};
 use crate::show::{self, counted, decimal, hex, table};
 use crate::subject::{self, Subject, View};
 use crate::{refused, relocations, Failure, Said};
-use lugwormpin::{Bound, Found, Policy, Refusal, Set, Word};
+use lugwormpin::{Bound, Found, Mark, Policy, Refusal, Set, Types, Word};
 use std::collections::HashMap;
 use std::fmt::Write as _;
 use std::io::{self, BufWriter, Read, Write};
@@ -85,6 +85,7 @@ fn bind(options: &Options, subject: &Subject) -> Result<Said, Failure> {
             "arena": call.arena,
             "arena_needed": view.needed(),
             "strict": call.policy == Policy::Strict,
+            "types": view.table.changed().into_iter().map(|(kind, mark)| fields! { "type": kind, "mark": mark }).collect::<Json>(),
             "host": object_json(&view, 0),
             "objects": bound.order().map(|k| object_json(&view, k)).collect::<Json>(),
             "undefined": undefined.iter().map(Listed::json).collect::<Json>(),
@@ -122,6 +123,9 @@ fn bound_text(
     let size = decimal(bound.image.len() as u64);
     let mut text = format!("bound: {}\n", show::path(image));
     let _ = writeln!(text, "to be mapped at {}, {size} bytes ({arena})", hex(view.call.address));
+    for (kind, mark) in view.table.changed() {
+        let _ = writeln!(text, "types: {} {mark}, not as supplied", relocations::shown(kind));
+    }
     let order: Vec<usize> = bound.order().collect();
     let _ = writeln!(text, "\n{}, in binding order", counted(order.len(), "object", "objects"));
     let rows: Vec<Vec<String>> = order.iter().map(|k| object_row(view, *k)).collect();
@@ -400,7 +404,9 @@ fn order(options: &Options, subject: &Subject) -> Result<Said, Failure> {
     if options.dot && options.json {
         return Err(options.command.usage("--dot and --json: only one of them can be given"));
     }
-    let view = View::new(subject, options)?;
+    let mut view = View::new(subject, options)?;
+    // the order is that of any types: so no entry is refused
+    view.call.types = Types::all(Mark::Pass);
     subject.say_binding();
     let bound = match view.call.bind() {
         Ok(bound) => bound,

@@ -22,6 +22,8 @@ mod archive;
 mod call;
 pub mod elf;
 mod set;
+mod types;
 
 pub use call::{Bound, Call, Found, Policy, Refusal, Word, ARENA_LIMIT};
 pub use set::{Fault, Set, SetError, LIBRARY_LIMIT, NAME_LIMIT, PART_LIMIT};
+pub use types::{Mark, Types, TYPES};

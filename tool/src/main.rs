@@ -5,6 +5,7 @@ mod args;
 mod commands;
 mod files;
 mod json;
+mod marks;
 mod refusals;
 mod refused;
 mod relocations;

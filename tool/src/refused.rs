@@ -4,7 +4,7 @@ use crate::json::{fields, Json};
 use crate::show::{self, decimal, hex, paragraph};
 use crate::subject::View;
 use crate::{commands, refusals, relocations, Said};
-use lugwormpin::{elf, Policy, Refusal, ARENA_LIMIT};
+use lugwormpin::{elf, Mark, Policy, Refusal, ARENA_LIMIT};
 
 /// What can be told besides docs/REFUSALS.md, from this very set.
 fn notes(view: &View, refusal: Refusal) -> Vec<String> {
@@ -41,7 +41,31 @@ fn notes(view: &View, refusal: Refusal) -> Vec<String> {
             notes.push(format!("the arena has {} bytes; at {at} the set needs {}", decimal(arena), decimal(needed)));
         }
         13 => notes.push(format!("the objects of this set are 0 to {}", view.subject.set.objects() - 1)),
-        16 => notes.extend(first_entry(view, object, |kind| kind == 37)),
+        16 => {
+            notes.extend(first_entry(view, object, |kind| kind == 37));
+            notes.push(
+                "a line `37 pass` in a file for --types has such entries passed over and their places left as they are"
+                    .into(),
+            );
+        }
+        24 => {
+            let file = view.table.file.as_deref().unwrap_or("?");
+            let applied = view.table.changed().into_iter().filter(|(_, mark)| *mark == "apply");
+            notes.extend(applied.map(|(kind, _)| {
+                let line = view.table.lines[kind as usize].unwrap_or(0);
+                format!("{file}, line {line}: type {kind} cannot be applied")
+            }));
+        }
+        25 => {
+            let refused = |kind: u32| kind != 37 && view.call.types.mark(kind as usize) == Mark::Refuse;
+            notes.extend(first_entry(view, object, refused));
+            let file = view.table.file.as_deref().unwrap_or("?");
+            let marked = view.table.changed().into_iter().filter(|(_, mark)| *mark == "refuse");
+            notes.extend(marked.map(|(kind, _)| {
+                let line = view.table.lines[kind as usize].unwrap_or(0);
+                format!("{file}, line {line}: {} refuse", relocations::shown(kind))
+            }));
+        }
         _ => {}
     }
     notes

@@ -1,5 +1,6 @@
 //! The set that a command is about, with the names by which people know its objects.
 use crate::args::{Host, Library, Options, Source};
+use crate::marks::Table;
 use crate::show::{self, decimal, hex};
 use crate::Failure;
 use lugwormpin::elf::{self, Module, Place};
@@ -215,6 +216,7 @@ pub struct View<'a> {
     pub call: Call<'a>,
     /// Whether the arena's length was given.
     pub arena_given: bool,
+    pub table: Table,
 }
 
 impl<'a> View<'a> {
@@ -226,6 +228,8 @@ impl<'a> View<'a> {
         if let Some(arena) = options.arena {
             call.arena = usize::try_from(arena).unwrap_or(usize::MAX);
         }
+        let table = options.types.as_deref().map_or_else(|| Ok(Table::supplied()), Table::read)?;
+        call.types = table.types;
         // the arena is allocated by a call that does not come back without memory
         let most = call.arena.min(ARENA_LIMIT + 1);
         if Vec::<u8>::new().try_reserve_exact(most).is_err() {
@@ -233,7 +237,7 @@ impl<'a> View<'a> {
         }
         let modules = elf::modules(&subject.set);
         let places = elf::layout(&modules, call.address);
-        Ok(View { subject, modules, places, call, arena_given: options.arena.is_some() })
+        Ok(View { subject, modules, places, call, arena_given: options.arena.is_some(), table })
     }
 
     pub fn label(&self, object: usize) -> &Label {
