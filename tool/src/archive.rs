@@ -1,8 +1,8 @@
 //! The archive's functions over slices. Nothing else here is unsafe, and nothing unsafe is elsewhere.
 //!
 //! What include/lugwormpin.h wants of a caller, a slice of Rust has: its pointer is not null, also where it is empty, and is aligned; its length
-//! is true, in elements; and no `&mut` slice overlaps another or is written by another thread. The functions keep no pointer, and use about
-//! 53 KiB of stack.
+//! is true, in elements; and no `&mut` slice overlaps another or is written by another thread. The functions keep no pointer, and use
+//! little stack (the header has the figures).
 #![allow(unsafe_code)]
 
 #[cfg(not(all(target_arch = "x86_64", target_os = "linux")))]
