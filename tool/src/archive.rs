@@ -13,6 +13,9 @@ extern "C" {
     fn lugwormpin_types(types: *mut u32, types_len: usize);
     fn lugwormpin_bind(sheet: *const u32, sheet_len: usize, bytes: *const u8, bytes_len: usize, arena: *mut u8, arena_len: usize,
                        address: u64, strict: u32, types: *const u32, types_len: usize, report: *mut u32, report_len: usize) -> u64;
+    fn lugwormpin_bind_ordered(sheet: *const u32, sheet_len: usize, bytes: *const u8, bytes_len: usize, arena: *mut u8, arena_len: usize,
+                               address: u64, strict: u32, types: *const u32, types_len: usize, report: *mut u32, report_len: usize,
+                               order: *const u32, order_len: usize) -> u64;
     fn lugwormpin_query(sheet: *const u32, sheet_len: usize, bytes: *const u8, bytes_len: usize, arena: *mut u8, arena_len: usize,
                         address: u64, requester: u32, name: *const u8, name_len: usize, answer: *mut u64, answer_len: usize) -> u64;
     fn lugwormpin_query_all(sheet: *const u32, sheet_len: usize, bytes: *const u8, bytes_len: usize, arena: *mut u8, arena_len: usize,
@@ -38,6 +41,15 @@ pub fn bind(s: Slices, strict: bool, types: &[u32], report: &mut [u32]) -> u64 {
     unsafe {
         lugwormpin_bind(s.sheet.as_ptr(), s.sheet.len(), s.bytes.as_ptr(), s.bytes.len(), s.arena.as_mut_ptr(), s.arena.len(), s.address,
                         strict.into(), types.as_ptr(), types.len(), report.as_mut_ptr(), report.len())
+    }
+}
+
+#[rustfmt::skip]
+pub fn bind_ordered(s: Slices, strict: bool, types: &[u32], report: &mut [u32], order: &[u32]) -> u64 {
+    // SAFETY: the head of this file.
+    unsafe {
+        lugwormpin_bind_ordered(s.sheet.as_ptr(), s.sheet.len(), s.bytes.as_ptr(), s.bytes.len(), s.arena.as_mut_ptr(), s.arena.len(), s.address,
+                                strict.into(), types.as_ptr(), types.len(), report.as_mut_ptr(), report.len(), order.as_ptr(), order.len())
     }
 }
 

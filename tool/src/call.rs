@@ -143,6 +143,14 @@ impl<'a> Call<'a> {
         Ok(Bound { image, report: used(report) })
     }
 
+    /// Binds the set in this order, by numbers: each library once, then the program.
+    pub fn bind_ordered(&self, order: &[u32]) -> Result<Bound, Refusal> {
+        let (mut image, mut report) = (self.room(), vec![0; self.report]);
+        let (slices, types) = (self.slices(&mut image), self.types.words());
+        Refusal::check(archive::bind_ordered(slices, self.strict(), types, &mut report, order))?;
+        Ok(Bound { image, report: used(report) })
+    }
+
     /// Where a name is, as the object `requester` finds it; None where no object has it.
     pub fn query(&self, requester: u32, name: &[u8]) -> Result<Option<Found>, Refusal> {
         let mut answer = [0; 4];
@@ -222,6 +230,19 @@ mod tests {
         assert!(call.bind().is_ok());
         call.types.set(37, Mark::Apply);
         assert_eq!(call.bind(), Err(Refusal { number: 24, object: 0 }));
+    }
+
+    #[test]
+    fn own_order() {
+        let mut set = set(&Set::MINIMAL_HOST);
+        set.add(b"a", &Set::MINIMAL_HOST[..]).unwrap();
+        set.add(b"b", &Set::MINIMAL_HOST[..]).unwrap();
+        let call = Call::new(&set, 0);
+        assert_eq!(call.bind().unwrap().report, [0x5000_0002, 0x5000_0003, 0x5000_0001]);
+        assert_eq!(call.bind_ordered(&[3, 2, 1]).unwrap().report, [0x5000_0003, 0x5000_0002, 0x5000_0001]);
+        for order in [&[][..], &[1], &[2, 1, 3], &[2, 2, 1], &[2, 3, 1, 0]] {
+            assert_eq!(call.bind_ordered(order), Err(Refusal { number: 35, object: 0 }), "{order:?}");
+        }
     }
 
     #[test]

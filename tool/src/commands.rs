@@ -58,7 +58,11 @@ fn bind(options: &Options, subject: &Subject) -> Result<Said, Failure> {
     let view = View::new(subject, options)?;
     let call = &view.call;
     subject.say_binding();
-    let bound = match call.bind() {
+    let answer = match own_order(options, subject)? {
+        Some(order) => call.bind_ordered(&order),
+        None => call.bind(),
+    };
+    let bound = match answer {
         Ok(bound) => bound,
         Err(refusal) => return Ok(refused::said(options, &view, refusal)),
     };
@@ -385,16 +389,29 @@ fn names(options: &Options) -> Result<Vec<Vec<u8>>, Failure> {
     Ok(names)
 }
 
-/// The object that asks, by number or by a library's name. A number that no object has is for the archive to refuse.
+/// The object that asks.
 fn requester(options: &Options, subject: &Subject) -> Result<u32, Failure> {
-    let Some(given) = &options.requester else { return Ok(1) };
-    let text = show::path(given);
+    options.requester.as_ref().map_or(Ok(1), |given| object_of(options, subject, "requester", &show::path(given)))
+}
+
+/// The order that is asked for.
+fn own_order(options: &Options, subject: &Subject) -> Result<Option<Vec<u32>>, Failure> {
+    let Some(given) = &options.order else { return Ok(None) };
+    show::path(given)
+        .split(',')
+        .map(|text| object_of(options, subject, "order", text))
+        .collect::<Result<_, _>>()
+        .map(Some)
+}
+
+/// An object by its number or its name. A number that no object has is for the archive to refuse.
+fn object_of(options: &Options, subject: &Subject, option: &str, text: &str) -> Result<u32, Failure> {
     if let Ok(number) = text.parse() {
         return Ok(number);
     }
     match subject.labels.iter().position(|label| label.name == text) {
         Some(number) => Ok(number as u32),
-        None => Err(options.command.usage(format!("--requester {text}: no object of the set has this number or name"))),
+        None => Err(options.command.usage(format!("--{option} {text}: no object of the set has this number or name"))),
     }
 }
 
