@@ -9,6 +9,7 @@ ghost use Rattle.export.specs.Calls.{packed, policyOf, answerNumber, rep
 use binder::Answer;
 use binder::Policy;
 use binder::Reply;
+use start_stop::Lists;
 
 // A refusal as one number: the low half is its number, the high half its object.
 fn pack(number: u32, object: u32) -> u64
@@ -121,4 +122,43 @@ pub extern "C" fn lugwormpin_query(
 {
     let reply = binder::query::query(sheet, bytes, arena, address, requester, name);
     store_reply(answer, reply)
+}
+
+// The counts of the lists, and the refusal.
+fn store_counts(counts: &mut [u64], lists: Lists) -> u64
+    ensures { λ r. ⌜ r ≡ listsNumber lists ⌝ }
+    ensures { λ _. ⌜ now (counts .exit) ≡ fitted (length (now (counts .entry))) (listsCounts lists) ⌝ }
+{
+    match lists {
+        Lists::Listed { start, stop } => {
+            let words = [start as u64, stop as u64];
+            store_words(counts, &words);
+            0
+        }
+        Lists::Refused { number, object } => {
+            let words = [0u64, 0u64];
+            store_words(counts, &words);
+            pack(number, object)
+        }
+    }
+}
+
+// Binds a set as `lugwormpin_bind` does, and lists what to call to start it and to stop it: 0 where it is bound, else the refusal.
+#[no_mangle]
+pub extern "C" fn lugwormpin_start_stop(
+    sheet: &[u32],
+    bytes: &[u8],
+    arena: &mut [u8],
+    address: u64,
+    strict: u32,
+    report: &mut [u32],
+    start: &mut [u64],
+    stop: &mut [u64],
+    counts: &mut [u64],
+) -> u64
+    ensures { λ r. ⌜ listedTo r (now (arena .exit)) (now (report .exit)) (now (start .exit)) (now (stop .exit)) (now (counts .exit)) ≡ listedToOf (length (now (counts .entry))) (startStopOf (settingAt address) (now (sheet .entry)) (now (bytes .entry)) (length (now (arena .entry))) (policyOf strict) (length (now (report .entry))) (length (now (start .entry))) (length (now (stop .entry)))) ⌝ }
+{
+    let policy = policy_of(strict);
+    let l = start_stop::start_stop::start_stop(sheet, bytes, arena, address, policy, report, start, stop);
+    store_counts(counts, l)
 }

@@ -1,0 +1,2 @@
+-- What the proofs of this crate rest on, for them and for the crates above.
+pub mod ListLaws

@@ -1,0 +1,217 @@
+-- Words that go to a list one after another, and what the loops over an order leave. Assumes nothing.
+use mathlib.Core.Path.{_≡_, refl, sym, ap, _∙_, subst}
+use mathlib.Core.List.{List, [], _∷_, _++_, reverse, reverseAux, append-nil, append-assoc}
+use mathlib.Core.Bool.{Bool, true, false}
+use mathlib.Core.Logic.{_⊎_, inl, inr, ⊎-elim}
+use native.Mathlib.Decide.{decLt}
+use Prim.Native.Nat.{ℕ, zero, suc, _+_, _-_, _*_, _^_, _≤_, _<_}
+use native.Mathlib.Omega.{arith}
+use lib.Dec.{eqb}
+use lib.ListN.{length, getD, take, drop, replicate, drop-of-length-le, length-append, length-replicate, length-reverse, getD-replicate, List·getD-append}
+use lib.Seq.{drop-cons, getD-append-add}
+use Rattle.words.specs.Choice.{pick}
+use Rattle.words.specs.Words.{leAt, sum64}
+use Rattle.words.specs.Memory.{Mem, mem, tab, write, patch}
+use Rattle.words.proofs.Slices.{mem-past, mem-ext, length-tab, mem-tab, length-patch, mem-patch-at, patch-none, patch-one, patch-same, patch-join}
+use Rattle.words.proofs.Memory.{write-in, write-out}
+use Rattle.start_stop.specs.StartStop.{Calls, functionOf, wordsOf, startsOf, stopsOf, inTurn, padded}
+use Rattle.start_stop.specs.Steps.Listed.{Put}
+
+split : (a b : ℕ) → (a < b) ⊎ (b ≤ a)
+split a b = go (decLt a b)
+  where
+    go : Dec (a < b) → (a < b) ⊎ (b ≤ a)
+    go (yes h) = inl h
+    go (no h) = inr (omega arith)
+
+-- ---- the memory of two lists, one after the other
+
+mem-left : (a b : List ℕ) (k : ℕ) → k < length a → mem a k ≡ mem (a ++ b) k
+unfolding mem
+mem-left a b k l = sym (List·getD-append a b 0 k l)
+
+mem-right : (a b : List ℕ) (k : ℕ) → mem b k ≡ mem (a ++ b) (length a + k)
+unfolding mem
+mem-right a b k = sym (getD-append-add a b k 0)
+
+-- ---- Put
+
+pub put-none : (n : ℕ) (xs : List ℕ) → Put [] n xs xs n
+put-none n xs = record { list = sym (patch-none xs n (mem [])); next = omega arith }
+
+pub put-both :
+    {a b : List ℕ} {n m r : ℕ} {xs ys zs : List ℕ} → Put a n xs ys m → Put b m ys zs r → Put (a ++ b) n xs zs r
+put-both {a} {b} {n} {m} {r} {xs} {ys} {zs} p q =
+    record {
+      list =
+          q .list
+          ∙ (ap (λ (l : List ℕ). patch l m (length b) (mem b)) (p .list)
+          ∙ (ap (λ (i : ℕ). patch (patch xs n (length a) (mem a)) i (length b) (mem b)) (p .next)
+          ∙ (patch-join xs n (length a) (length b) (mem a) (mem b) (mem (a ++ b)) (λ k l. mem-left a b k l) (λ k l. mem-right a b k)
+          ∙ ap (λ (i : ℕ). patch xs n i (mem (a ++ b))) (sym (length-append a b)))));
+      next = omega (arith, q .next, p .next, length-append a b);
+    }
+
+-- the words that a function gives, one by one
+pub put-tab : (count n : ℕ) (f : ℕ → ℕ) {xs ys : List ℕ} → ys ≡ patch xs n count f → Put (tab count f) n xs ys (n + count)
+put-tab count n f {xs} {ys} e =
+    record {
+      list =
+          e
+          ∙ (patch-same xs n count f (mem (tab count f)) (λ k l. sym (mem-tab count f k l))
+          ∙ ap (λ (i : ℕ). patch xs n i (mem (tab count f))) (sym (length-tab count f)));
+      next = omega (arith, length-tab count f);
+    }
+
+-- the same backwards
+past-reversed : (l r : List ℕ) (j : ℕ) → mem (reverseAux l r) (length l + j) ≡ mem r j
+unfolding mem
+past-reversed [] r j = ap (λ (i : ℕ). mem r i) (omega arith)
+past-reversed (x ∷ xs) r j =
+    let n : suc (length xs) + j ≡ length xs + suc j = omega arith in
+    ap (λ (i : ℕ). mem (reverseAux xs (x ∷ r)) i) n ∙ past-reversed xs (x ∷ r) (suc j)
+
+mem-reversed : (l r : List ℕ) (i : ℕ) → i < length l → mem (reverseAux l r) i ≡ mem l (length l - 1 - i)
+unfolding mem
+mem-reversed [] r i h = absurd (omega arith)
+mem-reversed (x ∷ xs) r i h = ⊎-elim inner last (split i (length xs))
+  where
+    inner : i < length xs → mem (reverseAux xs (x ∷ r)) i ≡ mem (x ∷ xs) (suc (length xs) - 1 - i)
+    inner l =
+        let n : suc (length xs - 1 - i) ≡ suc (length xs) - 1 - i = omega arith in
+        mem-reversed xs (x ∷ r) i l ∙ ap (λ (k : ℕ). mem (x ∷ xs) k) n
+
+    last : length xs ≤ i → mem (reverseAux xs (x ∷ r)) i ≡ mem (x ∷ xs) (suc (length xs) - 1 - i)
+    last l =
+        let n : i ≡ length xs + 0 = omega arith in
+        let m : 0 ≡ suc (length xs) - 1 - i = omega arith in
+        ap (λ (k : ℕ). mem (reverseAux xs (x ∷ r)) k) n ∙ (past-reversed xs (x ∷ r) 0 ∙ ap (λ (k : ℕ). mem (x ∷ xs) k) m)
+
+pub put-back :
+    (count n : ℕ) (f : ℕ → ℕ) {xs ys : List ℕ} → ys ≡ patch xs n count (λ i. f (count - 1 - i)) → Put (reverse (tab count f)) n xs ys (n + count)
+put-back count n f {xs} {ys} e =
+    record {
+      list =
+          e
+          ∙ (patch-same xs n count (λ i. f (count - 1 - i)) (mem (reverse (tab count f))) (λ k l. sym (at k l))
+          ∙ ap (λ (i : ℕ). patch xs n i (mem (reverse (tab count f)))) (sym many));
+      next = omega (arith, many);
+    }
+  where
+    many : length (reverse (tab count f)) ≡ count
+    many = length-reverse (tab count f) ∙ length-tab count f
+
+    at : (k : ℕ) → k < count → mem (reverse (tab count f)) k ≡ f (count - 1 - k)
+    at k l =
+        let n : length (tab count f) ≡ count = length-tab count f in
+        mem-reversed (tab count f) [] k (omega (arith, n))
+        ∙ (ap (λ (i : ℕ). mem (tab count f) (i - 1 - k)) n ∙ mem-tab count f (count - 1 - k) (omega arith))
+
+-- one word
+pub put-one : (n v : ℕ) {xs ys : List ℕ} → ys ≡ patch xs n 1 (λ _. v) → Put (v ∷ []) n xs ys (n + 1)
+put-one n v {xs} {ys} e =
+    record { list = e ∙ patch-same xs n 1 (λ _. v) (mem (v ∷ [])) (λ k l. one k l); next = omega arith }
+  where
+    one : (k : ℕ) → k < 1 → v ≡ mem (v ∷ []) k
+    unfolding mem
+    one zero l = refl
+    one (suc k) l = absurd (omega arith)
+
+-- what a list of zeros holds then
+pub put-zeros : (ws xs ys : List ℕ) (r : ℕ) → Put ws 0 xs ys r → xs ≡ replicate (length xs) 0 → length ws ≤ length xs → ys ≡ padded (length xs) ws
+put-zeros ws xs ys r p z l =
+    mem-ext ys (padded (length xs) ws) long (λ i h. at i (omega (arith, same-length)))
+  where
+    same-length : length ys ≡ length xs
+    same-length = ap length (p .list) ∙ length-patch xs 0 (length ws) (mem ws)
+
+    long : length ys ≡ length (padded (length xs) ws)
+    long =
+        let a : length (padded (length xs) ws) ≡ length ws + length (replicate (length xs - length ws) 0) = length-append ws (replicate (length xs - length ws) 0) in
+        let b : length (replicate (length xs - length ws) 0) ≡ length xs - length ws = length-replicate (length xs - length ws) 0 in
+        omega (arith, same-length, a, b)
+
+    zero-at : (i : ℕ) → i < length xs → mem xs i ≡ 0
+    unfolding mem
+    zero-at i h = ap (λ (l : List ℕ). mem l i) z ∙ getD-replicate (length xs) i 0 0 h
+
+    at : (i : ℕ) → i < length xs → mem ys i ≡ mem (padded (length xs) ws) i
+    at i h =
+        ap (λ (l : List ℕ). mem l i) (p .list) ∙ (mem-patch-at xs 0 (length ws) (mem ws) i h ∙ ⊎-elim written kept (split i (length ws)))
+      where
+        written : i < length ws → write (mem xs) 0 (length ws) (mem ws) i ≡ mem (padded (length xs) ws) i
+        written l = write-in (mem xs) 0 (length ws) (mem ws) i (omega arith) ∙ mem-left ws (replicate (length xs - length ws) 0) i l
+
+        kept : length ws ≤ i → write (mem xs) 0 (length ws) (mem ws) i ≡ mem (padded (length xs) ws) i
+        unfolding mem
+        kept l =
+            let n : i ≡ length ws + (i - length ws) = omega arith in
+            write-out (mem xs) 0 (length ws) (mem ws) i (inr (omega arith))
+            ∙ (zero-at i h
+            ∙ (sym (getD-replicate (length xs - length ws) (i - length ws) 0 0 (omega arith))
+            ∙ (mem-right ws (replicate (length xs - length ws) 0) (i - length ws) ∙ ap (λ (k : ℕ). mem (padded (length xs) ws) k) (sym n))))
+
+-- ---- the objects of an order, one after another
+
+-- the first of what is left
+pub turn-next :
+    (gives : ℕ → List ℕ) (l : List ℕ) (i : ℕ) → i < length l → inTurn gives (drop i l) ≡ gives (getD l i 0) ++ inTurn gives (drop (i + 1) l)
+unfolding inTurn
+turn-next gives l i h =
+    let n : suc i ≡ i + 1 = omega arith in
+    ap (inTurn gives) (drop-cons l i 0 h) ∙ ap (λ (k : ℕ). gives (getD l i 0) ++ inTurn gives (drop k l)) n
+
+-- nothing is left
+pub turns-end : (gives : ℕ → List ℕ) (l : List ℕ) (i : ℕ) → length l ≤ i → inTurn gives (drop i l) ≡ []
+unfolding inTurn
+turns-end gives l i h = ap (inTurn gives) (drop-of-length-le l {i = i} h)
+
+-- the same backwards
+back-aux : (l : List ℕ) (i : ℕ) (r : List ℕ) → i < length l → reverseAux (take (suc i) l) r ≡ getD l i 0 ∷ reverseAux (take i l) r
+back-aux [] i r h = absurd (omega arith)
+back-aux (x ∷ xs) zero r h = refl
+back-aux (x ∷ xs) (suc i) r h = back-aux xs i (x ∷ r) (omega arith)
+
+pub back-next :
+    (gives : ℕ → List ℕ) (l : List ℕ) (i j : ℕ) → i ≡ j + 1 → j < length l
+    → inTurn gives (reverse (take i l)) ≡ gives (getD l j 0) ++ inTurn gives (reverse (take j l))
+unfolding inTurn
+back-next gives l i j e h =
+    let n : i ≡ suc j = omega arith in
+    ap (λ (k : ℕ). inTurn gives (reverse (take k l))) n ∙ ap (inTurn gives) (back-aux l j [] h)
+
+-- what the loop leaves is what is left, put after what was
+abbrev pub Left : List ℕ → ℕ → List ℕ → List ℕ → ℕ → List ℕ → Type 0
+Left all n₀ xs₀ rest n xs = (ys : List ℕ) (r : ℕ) → Put rest n xs ys r → Put all n₀ xs₀ ys r
+
+pub left-next :
+    {all rest a b : List ℕ} {n₀ n m : ℕ} {xs₀ xs ys : List ℕ} → Left all n₀ xs₀ rest n xs → rest ≡ a ++ b → Put a n xs ys m
+    → Left all n₀ xs₀ b m ys
+left-next {all} {rest} {a} {b} {n₀} {n} {m} {xs₀} {xs} {ys} left e p zs r q =
+    left zs r (subst (λ (l : List ℕ). Put l n xs zs r) (sym e) (put-both p q))
+
+pub left-end : {all rest : List ℕ} {n₀ n : ℕ} {xs₀ xs : List ℕ} → Left all n₀ xs₀ rest n xs → rest ≡ [] → Put all n₀ xs₀ xs n
+left-end {all} {rest} {n₀} {n} {xs₀} {xs} left e = left xs n (subst (λ (l : List ℕ). Put l n xs xs n) (sym e) (put-none n xs))
+
+-- ---- how many words an object gives
+
+function-few : (base value : ℕ) → length (functionOf base value) ≤ 1
+unfolding functionOf
+function-few base value = go (eqb value 0)
+  where
+    go : (t : Bool) → length (pick t [] (sum64 base value ∷ [])) ≤ 1
+    go true = omega arith
+    go false = omega arith
+
+pub starts-few : (c : Calls) → c .inits .count ≤ 2 ^ 25 → length (startsOf c) ≤ 2 ^ 26
+unfolding startsOf wordsOf
+starts-few c l =
+    let a = length-append (functionOf (c .base) (c .init)) (tab (c .inits .count) (λ i. leAt 8 (c .bytes) (c .inits .at + 8 * i))) in
+    omega (arith, a, function-few (c .base) (c .init), length-tab (c .inits .count) (λ i. leAt 8 (c .bytes) (c .inits .at + 8 * i)), l)
+
+pub stops-few : (c : Calls) → c .finis .count ≤ 2 ^ 25 → length (stopsOf c) ≤ 2 ^ 26
+unfolding stopsOf wordsOf
+stops-few c l =
+    let w : List ℕ = tab (c .finis .count) (λ i. leAt 8 (c .bytes) (c .finis .at + 8 * i)) in
+    let a = length-append (reverse w) (functionOf (c .base) (c .fini)) in
+    omega (arith, a, function-few (c .base) (c .fini), length-reverse w, length-tab (c .finis .count) (λ i. leAt 8 (c .bytes) (c .finis .at + 8 * i)), l)
