@@ -2,7 +2,7 @@
  *
  * Link with libexport.a, which `rt staticlib export` writes to target/staticlib/. It needs memcpy and memset, and nothing else.
  *
- * Both functions:
+ * All functions:
  * - answer every call that keeps to "What the caller owes"; what they answer is proved, for any contents of the slices, refused calls too
  *   (crates/export/src/lib.rt, crates/export/specs/Calls.antt);
  * - keep no pointer, allocate nothing, have no global state, and may run in several threads at once over different memory;
@@ -25,7 +25,7 @@
 extern "C" {
 #endif
 
-/* The answer of both functions is 0, or a refusal: its number in the low 32 bits, its object in the high 32.
+/* The answer of all functions is 0, or a refusal: its number in the low 32 bits, its object in the high 32.
  * Objects: the host is 0, the program 1, libraries are numbered from 2 in the order of the sheet.
  *
  *  no.  object    refused because
@@ -58,9 +58,12 @@ extern "C" {
  *   19  not 0     the call is strict and an entry is undefined: the first such object in binding order
  *   20  0         the report is too short
  *   22  not 0     after 17: a result of 32 bits (types 2, 10 and 11) does not fit
+ *   26  not 0     lugwormpin_start_stop only, after 20: the words of an array of functions that is listed (DT_INIT_ARRAY, DT_FINI_ARRAY; of the
+ *                 program DT_PREINIT_ARRAY) are not all inside the object: the first such object in binding order
+ *   27  0         lugwormpin_start_stop only, after 26: a list is too short
  *
  * The first refusal in this order is answered: 4 to 12 and 21 object by object, 14 to 18 and 22 entry by entry in binding order. lugwormpin_bind
- * answers all but 13, lugwormpin_query 1 to 13 and 21. */
+ * answers all but 13, 26 and 27, lugwormpin_query 1 to 13 and 21, lugwormpin_start_stop all but 13. */
 #define LUGWORMPIN_NUMBER(answer) ((uint32_t)(answer))
 #define LUGWORMPIN_OBJECT(answer) ((uint32_t)((answer) >> 32))
 
@@ -93,6 +96,22 @@ uint64_t lugwormpin_bind(const uint32_t *sheet, size_t sheet_len, const uint8_t 
  * Returns 0 where the question is answered, found or not, else the refusal; then arena and answer are all 0. */
 uint64_t lugwormpin_query(const uint32_t *sheet, size_t sheet_len, const uint8_t *bytes, size_t bytes_len, uint8_t *arena, size_t arena_len,
                           uint64_t address, uint32_t requester, const uint8_t *name, size_t name_len, uint64_t *answer, size_t answer_len);
+
+/* Binds a set, and lists what to call to start it and to stop it.
+ *
+ * sheet to report_len  as of lugwormpin_bind; arena and report are written as by it
+ * start, start_len     written: the addresses to call once the image is mapped at `address`, in this order: the program's preinit array; then of each
+ *                      object in binding order, the program last, DT_INIT and its init array. The rest 0
+ * stop, stop_len       written: the addresses to call at the end: of each object backwards, its fini array from last to first and DT_FINI. The rest 0
+ * counts, counts_len   written: how many words each list has, of start and of stop; then zeros. Words that do not fit are dropped
+ *
+ * A DT_INIT or DT_FINI of 0 is none. Words of arrays are listed as they stand after relocation, 0 and -1 too, which programs such as
+ * examples/start_stop.c do not call. The host gives none, and no library's preinit array is listed.
+ *
+ * Returns 0 where the set is bound and listed, else the refusal; then arena, report, start, stop and counts are all 0. */
+uint64_t lugwormpin_start_stop(const uint32_t *sheet, size_t sheet_len, const uint8_t *bytes, size_t bytes_len, uint8_t *arena, size_t arena_len,
+                               uint64_t address, uint32_t strict, uint32_t *report, size_t report_len, uint64_t *start, size_t start_len,
+                               uint64_t *stop, size_t stop_len, uint64_t *counts, size_t counts_len);
 
 #ifdef __cplusplus
 }

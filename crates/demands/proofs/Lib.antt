@@ -13,3 +13,4 @@ pub mod PairFiles
 pub mod PairHolds
 pub mod ObjectRunsHold
 pub mod WalksEndLaw
+pub mod StartStopCalls

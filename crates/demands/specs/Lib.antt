@@ -8,3 +8,4 @@ pub mod LargePages
 pub mod PairOfSheets
 pub mod ObjectRuns
 pub mod WalksEnd
+pub mod StartStopCall

@@ -5,7 +5,8 @@ ghost use lib.ListN.{length};
 ghost use Rattle.words.specs.Memory.{mem};
 ghost use Rattle.binder.specs.Setting.{settingAt};
 ghost use Rattle.binder.specs.Bind.{bindOf, queryOf};
-ghost use Rattle.export.specs.Calls.{packed, policyOf, answerNumber, replyNumber, replyWords, fitted, called, calledOf, asked, askedOf};
+ghost use Rattle.export.specs.Calls.{packed, policyOf, answerNumber, replyNumber, replyWords, fitted, called, calledOf, asked, askedOf, listsNumber, listsCounts, calledLists, calledListsOf};
+ghost use Rattle.start_stop.specs.StartStop.{startStopOf};
 use binder::Answer;
 use binder::Policy;
 use binder::Reply;
@@ -124,6 +125,13 @@ pub extern "C" fn lugwormpin_query(
     store_reply(answer, reply)
 }
 
+fn store_pair(counts: &mut [u64], start: u64, stop: u64)
+    ensures { λ _. ⌜ now (counts .exit) ≡ fitted (length (now (counts .entry))) (start ∷ stop ∷ []) ⌝ }
+{
+    let words = [start, stop];
+    store_words(counts, &words);
+}
+
 // The counts of the lists, and the refusal.
 fn store_counts(counts: &mut [u64], lists: Lists) -> u64
     ensures { λ r. ⌜ r ≡ listsNumber lists ⌝ }
@@ -131,13 +139,11 @@ fn store_counts(counts: &mut [u64], lists: Lists) -> u64
 {
     match lists {
         Lists::Listed { start, stop } => {
-            let words = [start as u64, stop as u64];
-            store_words(counts, &words);
+            store_pair(counts, start as u64, stop as u64);
             0
         }
         Lists::Refused { number, object } => {
-            let words = [0u64, 0u64];
-            store_words(counts, &words);
+            store_pair(counts, 0, 0);
             pack(number, object)
         }
     }
@@ -156,7 +162,7 @@ pub extern "C" fn lugwormpin_start_stop(
     stop: &mut [u64],
     counts: &mut [u64],
 ) -> u64
-    ensures { λ r. ⌜ listedTo r (now (arena .exit)) (now (report .exit)) (now (start .exit)) (now (stop .exit)) (now (counts .exit)) ≡ listedToOf (length (now (counts .entry))) (startStopOf (settingAt address) (now (sheet .entry)) (now (bytes .entry)) (length (now (arena .entry))) (policyOf strict) (length (now (report .entry))) (length (now (start .entry))) (length (now (stop .entry)))) ⌝ }
+    ensures { λ r. ⌜ calledLists r (now (arena .exit)) (now (report .exit)) (now (start .exit)) (now (stop .exit)) (now (counts .exit)) ≡ calledListsOf (length (now (counts .entry))) (startStopOf (settingAt address) (now (sheet .entry)) (now (bytes .entry)) (length (now (arena .entry))) (policyOf strict) (length (now (report .entry))) (length (now (start .entry))) (length (now (stop .entry)))) ⌝ }
 {
     let policy = policy_of(strict);
     let l = start_stop::start_stop::start_stop(sheet, bytes, arena, address, policy, report, start, stop);

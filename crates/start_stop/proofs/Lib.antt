@@ -1,2 +1,4 @@
 -- What the proofs of this crate rest on, for them and for the crates above.
 pub mod ListLaws
+pub mod ListedIs
+pub mod StartStopIs

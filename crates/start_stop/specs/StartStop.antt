@@ -76,6 +76,10 @@ callsOf o f arena =
       finis = arrayOf f DT.FINI-ARRAY DT.FINI-ARRAYSZ;
     }
 
+-- of object `k` of a set that was bound in that arena
+abbrev pub callsIn : Objs → List File → List ℕ → ℕ → Calls
+callsIn S files arena k = callsOf (obj S k) (placedFields (getD files k noFile)) arena
+
 -- "Array words are read after relocation, 0 listed too"
 unfoldable pub wordsOf : Mem → Array → List ℕ
 wordsOf bytes a = tab (a .count) (λ i. leAt 8 bytes (a .at + 8 * i))
@@ -150,21 +154,19 @@ listingOf starts stops (Refused n k) arena report start stop = refusedLists (len
 listingOf starts stops Passed arena report start stop =
     listing (lists.the-variants.Listed (length start) (length stop)) arena report (padded starts start) (padded stops stop)
 
--- the lists of a set of objects that was bound in an order, from the arena that binding left
-unfoldable pub listBound : Objs → List File → List ℕ → ℕ → ℕ → List ℕ → List ℕ → Listing
-listBound S files order starts stops arena report =
+-- a refusal, or the lists, in slices of `starts` and `stops` words
+unfoldable pub listBy : (ℕ → Calls) → List ℕ → ℕ → ℕ → List ℕ → List ℕ → Listing
+listBy calls order starts stops arena report =
     listingOf starts stops (listsVerdict calls order starts stops) arena report (startList calls order) (stopList calls order)
-  where
-    calls : ℕ → Calls
-    calls k = callsOf (obj S k) (placedFields (getD files k noFile)) arena
 
--- "a call of its own that binds first": a refusal of `bind`, or the lists of what it bound
-unfoldable pub thenList : Setting → List Input → ℕ → ℕ → ℕ → ℕ → Outcome → Listing
-thenList setting os size words starts stops (outcome (answers.the-variants.Refused n k) arena report) = refusedLists size words starts stops n k
-thenList setting os size words starts stops (outcome answers.the-variants.Bound arena report) =
-    listBound (objectsOf setting (filesOf os)) (filesOf os) (setOrder (filesOf os) (namesOf os)) starts stops arena report
+-- "a call of its own that binds first": a refusal of `bind`, or the lists of the set in the arena that it left
+unfoldable pub thenList : Setting → List Input → ℕ → ℕ → Outcome → Listing
+thenList setting os starts stops (outcome (answers.the-variants.Refused n k) arena report) =
+    refusedLists (length arena) (length report) starts stops n k
+thenList setting os starts stops (outcome answers.the-variants.Bound arena report) =
+    listBy (callsIn (objectsOf setting (filesOf os)) (filesOf os) arena) (setOrder (filesOf os) (namesOf os)) starts stops arena report
 
 -- what `start_stop` answers for a sheet and its bytes
 unfoldable pub startStopOf : Setting → List ℕ → List ℕ → ℕ → Policy → ℕ → ℕ → ℕ → Listing
 startStopOf setting sheet bytes size policy words starts stops =
-    thenList setting (setOf sheet bytes) size words starts stops (bindOf setting sheet bytes size policy words)
+    thenList setting (setOf sheet bytes) starts stops (bindOf setting sheet bytes size policy words)

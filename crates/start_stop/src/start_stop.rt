@@ -7,7 +7,7 @@ ghost use Rattle.sheet.specs.Steps.Parts.{inputsIn};
 ghost use Rattle.binder.specs.Setting.{settingAt};
 ghost use Rattle.binder.specs.Bind.{bindSet};
 ghost use Rattle.start_stop.specs.StartStop.{listing, thenList, startStopOf};
-ghost use Rattle.start_stop.specs.Steps.Rows.{callsAt, SmallSpans};
+ghost use Rattle.start_stop.specs.Steps.Rows.{callsAt, InOrder};
 ghost use Rattle.start_stop.specs.Steps.Listed.{finishedOf, ListsMade};
 use crate::Lists;
 use binder::order::Order;
@@ -24,7 +24,7 @@ fn list_all(
     start: &mut [u64],
     stop: &mut [u64],
 ) -> Lists
-    requires { ⌜ (1026 ≤ length (now table)) × (order .count ≤ 64) × SmallSpans (now table) (take (order .count) (order .list)) × (now start ≡ replicate (length (now start)) 0) × (now stop ≡ replicate (length (now stop)) 0) ⌝ }
+    requires { ⌜ (1026 ≤ length (now table)) × (order .count ≤ 64) × InOrder (now table) (take (order .count) (order .list)) × (now start ≡ replicate (length (now start)) 0) × (now stop ≡ replicate (length (now stop)) 0) ⌝ }
     ensures { λ r. ⌜ ListsMade (callsAt (now (arena .entry)) (now (table .entry)) (now (rows .entry))) (take (order .count) (order .list)) (now (arena .entry)) (now (start .exit)) (now (stop .exit)) r ⌝ }
 {
     let v = crate::arrays::check_arrays(table, rows, order);
@@ -66,7 +66,7 @@ fn list_set(
     stop: &mut [u64],
 ) -> Lists
     requires { ⌜ (2 ≤ parts .count) × (parts .count ≤ 64) × (length (inputsIn (now bytes) parts) ≡ parts .count) × (now report ≡ replicate (length (now report)) 0) × (now start ≡ replicate (length (now start)) 0) × (now stop ≡ replicate (length (now stop)) 0) ⌝ }
-    ensures { λ r. ⌜ finishedOf r (now (arena .exit)) (now (report .exit)) (now (start .exit)) (now (stop .exit)) ≡ thenList (settingAt address) (inputsIn (now (bytes .entry)) parts) (length (now (arena .entry))) (length (now (report .entry))) (length (now (start .entry))) (length (now (stop .entry))) (bindSet (settingAt address) (inputsIn (now (bytes .entry)) parts) (length (now (arena .entry))) policy (length (now (report .entry)))) ⌝ }
+    ensures { λ r. ⌜ finishedOf r (now (arena .exit)) (now (report .exit)) (now (start .exit)) (now (stop .exit)) ≡ thenList (settingAt address) (inputsIn (now (bytes .entry)) parts) (length (now (start .entry))) (length (now (stop .entry))) (bindSet (settingAt address) (inputsIn (now (bytes .entry)) parts) (length (now (arena .entry))) policy (length (now (report .entry)))) ⌝ }
 {
     let mut table = [0u64; 1026];
     let m = binder::prepare::prepare(bytes, parts, arena, address, &mut table);

@@ -4,7 +4,7 @@ use mathlib.Core.Path.{_≡_}
 use Prim.Native.Nat.{ℕ, _+_}
 use lib.ListN.{length, replicate}
 use Rattle.words.specs.Memory.{mem, patch}
-use Rattle.start_stop.specs.StartStop.{Calls, startList, stopList, listsVerdict, Listing, listing, listingOf, refusedLists}
+use Rattle.start_stop.specs.StartStop.{Calls, Listing, listing, refusedLists, listBy}
 use Rattle.start_stop.specs.declared.Lists.{Lists}
 use Rattle.start_stop.specs.declared.Lists as lists
 
@@ -22,7 +22,4 @@ finishedOf (lists.the-variants.Refused n k) arena report start stop =
 -- what is left of a bound set, finished, whatever its report
 abbrev pub ListsMade : (ℕ → Calls) → List ℕ → List ℕ → List ℕ → List ℕ → Lists → Type 0
 ListsMade calls order arena start stop r =
-    (report : List ℕ)
-    → finishedOf r arena report start stop
-    ≡ listingOf (length start) (length stop) (listsVerdict calls order (length start) (length stop)) arena report (startList calls order)
-    (stopList calls order)
+    (report : List ℕ) → finishedOf r arena report start stop ≡ listBy calls order (length start) (length stop) arena report

@@ -72,6 +72,9 @@ pub record FewWords (rows : List ℕ) (k : ℕ) : Type 0 where
 abbrev pub AllFew : List ℕ → List ℕ → Type 0
 AllFew rows order = (i : ℕ) → i < length order → FewWords rows (getD order i 0)
 
--- the spans of the objects of a list are at most 2^28, as refusal 2 lets them be
-abbrev pub SmallSpans : List ℕ → List ℕ → Type 0
-SmallSpans table order = (i : ℕ) → i < length order → linkAt table (getD order i 0) .span ≤ 2 ^ 28
+-- the numbers of an order have spans of at most 2^28, as refusal 2 lets them be, and the program is one of them
+pub record InOrder (table order : List ℕ) : Type 0 where
+  pub spans : (i : ℕ) → i < length order → linkAt table (getD order i 0) .span ≤ 2 ^ 28
+  pub place : ℕ
+  pub there : place < length order
+  pub program : getD order place 0 ≡ 1
