@@ -74,12 +74,14 @@ past-reversed (x ∷ xs) r j =
 mem-reversed : (l r : List ℕ) (i : ℕ) → i < length l → mem (reverseAux l r) i ≡ mem l (length l - 1 - i)
 unfolding mem
 mem-reversed [] r i h = absurd (omega arith)
-mem-reversed (x ∷ xs) r i h = ⊎-elim inner last (split i (length xs))
+mem-reversed (x ∷ xs) r i h = ⊎-elim (λ l. inner l (mem-reversed xs (x ∷ r) i l)) last (split i (length xs))
   where
-    inner : i < length xs → mem (reverseAux xs (x ∷ r)) i ≡ mem (x ∷ xs) (suc (length xs) - 1 - i)
-    inner l =
+    inner :
+        i < length xs → mem (reverseAux xs (x ∷ r)) i ≡ mem xs (length xs - 1 - i)
+        → mem (reverseAux xs (x ∷ r)) i ≡ mem (x ∷ xs) (suc (length xs) - 1 - i)
+    inner l before =
         let n : suc (length xs - 1 - i) ≡ suc (length xs) - 1 - i = omega arith in
-        mem-reversed xs (x ∷ r) i l ∙ ap (λ (k : ℕ). mem (x ∷ xs) k) n
+        before ∙ ap (λ (k : ℕ). mem (x ∷ xs) k) n
 
     last : length xs ≤ i → mem (reverseAux xs (x ∷ r)) i ≡ mem (x ∷ xs) (suc (length xs) - 1 - i)
     last l =
@@ -108,14 +110,18 @@ put-back count n f {xs} {ys} e =
         ∙ (ap (λ (i : ℕ). mem (tab count f) (i - 1 - k)) n ∙ mem-tab count f (count - 1 - k) (omega arith))
 
 -- one word
+one-word : (v k : ℕ) → k < 1 → v ≡ mem (v ∷ []) k
+unfolding mem
+one-word v zero l = refl
+one-word v (suc k) l = absurd (omega arith)
+
 pub put-one : (n v : ℕ) {xs ys : List ℕ} → ys ≡ patch xs n 1 (λ _. v) → Put (v ∷ []) n xs ys (n + 1)
 put-one n v {xs} {ys} e =
-    record { list = e ∙ patch-same xs n 1 (λ _. v) (mem (v ∷ [])) (λ k l. one k l); next = omega arith }
-  where
-    one : (k : ℕ) → k < 1 → v ≡ mem (v ∷ []) k
-    unfolding mem
-    one zero l = refl
-    one (suc k) l = absurd (omega arith)
+    record { list = e ∙ patch-same xs n 1 (λ _. v) (mem (v ∷ [])) (λ k l. one-word v k l); next = omega arith }
+
+mem-zeros : (n i : ℕ) → i < n → mem (replicate n 0) i ≡ 0
+unfolding mem
+mem-zeros n i h = getD-replicate n i 0 0 h
 
 -- what a list of zeros holds then
 pub put-zeros : (ws xs ys : List ℕ) (r : ℕ) → Put ws 0 xs ys r → xs ≡ replicate (length xs) 0 → length ws ≤ length xs → ys ≡ padded (length xs) ws
@@ -127,28 +133,29 @@ put-zeros ws xs ys r p z l =
 
     long : length ys ≡ length (padded (length xs) ws)
     long =
-        let a : length (padded (length xs) ws) ≡ length ws + length (replicate (length xs - length ws) 0) = length-append ws (replicate (length xs - length ws) 0) in
-        let b : length (replicate (length xs - length ws) 0) ≡ length xs - length ws = length-replicate (length xs - length ws) 0 in
+        let rest : List ℕ = replicate (length xs - length ws) 0 in
+        let a : length (padded (length xs) ws) ≡ length ws + length rest = length-append ws (replicate (length xs - length ws) 0) in
+        let b : length rest ≡ length xs - length ws = length-replicate (length xs - length ws) 0 in
         omega (arith, same-length, a, b)
 
     zero-at : (i : ℕ) → i < length xs → mem xs i ≡ 0
-    unfolding mem
-    zero-at i h = ap (λ (l : List ℕ). mem l i) z ∙ getD-replicate (length xs) i 0 0 h
+    zero-at i h = ap (λ (l : List ℕ). mem l i) z ∙ mem-zeros (length xs) i h
 
     at : (i : ℕ) → i < length xs → mem ys i ≡ mem (padded (length xs) ws) i
     at i h =
         ap (λ (l : List ℕ). mem l i) (p .list) ∙ (mem-patch-at xs 0 (length ws) (mem ws) i h ∙ ⊎-elim written kept (split i (length ws)))
       where
         written : i < length ws → write (mem xs) 0 (length ws) (mem ws) i ≡ mem (padded (length xs) ws) i
-        written l = write-in (mem xs) 0 (length ws) (mem ws) i (omega arith) ∙ mem-left ws (replicate (length xs - length ws) 0) i l
+        written l =
+            let n : i - 0 ≡ i = omega arith in
+            write-in (mem xs) 0 (length ws) (mem ws) i (omega arith) ∙ (ap (mem ws) n ∙ mem-left ws (replicate (length xs - length ws) 0) i l)
 
         kept : length ws ≤ i → write (mem xs) 0 (length ws) (mem ws) i ≡ mem (padded (length xs) ws) i
-        unfolding mem
         kept l =
             let n : i ≡ length ws + (i - length ws) = omega arith in
             write-out (mem xs) 0 (length ws) (mem ws) i (inr (omega arith))
             ∙ (zero-at i h
-            ∙ (sym (getD-replicate (length xs - length ws) (i - length ws) 0 0 (omega arith))
+            ∙ (sym (mem-zeros (length xs - length ws) (i - length ws) (omega arith))
             ∙ (mem-right ws (replicate (length xs - length ws) 0) (i - length ws) ∙ ap (λ (k : ℕ). mem (padded (length xs) ws) k) (sym n))))
 
 -- ---- the objects of an order, one after another

@@ -99,15 +99,13 @@ module _ (calls : ℕ → Calls) (order arena start stop : List ℕ) where
         ∙ ap (λ (i : ℕ). defs.padded i (stopList calls order)) (sym lt) in
         let i : n ≡ length (startList calls order) = omega (arith, p .next) in
         let j : m ≡ length (stopList calls order) = omega (arith, q .next) in
-        done s t i j (le-leb (length (startList calls order)) (length start) a) (le-leb (length (stopList calls order)) (length stop) b)
+        same-listing s t i j
+        ∙ rw (e, le-leb (length (startList calls order)) (length start) a, le-leb (length (stopList calls order)) (length stop) b)
       where
-        done :
-            start ≡ defs.padded (length start) (startList calls order) → stop ≡ defs.padded (length stop) (stopList calls order)
-            → n ≡ length (startList calls order) → m ≡ length (stopList calls order)
-            → leb (length (startList calls order)) (length start) ≡ true → leb (length (stopList calls order)) (length stop) ≡ true
-            → defs.listing (lists.the-variants.Listed n m) arena report start stop ≡ listBy calls order (length start) (length stop) arena report
-        unfolding defs.listBy defs.listsVerdict defs.listingOf bind.unless
-        done s t i j a b = ?
+        same-listing :
+            {x y : List ℕ} {k l : ℕ} → start ≡ x → stop ≡ y → n ≡ k → m ≡ l
+            → defs.listing (lists.the-variants.Listed n m) arena report start stop ≡ defs.listing (lists.the-variants.Listed k l) arena report x y
+        same-listing u v w x = cc
 
 -- ---- the same calls give the same lists
 
@@ -132,23 +130,16 @@ module _ (calls others : ℕ → Calls) where
   same-back gives [] r same e = e
   same-back gives (k ∷ ks) r same e = same-back gives ks (k ∷ r) (λ i h. same (suc i) (omega arith)) (rw (same 0 (omega arith), e))
 
+  same-start : (order : List ℕ) → Same order → calls 1 ≡ others 1 → startList calls order ≡ startList others order
+  unfolding defs.startList
+  same-start order same one = rw (one, same-turns startsOf order same)
+
+  same-stop : (order : List ℕ) → Same order → stopList calls order ≡ stopList others order
+  unfolding defs.stopList defs.inTurn
+  same-stop order same = same-back stopsOf order [] same refl
+
   pub same-lists :
       (order : List ℕ) → Same order → calls 1 ≡ others 1 → (starts stops : ℕ) (arena report : List ℕ)
       → listBy calls order starts stops arena report ≡ listBy others order starts stops arena report
-  same-lists order same one starts stops arena report =
-      go (same-verdict order same) start stop
-    where
-      start : startList calls order ≡ startList others order
-      unfolding defs.startList
-      start = rw (one, same-turns startsOf order same)
-
-      stop : stopList calls order ≡ stopList others order
-      unfolding defs.stopList
-      stop = same-back stopsOf order [] same refl
-
-      go :
-          arraysVerdict calls order ≡ arraysVerdict others order → startList calls order ≡ startList others order
-          → stopList calls order ≡ stopList others order
-          → listBy calls order starts stops arena report ≡ listBy others order starts stops arena report
-      unfolding defs.listBy defs.listsVerdict
-      go v s t = rw (v, s, t)
+  unfolding defs.listBy defs.listsVerdict
+  same-lists order same one starts stops arena report = rw (same-verdict order same, same-start order same one, same-stop order same)

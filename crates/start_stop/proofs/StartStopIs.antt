@@ -126,6 +126,10 @@ module _
     at : (k : ℕ) → k < length ls + 2 → steady.At setting size table (hostFile h) (fileOf p) fs k
     at k l = lies setting size table (hostFile h) (fileOf p) fs set-loaded k (omega (arith, count-of))
 
+    span-is : (k : ℕ) → k < length ls + 2 → linkAt table k .span ≡ (obj S k) .span
+    unfolding instance.objectAt
+    span-is k l = ap (λ (s : Link). s .span) (at k l .link) ∙ sym (ap (λ (x : Obj). x .span) (at k l .is))
+
     abbrev file : ℕ → File
     file k = getD (hostFile h ∷ (fileOf p ∷ fs)) k noFile
 
@@ -150,10 +154,6 @@ module _
           (same-array (word-is k o l 2 (omega arith)) (word-is k o l 3 (omega arith)))
           (same-array (word-is k o l 4 (omega arith)) (word-is k o l 5 (omega arith)))
           (same-array (word-is k o l 6 (omega arith)) (word-is k o l 7 (omega arith)))
-        where
-          span-is : (k : ℕ) → k < length ls + 2 → linkAt table k .span ≡ (obj S k) .span
-          unfolding instance.objectAt
-          span-is k l = ap (λ (s : Link). s .span) (at k l .link) ∙ sym (ap (λ (x : Obj). x .span) (at k l .is))
 
     module _ (order : List ℕ) (same : order ≡ setOrder (filesOf (h ∷ (p ∷ ls))) (namesOf (h ∷ (p ∷ ls)))) where
       once : OnceEach (objects.count S) order
@@ -199,8 +199,8 @@ pub then-refused :
 unfolding finished.finishedOf listed.finishedOf defs.thenList
 then-refused setting os size policy words m a report start stop n k e b =
     let x : outcome (answers.the-variants.Refused n k) (replicate (length a) 0) (replicate (length report) 0) ≡ bindSet setting os size policy words = rw e at b in
-    let i : length (replicate (length a) 0) ≡ length a = length-replicate (length a) 0 in
-    let j : length (replicate (length report) 0) ≡ length report = length-replicate (length report) 0 in
+    let i : length {A = ℕ} (replicate (length a) 0) ≡ length a = length-replicate (length a) 0 in
+    let j : length {A = ℕ} (replicate (length report) 0) ≡ length report = length-replicate (length report) 0 in
     rw (sym x, i, j)
 
 -- the order is the set's
@@ -215,6 +215,16 @@ order-of-set setting (h ∷ (p ∷ ls)) count arena a table r two many kept made
     set-in-order setting (length arena) table h p ls arena a r refl kept made z (take (order .count) (order .list))
     (binds.ordered setting (length arena) table h p ls arena a r refl kept made z order
     (subst (λ (n : ℕ). Arranged (h ∷ (p ∷ ls)) n a table order) c o))
+
+bound-then :
+    (setting : Setting) (os : List Input) (size : ℕ) (policy : Policy) (words starts stops : ℕ) (a report : List ℕ) (m : Verdict) → m ≡ Passed
+    → BoundSet setting os size policy words a report m
+    → listBy (callsIn (objectsOf setting (filesOf os)) (filesOf os) a) (setOrder (filesOf os) (namesOf os)) starts stops a report
+    ≡ thenList setting os starts stops (bindSet setting os size policy words)
+unfolding finished.finishedOf defs.thenList
+bound-then setting os size policy words starts stops a report m passed b =
+    let x : outcome answers.the-variants.Bound a report ≡ bindSet setting os size policy words = rw passed at b in
+    rw (sym x)
 
 -- the lists of what was bound
 pub then-listed :
@@ -234,7 +244,8 @@ then-listed setting (h ∷ (p ∷ ls)) count arena a table r two many kept made 
     lm report′
     ∙ (lists-are setting (length arena) table h p ls arena a r refl kept made z (take (order .count) (order .list)) same rows
     (subst (λ (n : ℕ). RowsRead (h ∷ (p ∷ ls)) n a table rows) c read) a′ report′ (length start) (length stop)
-    ∙ bound-then (bind-is setting (h ∷ (p ∷ ls)) count arena a table r two many kept made z order o policy report zeros a′ report′ m g))
+    ∙ bound-then setting (h ∷ (p ∷ ls)) (length arena) policy (length report) (length start) (length stop) a′ report′ m passed
+    (bind-is setting (h ∷ (p ∷ ls)) count arena a table r two many kept made z order o policy report zeros a′ report′ m g))
   where
     c : count ≡ length ls + 2
     c = omega (arith, many)
@@ -244,16 +255,6 @@ then-listed setting (h ∷ (p ∷ ls)) count arena a table r two many kept made 
         binds.ordered setting (length arena) table h p ls arena a r refl kept made z order
         (subst (λ (n : ℕ). Arranged (h ∷ (p ∷ ls)) n a table order) c o)
 
-    bound-then :
-        BoundSet setting (h ∷ (p ∷ ls)) (length arena) policy (length report) a′ report′ m
-        → listBy (callsIn (objectsOf setting (filesOf (h ∷ (p ∷ ls)))) (filesOf (h ∷ (p ∷ ls))) a′)
-        (setOrder (filesOf (h ∷ (p ∷ ls))) (namesOf (h ∷ (p ∷ ls)))) (length start) (length stop) a′ report′
-        ≡ thenList setting (h ∷ (p ∷ ls)) (length start) (length stop) (bindSet setting (h ∷ (p ∷ ls)) (length arena) policy (length report))
-    unfolding finished.finishedOf defs.thenList
-    bound-then b =
-        let x : outcome answers.the-variants.Bound a′ report′ ≡ bindSet setting (h ∷ (p ∷ ls)) (length arena) policy (length report) = rw passed at b in
-        rw (sym x)
-
 -- ---- the objects of a sheet
 
 module _ (setting : Setting) (sheet bytes : List ℕ) (size : ℕ) (p : Parts) (t : Tabled sheet (length bytes) p) (policy : Policy) (words starts stops : ℕ) where
@@ -262,8 +263,8 @@ module _ (setting : Setting) (sheet bytes : List ℕ) (size : ℕ) (p : Parts) (
       → refusedLists size words starts stops 1 0 ≡ startStopOf setting sheet bytes size policy words starts stops
   unfolding defs.startStopOf defs.thenList
   sheet-refused l =
-      let i : length (replicate size 0) ≡ size = length-replicate size 0 in
-      let j : length (replicate words 0) ≡ words = length-replicate words 0 in
+      let i : length {A = ℕ} (replicate size 0) ≡ size = length-replicate size 0 in
+      let j : length {A = ℕ} (replicate words 0) ≡ words = length-replicate words 0 in
       rw (sym (binds.bind-refused setting sheet bytes size p t policy words l), i, j)
 
   pub sheet-listed :

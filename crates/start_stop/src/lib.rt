@@ -1,6 +1,6 @@
 // What to call to start and to stop a bound set, and when: two lists of addresses.
 pub mod arrays;
-pub mod lists;
+pub mod fill;
 pub mod rows;
 pub mod start_stop;
 

@@ -34,8 +34,8 @@ fn list_all(
             object: object,
         };
     }
-    let n = crate::lists::put_start(start, arena, table, rows, order);
-    let m = crate::lists::put_stop(stop, arena, table, rows, order);
+    let n = crate::fill::put_start(start, arena, table, rows, order);
+    let m = crate::fill::put_stop(stop, arena, table, rows, order);
     if start.len() < n {
         return Lists::Refused {
             number: 27,
@@ -106,8 +106,8 @@ fn finish(
     {
         words::bytes::clear(arena);
         words::bytes::clear_words(report);
-        crate::lists::clear_list(start);
-        crate::lists::clear_list(stop);
+        crate::fill::clear_list(start);
+        crate::fill::clear_list(stop);
     }
     l
 }
@@ -127,8 +127,8 @@ pub fn start_stop(
     ensures { λ r. ⌜ listing r (now (arena .exit)) (now (report .exit)) (now (start .exit)) (now (stop .exit)) ≡ startStopOf (settingAt address) (now (sheet .entry)) (now (bytes .entry)) (length (now (arena .entry))) policy (length (now (report .entry))) (length (now (start .entry))) (length (now (stop .entry))) ⌝ }
 {
     words::bytes::clear_words(report);
-    crate::lists::clear_list(start);
-    crate::lists::clear_list(stop);
+    crate::fill::clear_list(start);
+    crate::fill::clear_list(stop);
     let parts = sheet::sheet::parts_of(sheet, bytes.len());
     if parts.count < 2 {
         let one = Lists::Refused {
