@@ -14,7 +14,7 @@ use Rattle.words.specs.Words.{leAt, sum64}
 use Rattle.words.specs.Memory.{Mem, mem, tab, write, patch}
 use Rattle.words.proofs.Slices.{mem-past, mem-ext, length-tab, mem-tab, length-patch, mem-patch-at, patch-none, patch-one, patch-same, patch-join}
 use Rattle.words.proofs.Memory.{write-in, write-out}
-use Rattle.start_stop.specs.StartStop.{Calls, functionOf, wordsOf, startsOf, stopsOf, inTurn, padded}
+use Rattle.start_stop.specs.StartStop.{Array, Calls, functionOf, wordsOf, startsOf, stopsOf, inTurn, padded}
 use Rattle.start_stop.specs.Steps.Listed.{Put}
 
 split : (a b : ℕ) → (a < b) ⊎ (b ≤ a)
@@ -202,7 +202,7 @@ left-end {all} {rest} {n₀} {n} {xs₀} {xs} left e = left xs n (subst (λ (l :
 
 -- ---- how many words an object gives
 
-function-few : (base value : ℕ) → length (functionOf base value) ≤ 1
+pub function-few : (base value : ℕ) → length (functionOf base value) ≤ 1
 unfolding functionOf
 function-few base value = go (eqb value 0)
   where
@@ -210,15 +210,20 @@ function-few base value = go (eqb value 0)
     go true = omega arith
     go false = omega arith
 
+pub words-length : (bytes : Mem) (a : Array) → length (wordsOf bytes a) ≡ a .count
+unfolding wordsOf
+words-length bytes a = length-tab (a .count) (λ i. leAt 8 bytes (a .at + 8 * i))
+
 pub starts-few : (c : Calls) → c .inits .count ≤ 2 ^ 25 → length (startsOf c) ≤ 2 ^ 26
-unfolding startsOf wordsOf
+unfolding startsOf
 starts-few c l =
-    let a = length-append (functionOf (c .base) (c .init)) (tab (c .inits .count) (λ i. leAt 8 (c .bytes) (c .inits .at + 8 * i))) in
-    omega (arith, a, function-few (c .base) (c .init), length-tab (c .inits .count) (λ i. leAt 8 (c .bytes) (c .inits .at + 8 * i)), l)
+    omega
+    (arith, length-append (functionOf (c .base) (c .init)) (wordsOf (c .bytes) (c .inits)), function-few (c .base) (c .init),
+    words-length (c .bytes) (c .inits), l)
 
 pub stops-few : (c : Calls) → c .finis .count ≤ 2 ^ 25 → length (stopsOf c) ≤ 2 ^ 26
-unfolding stopsOf wordsOf
+unfolding stopsOf
 stops-few c l =
-    let w : List ℕ = tab (c .finis .count) (λ i. leAt 8 (c .bytes) (c .finis .at + 8 * i)) in
-    let a = length-append (reverse w) (functionOf (c .base) (c .fini)) in
-    omega (arith, a, function-few (c .base) (c .fini), length-reverse w, length-tab (c .finis .count) (λ i. leAt 8 (c .bytes) (c .finis .at + 8 * i)), l)
+    omega
+    (arith, length-append (reverse (wordsOf (c .bytes) (c .finis))) (functionOf (c .base) (c .fini)), function-few (c .base) (c .fini),
+    length-reverse (wordsOf (c .bytes) (c .finis)), words-length (c .bytes) (c .finis), l)

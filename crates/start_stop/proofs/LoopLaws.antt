@@ -12,10 +12,10 @@ use Rattle.binder.specs.Verdict.{first}
 use Rattle.binder.specs.Bind as bind
 use Rattle.binder.specs.Bind.{unless}
 use Rattle.start_stop.specs.StartStop as defs
-use Rattle.start_stop.specs.StartStop.{Calls, wordsOf, startsOf, stopsOf, inTurn, startList, stopList, arraysOk, arraysVerdict}
+use Rattle.start_stop.specs.StartStop.{Calls, startsOf, stopsOf, inTurn, stopList, arraysOk, arraysVerdict}
 use Rattle.start_stop.specs.Steps.Rows.{FewWords, AllFew}
 use Rattle.start_stop.specs.Steps.Listed.{Put}
-use Rattle.start_stop.proofs.ListLaws.{put-both, turn-next, turns-end, back-next, Left, left-next, left-end}
+use Rattle.start_stop.proofs.ListLaws.{turn-next, turns-end, back-next, Left, left-next, left-end}
 
 module _ (list : List ℕ) (n : ℕ) (l : n ≤ length list) where
   long : length (take n list) ≡ n
@@ -61,16 +61,10 @@ module _ (list : List ℕ) (n : ℕ) (l : n ≤ length list) where
 
     -- ---- the start list
 
-    pub start-first :
-        {xs ys : List ℕ} {m : ℕ} → Put (wordsOf (calls 1 .bytes) (calls 1 .preinits)) 0 xs ys m
-        → Left (startList calls (take n list)) 0 xs (inTurn (λ k. startsOf (calls k)) (drop 0 (take n list))) m ys
-    unfolding defs.startList
-    start-first p zs r q = put-both p q
-
     pub start-next :
-        (i : ℕ) {all xs₀ xs ys : List ℕ} {m r : ℕ} → i < n
-        → Left all 0 xs₀ (inTurn (λ k. startsOf (calls k)) (drop i (take n list))) m xs → Put (startsOf (calls (getD list i 0))) m xs ys r
-        → Left all 0 xs₀ (inTurn (λ k. startsOf (calls k)) (drop (i + 1) (take n list))) r ys
+        (i : ℕ) {all xs₀ xs ys : List ℕ} {n₀ m r : ℕ} → i < n
+        → Left all n₀ xs₀ (inTurn (λ k. startsOf (calls k)) (drop i (take n list))) m xs → Put (startsOf (calls (getD list i 0))) m xs ys r
+        → Left all n₀ xs₀ (inTurn (λ k. startsOf (calls k)) (drop (i + 1) (take n list))) r ys
     start-next i h left p =
         left-next left
         (turn-next (λ k. startsOf (calls k)) (take n list) i (omega (arith, long))
@@ -78,8 +72,8 @@ module _ (list : List ℕ) (n : ℕ) (l : n ≤ length list) where
         p
 
     pub start-end :
-        (i : ℕ) {all xs₀ xs : List ℕ} {m : ℕ} → n ≤ i
-        → Left all 0 xs₀ (inTurn (λ k. startsOf (calls k)) (drop i (take n list))) m xs → Put all 0 xs₀ xs m
+        (i : ℕ) {all xs₀ xs : List ℕ} {n₀ m : ℕ} → n ≤ i
+        → Left all n₀ xs₀ (inTurn (λ k. startsOf (calls k)) (drop i (take n list))) m xs → Put all n₀ xs₀ xs m
     start-end i h left = left-end left (turns-end (λ k. startsOf (calls k)) (take n list) i (omega (arith, long)))
 
     -- ---- the stop list

@@ -117,7 +117,8 @@ pub(crate) fn put_start(list: &mut [u64], arena: &[u8], table: &[u64], rows: &[u
     let last = order.count;
     let mut i = 0;
     while i < last {
-        n = put_starts(list, n, arena, table, rows, objects[i] as usize);
+        let k = objects[i];
+        n = put_starts(list, n, arena, table, rows, k as usize);
         i += 1;
     }
     n
@@ -133,7 +134,8 @@ pub(crate) fn put_stop(list: &mut [u64], arena: &[u8], table: &[u64], rows: &[u6
     let mut i = order.count;
     while 0 < i {
         i -= 1;
-        n = put_stops(list, n, arena, table, rows, objects[i] as usize);
+        let k = objects[i];
+        n = put_stops(list, n, arena, table, rows, k as usize);
     }
     n
 }
