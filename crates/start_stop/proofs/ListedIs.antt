@@ -64,6 +64,14 @@ module _ (arena table rows order : List ℕ) (in-order : InOrder table order) (e
       let f = arrays-few _ _ (passed-at (callsAt arena table rows) order (in-order .place) e (in-order .there)) (in-order .spans (in-order .place) (in-order .there)) in
       subst (λ (k : ℕ). rowAt rows k 3 ≤ 2 ^ 25) (in-order .program) (f .2 (in-order .program))
 
+-- the arena plays no part in refusal 26
+pub arrays-any :
+    (a b table rows order : List ℕ) → arraysVerdict (callsAt a table rows) order ≡ arraysVerdict (callsAt b table rows) order
+unfolding defs.arraysVerdict defs.arraysOk
+arrays-any a b table rows [] = refl
+arrays-any a b table rows (k ∷ ks) =
+    ap (λ (v : Verdict). first (unless (arraysOk k (callsAt b table rows k)) 26 k) v) (arrays-any a b table rows ks)
+
 -- ---- what is answered
 
 module _ (calls : ℕ → Calls) (order arena start stop : List ℕ) where

@@ -4,7 +4,7 @@ ghost use Prim.Native.Nat.{_+_, _*_, _^_, _≤_, _<_};
 ghost use mathlib.Core.List.{reverse};
 ghost use lib.ListN.{length, set, take, replicate};
 ghost use Rattle.words.specs.Memory.{mem};
-ghost use Rattle.start_stop.specs.StartStop.{functionOf, wordsOf, startsOf, stopsOf, startList, stopList};
+ghost use Rattle.start_stop.specs.StartStop.{functionOf, wordsOf, startsOf, stopsOf, inTurn, startList, stopList};
 ghost use Rattle.start_stop.specs.Steps.Rows.{rowAt, baseAt, bytesAt, callsAt, FewWords, AllFew};
 ghost use Rattle.start_stop.specs.Steps.Listed.{Put};
 use binder::order::Order;
@@ -105,16 +105,14 @@ fn put_stops(list: &mut [u64], n: usize, arena: &[u8], table: &[u64], rows: &[u6
     put_function(list, m, base_of(table, k), crate::rows::word(rows, k, 1) as u64)
 }
 
-// The start list: the program's preinit array, then the objects in their order.
-pub(crate) fn put_start(list: &mut [u64], arena: &[u8], table: &[u64], rows: &[u64], order: Order) -> usize
-    requires { ⌜ (1026 ≤ length (now table)) × (order .count ≤ 64) × (rowAt (now rows) 1 3 ≤ 2 ^ 25) × AllFew (now rows) (take (order .count) (order .list)) ⌝ }
-    ensures { λ r. ⌜ Put (startList (callsAt (now (arena .entry)) (now (table .entry)) (now (rows .entry))) (take (order .count) (order .list))) 0 (now (list .entry)) (now (list .exit)) r ⌝ }
+// The objects are started in their order.
+fn put_in_order(list: &mut [u64], from: usize, arena: &[u8], table: &[u64], rows: &[u64], order: Order) -> usize
+    requires { ⌜ (from ≤ 2 ^ 25) × (1026 ≤ length (now table)) × (order .count ≤ 64) × AllFew (now rows) (take (order .count) (order .list)) ⌝ }
+    ensures { λ r. ⌜ Put (inTurn (λ k. startsOf (callsAt (now (arena .entry)) (now (table .entry)) (now (rows .entry)) k)) (take (order .count) (order .list))) from (now (list .entry)) (now (list .exit)) r ⌝ }
 {
-    let at = crate::rows::word(rows, 1, 2);
-    let count = crate::rows::word(rows, 1, 3);
-    let mut n = put_array(list, 0, bytes_of(arena, table, 1), at, count);
     let objects = order.list;
     let last = order.count;
+    let mut n = from;
     let mut i = 0;
     while i < last {
         let k = objects[i];
@@ -122,6 +120,17 @@ pub(crate) fn put_start(list: &mut [u64], arena: &[u8], table: &[u64], rows: &[u
         i += 1;
     }
     n
+}
+
+// The start list: the program's preinit array, then the objects in their order.
+pub(crate) fn put_start(list: &mut [u64], arena: &[u8], table: &[u64], rows: &[u64], order: Order) -> usize
+    requires { ⌜ (1026 ≤ length (now table)) × (order .count ≤ 64) × (rowAt (now rows) 1 3 ≤ 2 ^ 25) × AllFew (now rows) (take (order .count) (order .list)) ⌝ }
+    ensures { λ r. ⌜ Put (startList (callsAt (now (arena .entry)) (now (table .entry)) (now (rows .entry))) (take (order .count) (order .list))) 0 (now (list .entry)) (now (list .exit)) r ⌝ }
+{
+    let at = crate::rows::word(rows, 1, 2);
+    let count = crate::rows::word(rows, 1, 3);
+    let n = put_array(list, 0, bytes_of(arena, table, 1), at, count);
+    put_in_order(list, n, arena, table, rows, order)
 }
 
 // The stop list: the objects backwards.
