@@ -59,11 +59,11 @@ int main(int argc, char **argv, char **env)
         return 2;
     }
 
-    /* A query leaves placed bytes in its arena, so the name is asked for before the set is bound. */
-    uint64_t found[4];
-    if (refused("query", lugwormpin_query(sheet, words, bytes, bytes_len, arena, ARENA, ADDRESS, 1, (const uint8_t *)argv[2], strlen(argv[2]), found, 4)))
+    /* A query leaves placed bytes in its arena, so the name is asked for before the set is bound. Names are handed over with their zero bytes. */
+    uint64_t found;
+    if (refused("query_all", lugwormpin_query_all(sheet, words, bytes, bytes_len, arena, ARENA, ADDRESS, 1, (const uint8_t *)argv[2], strlen(argv[2]) + 1, &found, 1)))
         return 1;
-    if (found[0] == 0) {
+    if (found == 0) {
         printf("%s: not found\n", argv[2]);
         return 1;
     }
@@ -74,7 +74,7 @@ int main(int argc, char **argv, char **env)
         perror("start_stop: mprotect");
         return 2;
     }
-    uint64_t (*function)(void) = (uint64_t (*)(void))(uintptr_t)found[3];
+    uint64_t (*function)(void) = (uint64_t (*)(void))(uintptr_t)found;
     call_all(start, counts[0], argc, argv, env);
     printf("%" PRIu64 " started, %s says %" PRIu64 "\n", counts[0], argv[2], function());
     call_all(stop, counts[1], argc, argv, env);

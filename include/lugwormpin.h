@@ -6,7 +6,7 @@
  * - answer every call that keeps to "What the caller owes"; what they answer is proved, for any contents of the slices, refused calls too
  *   (crates/export/src/lib.rt, crates/export/specs/Calls.antt);
  * - keep no pointer, allocate nothing, have no global state, and may run in several threads at once over different memory;
- * - use about 53 KiB of stack (lugwormpin_bind) or 45 KiB (lugwormpin_query), whatever the set: the sum of the compiled frames;
+ * - use about 53 KiB of stack (lugwormpin_bind) or 45 KiB (lugwormpin_query, lugwormpin_query_all), whatever the set: the sum of the compiled frames;
  * - end on every input, but a file can be made so that a call takes seconds (docs/BENCHMARKS.md): bound the size of files of unknown origin,
  *   or the time of the call.
  *
@@ -25,7 +25,7 @@
 extern "C" {
 #endif
 
-/* The answer of all functions is 0, or a refusal: its number in the low 32 bits, its object in the high 32.
+/* The answer of each function is 0, or a refusal: its number in the low 32 bits, its object in the high 32.
  * Objects: the host is 0, the program 1, libraries are numbered from 2 in the order of the sheet.
  *
  *  no.  object    refused because
@@ -49,7 +49,9 @@ extern "C" {
  *                 leads to) is not wholly in table bytes, or the hash table has no buckets, no bloom word, a shift over 31, or a bucket or
  *                 chain that leads outside its table or does not end. Table bytes are those of the object that are in no writable
  *                 segment; of the host, all. The host's relocation tables are not read
- *   13  0         lugwormpin_query only: the requester is no object of the set
+ *   13  0         lugwormpin_query and lugwormpin_query_all only: the requester is no object of the set
+ *   23  0         lugwormpin_query_all only, after 13: the last byte of the names is not zero, or the count of their zero bytes is not
+ *                 addresses_len
  *   14  not 0     a relocation entry of type 1, 2, 5, 6, 7, 10, 11 or 24 has a symbol index at or above the symbol count, where that is known
  *   15  not 0     that symbol or its name is not in table bytes
  *   16  not 0     a relocation entry of type 37 (R_X86_64_IRELATIVE)
@@ -63,7 +65,7 @@ extern "C" {
  *   27  0         lugwormpin_start_stop only, after 26: a list is too short
  *
  * The first refusal in this order is answered: 4 to 12 and 21 object by object, 14 to 18 and 22 entry by entry in binding order. lugwormpin_bind
- * answers all but 13, 26 and 27, lugwormpin_query 1 to 13 and 21, lugwormpin_start_stop all but 13. */
+ * answers all but 13, 23, 26 and 27, lugwormpin_query 1 to 13 and 21, lugwormpin_query_all these and 23, lugwormpin_start_stop all but 13 and 23. */
 #define LUGWORMPIN_NUMBER(answer) ((uint32_t)(answer))
 #define LUGWORMPIN_OBJECT(answer) ((uint32_t)((answer) >> 32))
 
@@ -96,6 +98,20 @@ uint64_t lugwormpin_bind(const uint32_t *sheet, size_t sheet_len, const uint8_t 
  * Returns 0 where the question is answered, found or not, else the refusal; then arena and answer are all 0. */
 uint64_t lugwormpin_query(const uint32_t *sheet, size_t sheet_len, const uint8_t *bytes, size_t bytes_len, uint8_t *arena, size_t arena_len,
                           uint64_t address, uint32_t requester, const uint8_t *name, size_t name_len, uint64_t *answer, size_t answer_len);
+
+/* The addresses of many names in one call, each as lugwormpin_query finds it; the set is loaded once.
+ *
+ * sheet to requester  as above. The arena is written, as by lugwormpin_query: placed bytes, not relocated, also where no name is asked for.
+ *                     So a bound image is not to be handed over as the arena
+ * names, names_len    the bytes of the names, end to end, with a zero byte after each. No bytes are no names; a zero byte by itself is one
+ *                     empty name. There is no limit to the number of names, to their lengths, or to how often one occurs
+ * addresses,          written: the address of each name in the order of the list, 0 where no object has it. Exactly as many words as names (23).
+ * addresses_len       An absolute symbol may have the address 0 too: lugwormpin_query tells the two apart
+ *
+ * Returns 0 where the names are answered, found or not, else the refusal; then arena and addresses are all 0. */
+uint64_t lugwormpin_query_all(const uint32_t *sheet, size_t sheet_len, const uint8_t *bytes, size_t bytes_len, uint8_t *arena, size_t arena_len,
+                              uint64_t address, uint32_t requester, const uint8_t *names, size_t names_len, uint64_t *addresses,
+                              size_t addresses_len);
 
 /* Binds a set, and lists what to call to start it and to stop it.
  *

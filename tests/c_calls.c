@@ -1,4 +1,4 @@
-/* Calls both functions of include/lugwormpin.h on tests/sets/linked.set (the first argument) and prints what they leave. tests/c_calls.out
+/* Calls the functions of include/lugwormpin.h on tests/sets/linked.set (the first argument) and prints what they leave. tests/c_calls.out
    has the lines that are to be printed, worked out from `readelf --dyn-syms` of the set's objects and document 01. */
 #include <inttypes.h>
 #include <stdio.h>
@@ -32,6 +32,19 @@ static void ask(uint32_t requester, const char *name, size_t answer_len)
     printf(", arena %s\n", zeros(arena, sizeof arena) ? "zeros" : "placed");
 }
 
+static void ask_all(uint32_t requester, const char *names, size_t names_len, size_t addresses_len)
+{
+    uint64_t addresses[4];
+    memset(addresses, 0xff, sizeof addresses);
+    memset(arena, 0xff, sizeof arena);
+    uint64_t r = lugwormpin_query_all(input + 1, words, bytes, bytes_len, arena, sizeof arena, 0x10000000, requester, (const uint8_t *)names,
+                                      names_len, addresses, addresses_len);
+    printf("%zu bytes of names for %" PRIu32 ": %" PRIu32 " %" PRIu32 ",", names_len, requester, LUGWORMPIN_NUMBER(r), LUGWORMPIN_OBJECT(r));
+    for (size_t i = 0; i < 4; i++)
+        printf(" %" PRIx64, addresses[i]);
+    printf(", arena %s\n", zeros(arena, sizeof arena) ? "zeros" : "placed");
+}
+
 static void bind(uint32_t strict, size_t report_len)
 {
     memset(arena, 0xff, sizeof arena);
@@ -56,11 +69,18 @@ int main(int argc, char **argv)
     ask(0, "only_b", 2);
     ask(2, "no_such_name", 4);
     ask(4, "a_call", 4);
+    ask_all(1, "a_call\0no_such_name\0shared_var", 31, 3);
+    ask_all(1, "", 0, 0);
+    ask_all(1, "", 0, 2);
+    ask_all(1, "a_call", 7, 2);
+    ask_all(1, "a_call", 6, 0);
+    ask_all(4, "a_call", 6, 3);
     bind(0, 6);
-    bind(0, 5);
+    bind(0, 3);
     bind(1, 6);
     words -= 1;
     ask(1, "a_call", 4);
+    ask_all(1, "a_call", 7, 1);
     bind(0, 6);
     return 0;
 }

@@ -13,7 +13,7 @@ use std::{
     time::Instant,
 };
 
-use port::{bind, query, Found, Refusal, Set};
+use port::{bind, query, query_all, Found, Refusal, Set};
 use shared::*;
 use sides::{Frames, Rust};
 
@@ -122,6 +122,31 @@ fn questions(set: &Set, objects: &[reader::Object], random: &mut Random) -> Vec<
     all
 }
 
+/// The same questions by one call for each requester: what it leaves in the words, in the questions' order, or what is wrong.
+fn all_at_once(set: &Set, objects: usize, placed: &[u8], questions: &[(u32, Vec<u8>)]) -> Result<Vec<u64>, String> {
+    let mut arena = vec![0x3cu8; set.arena];
+    let mut words = vec![u64::MAX; questions.len()];
+    for requester in 0..objects as u32 {
+        let mine: Vec<usize> = (0..questions.len()).filter(|&i| questions[i].0 == requester).collect();
+        let list: Vec<u8> = mine.iter().flat_map(|&i| questions[i].1.iter().copied().chain([0])).collect();
+        let mut addresses = vec![u64::MAX; mine.len()];
+        arena.fill(0x3c);
+        query_all(set, &mut arena, requester, &list, &mut addresses).map_err(|refusal| format!("query_all: {refusal:?} for requester {requester}"))?;
+        if arena != placed {
+            return Err("query_all leaves other bytes than a query".into());
+        }
+        mine.iter().zip(addresses).for_each(|(&i, address)| words[i] = address);
+    }
+    // 13 before 23, each with zeros
+    for (requester, list, number) in [(objects as u32, b"a".as_slice(), 13), (1, b"a", 23), (1, b"a\0b", 23), (1, b"a\0b\0", 23)] {
+        let answer = query_all(set, &mut arena, requester, list, &mut [u64::MAX]);
+        if answer != Err(Refusal(number, 0)) {
+            return Err(format!("query_all: {answer:?} in place of {number}"));
+        }
+    }
+    Ok(words)
+}
+
 fn library_names(set: &Set) -> Vec<&[u8]> {
     let mut at = 0;
     let parts = set.sheet.iter().map(|word| {
@@ -172,6 +197,10 @@ fn compare(set: &Set, rust: &mut Rust, random: &mut Random, counts: &mut Counts)
             if placed.iter().any(|&byte| byte != 0) {
                 return differs("refused", format!("query: {a:?}, and the arena is not clear"));
             }
+            let all = query_all(set, &mut placed, 1, b"\0", &mut [u64::MAX]);
+            if all != Err(a) {
+                return differs("refused", format!("query: {a:?}, query_all: {all:?}"));
+            }
             return Verdict { outcome: format!("refused {}", a.0), compared: false, difference: None, twin: None };
         }
         (Ok(()), Ok(_)) => (),
@@ -206,6 +235,14 @@ fn compare(set: &Set, rust: &mut Rust, random: &mut Random, counts: &mut Counts)
         return differs("query", "the placed bytes depend on the query".into());
     }
 
+    let words = match all_at_once(set, objects.len(), &placed, &questions) {
+        Ok(words) => words,
+        Err(text) => return differs("query_all", text),
+    };
+    if let Some(i) = (0..words.len()).find(|&i| words[i] != answers[i].map_or(0, |found| found.address)) {
+        return differs("query_all", format!("{:#x}, query: {:?} for {:?}", words[i], answers[i], questions[i]));
+    }
+
     let mut twins = HashSet::new();
     for object in &objects {
         object.hidden_twins(&mut twins);
@@ -216,7 +253,7 @@ fn compare(set: &Set, rust: &mut Rust, random: &mut Random, counts: &mut Counts)
     // Of the refusals after loading the Rust has 14 and 19; it has no report, so 20 is none to it.
     let whole = twins.is_empty() && matches!(number, 0 | 14 | 19);
     rust.run(set, &questions, if whole { RELOCATED } else { ANSWERED });
-    let difference = against_the_rust(set, &rust.shared, number, whole, &objects, &placed, &questions, &answers, &twins, &arena, &report);
+    let difference = against_the_rust(set, &rust.shared, number, whole, &objects, &placed, &questions, &answers, &words, &twins, &arena, &report);
 
     let what = if number == 0 { "bound".to_string() } else { format!("refused {number}") };
     match outside {
@@ -256,7 +293,7 @@ fn compare(set: &Set, rust: &mut Rust, random: &mut Random, counts: &mut Counts)
 #[allow(clippy::too_many_arguments)]
 fn against_the_rust(
     set: &Set, s: &Shared, number: u32, whole: bool, objects: &[reader::Object], placed: &[u8], questions: &[(u32, Vec<u8>)],
-    answers: &[Option<Found>], twins: &HashSet<Vec<u8>>, arena: &[u8], report: &[u32],
+    answers: &[Option<Found>], words: &[u64], twins: &HashSet<Vec<u8>>, arena: &[u8], report: &[u32],
 ) -> Option<String> {
     let (stage, result) = (s.get(STAGE), s.get(RESULT));
     if result == NO_ARENA {
@@ -285,6 +322,10 @@ fn against_the_rust(
                 word(0) == 1 && word(1) == found.object && word(2) == found.address && symbol == Some(&line[24..])
             }
         };
+        if words[i] != if word(0) == 1 { word(2) } else { 0 } {
+            let name = String::from_utf8_lossy(name);
+            return Some(format!("requester {requester}, name {name:?}: {:#x} by query_all, the Rust {}, {:#x}", words[i], word(0), word(2)));
+        }
         if !same {
             let name = String::from_utf8_lossy(name);
             return Some(format!("requester {requester}, name {name:?}: {answer:?}, the Rust {}, {}, {:#x}", word(0), word(1), word(2)));
@@ -376,7 +417,7 @@ fn main() {
     for (what, count) in &counts.seen {
         println!("{count:8} {what}");
     }
-    println!("{:8} queries were compared, those of refused sets among them.", counts.queries);
+    println!("{:8} queries were compared, those of refused sets among them, each by query and by query_all.", counts.queries);
     println!(
         "{:8} sets have a hidden twin: {} queries of such names, words and relocated bytes are not compared with the Rust.",
         counts.twins, counts.twin_queries

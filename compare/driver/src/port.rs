@@ -10,6 +10,10 @@ extern "C" {
         sheet: *const u32, sheet_length: usize, bytes: *const u8, bytes_length: usize, arena: *mut u8, arena_length: usize, address: u64,
         requester: u32, name: *const u8, name_length: usize, answer: *mut u64, answer_length: usize,
     ) -> u64;
+    fn lugwormpin_query_all(
+        sheet: *const u32, sheet_length: usize, bytes: *const u8, bytes_length: usize, arena: *mut u8, arena_length: usize, address: u64,
+        requester: u32, names: *const u8, names_length: usize, addresses: *mut u64, addresses_length: usize,
+    ) -> u64;
     pub fn memfd_create(name: *const i8, flags: u32) -> i32;
     pub fn ftruncate(fd: i32, length: i64) -> i32;
     pub fn mmap(at: *mut c_void, length: usize, protection: i32, flags: i32, fd: i32, offset: i64) -> *mut c_void;
@@ -72,4 +76,16 @@ pub fn query(set: &Set, arena: &mut [u8], requester: u32, name: &[u8]) -> Result
     }
     result?;
     Ok((answer[0] == 1).then_some(Found { object: answer[1], symbol: answer[2], address: answer[3] }))
+}
+
+/// The addresses of the names of a list, each with a zero byte after it. A refusal leaves zeros.
+pub fn query_all(set: &Set, arena: &mut [u8], requester: u32, names: &[u8], addresses: &mut [u64]) -> Result<(), Refusal> {
+    let result = refusal(unsafe {
+        lugwormpin_query_all(
+            set.sheet.as_ptr(), set.sheet.len(), set.bytes.as_ptr(), set.bytes.len(), arena.as_mut_ptr(), arena.len(), set.address,
+            requester, names.as_ptr(), names.len(), addresses.as_mut_ptr(), addresses.len(),
+        )
+    });
+    let zeros = arena.iter().all(|&byte| byte == 0) && addresses.iter().all(|&word| word == 0);
+    if result.is_err() && !zeros { Err(WRONG_WORDS) } else { result }
 }

@@ -14,6 +14,8 @@ pub mod QueryLaws
 pub mod NeedsLaws
 pub mod NeedsIs
 pub mod QueryIs
+pub mod AllNamesLaws
+pub mod QueryAllIs
 pub mod Steady
 pub mod SteadyLaws
 pub mod RelrIs

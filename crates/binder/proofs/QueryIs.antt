@@ -59,21 +59,36 @@ module _ (setting : Setting) (os : List Input) (size requester : ℕ) (name : Li
   unfolding askSet repliedOf unless
   ask-found r e z l = rw (sym e ∙ z, lt-ltb requester (length os) l)
 
--- the objects that were loaded answer as the model says
-pub asked :
-    (setting : Setting) (os : List Input) (count : ℕ) (arena arena′ table : List ℕ) (requester : ℕ) (name : List ℕ) (r : Verdict)
+-- the objects that were loaded are placed as the model says, and answer so
+pub record LoadedFor (S : objects.Objs) (size requester : ℕ) (arena table : List ℕ) : Type 0 where
+  pub bytes : arena ≡ tab size (placed S)
+  pub answers :
+      (name : List ℕ) → scopedOf (resolveLinks arena table requester name (gnuHash name) (elfHash name)) ≡ resolve S requester (byName name)
+
+pub loaded-for :
+    (setting : Setting) (os : List Input) (count : ℕ) (arena arena′ table : List ℕ) (requester : ℕ) (r : Verdict)
     → 2 ≤ count → length os ≡ count → Prepared setting os arena arena′ table r → r ≡ Passed → requester < count
     → length arena′ ≡ length arena
-    → (x : Reply) → x ≡ replyOf (scopedOf (resolveLinks arena′ table requester name (gnuHash name) (elfHash name)))
-    → replied x arena′ ≡ askSet setting os (length arena) requester name
+    → LoadedFor (objectsOf setting (filesOf os)) (length arena) requester arena′ table
 unfolding filesOf objectsOf
-asked setting [] count arena arena′ table requester name r two many made z l len x e =
+loaded-for setting [] count arena arena′ table requester r two many made z l len =
     absurd (omega (arith, many))
-asked setting (h ∷ []) count arena arena′ table requester name r two many made z l len x e =
+loaded-for setting (h ∷ []) count arena arena′ table requester r two many made z l len =
     absurd (omega (arith, many))
-asked setting (h ∷ (p ∷ ls)) count arena arena′ table requester name r two many made z l len x e =
-    rw (e, answer) (ap (replied (replyOf (resolve S requester (byName name)))) bytes)
-    ∙ sym (ask-found setting (h ∷ (p ∷ ls)) (length arena) requester name r (made .met) z (omega (arith, many)) ∙ same)
+loaded-for setting (h ∷ (p ∷ ls)) count arena arena′ table requester r two many made z l len =
+    record {
+      bytes =
+          sym (tab-mem arena′)
+          ∙ (ap (λ (n : ℕ). tab n (mem arena′)) len
+          ∙ ap (tab (length arena)) (made .arena z ∙ sym (placed-is setting hf pf fs)));
+      answers = λ name.
+          let n : length fs ≡ length ls = length-map ls (λ (o : Input). record { host = false; bytes = o .file }) in
+          let c : objects.count S ≡ length (h ∷ (p ∷ ls)) = omega (arith, count-is setting (length arena) hf pf fs) in
+          resolve-is (setting .address) arena′ table name S (made .addressed z) (made .counted z ∙ sym c)
+          (linked-for setting (length arena) table hf pf fs arena′ (λ _. 0) len (omega (arith, passed-it .end)) (passed-it .loads) (made .table z)
+          (made .arena z))
+          requester (omega (arith, c, many));
+    }
   where
     hf : File
     hf = record { host = true; bytes = h .file }
@@ -87,29 +102,19 @@ asked setting (h ∷ (p ∷ ls)) count arena arena′ table requester name r two
     S : objects.Objs
     S = objsOf (objectFrom setting) hf pf fs
 
-    same :
-        replied (replyOf (resolve (objectsOf setting (filesOf (h ∷ (p ∷ ls)))) requester (byName name)))
-        (tab (length arena) (placed (objectsOf setting (filesOf (h ∷ (p ∷ ls))))))
-        ≡ replied (replyOf (resolve S requester (byName name))) (tab (length arena) (placed S))
-    same = refl
-
     passed-it : Ready setting (h ∷ (p ∷ ls)) (length arena)
     passed-it = passes setting (h ∷ (p ∷ ls)) arena arena′ table r made z
 
-    bytes : arena′ ≡ tab (length arena) (placed S)
-    bytes =
-        sym (tab-mem arena′)
-        ∙ (ap (λ (n : ℕ). tab n (mem arena′)) len
-        ∙ ap (tab (length arena)) (made .arena z ∙ sym (placed-is setting hf pf fs)))
-
-    answer : scopedOf (resolveLinks arena′ table requester name (gnuHash name) (elfHash name)) ≡ resolve S requester (byName name)
-    answer =
-        let n : length fs ≡ length ls = length-map ls (λ (o : Input). record { host = false; bytes = o .file }) in
-        let c : objects.count S ≡ length (h ∷ (p ∷ ls)) = omega (arith, count-is setting (length arena) hf pf fs) in
-        resolve-is (setting .address) arena′ table name S (made .addressed z) (made .counted z ∙ sym c)
-        (linked-for setting (length arena) table hf pf fs arena′ (λ _. 0) len (omega (arith, passed-it .end)) (passed-it .loads) (made .table z)
-        (made .arena z))
-        requester (omega (arith, c, many))
+pub asked :
+    (setting : Setting) (os : List Input) (count : ℕ) (arena arena′ table : List ℕ) (requester : ℕ) (name : List ℕ) (r : Verdict)
+    → 2 ≤ count → length os ≡ count → Prepared setting os arena arena′ table r → r ≡ Passed → requester < count
+    → length arena′ ≡ length arena
+    → (x : Reply) → x ≡ replyOf (scopedOf (resolveLinks arena′ table requester name (gnuHash name) (elfHash name)))
+    → replied x arena′ ≡ askSet setting os (length arena) requester name
+asked setting os count arena arena′ table requester name r two many made z l len x e =
+    let t = loaded-for setting os count arena arena′ table requester r two many made z l len in
+    rw (e, t .answers name) (ap (replied (replyOf (resolve (objectsOf setting (filesOf os)) requester (byName name)))) (t .bytes))
+    ∙ sym (ask-found setting os (length arena) requester name r (made .met) z (omega (arith, many)))
 
 -- ---- the objects of a sheet
 

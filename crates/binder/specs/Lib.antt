@@ -4,4 +4,5 @@ pub mod Verdict
 pub mod Report
 pub mod SetOrder
 pub mod Bind
+pub mod QueryAll
 pub mod Steps

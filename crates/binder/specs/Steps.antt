@@ -8,3 +8,4 @@ pub mod Relocating
 pub mod RunSteps
 pub mod Needed
 pub mod Finished
+pub mod AllNames

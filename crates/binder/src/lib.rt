@@ -5,6 +5,7 @@ pub mod needs;
 pub mod order;
 pub mod prepare;
 pub mod query;
+pub mod query_all;
 pub mod relocate;
 pub mod relr;
 pub mod report;
@@ -40,4 +41,10 @@ pub enum Reply {
         number: u32,
         object: u32,
     },
+}
+
+// The answer of a query for many names.
+pub enum ReplyAll {
+    Answered,
+    Refused { number: u32, object: u32 },
 }

@@ -4,9 +4,11 @@ pub mod LongerSetLaw
 pub mod LongerQueryLaw
 pub mod CasesHold
 pub mod FieldCasesHold
+pub mod RefusalCasesHold
 pub mod OrderReported
 pub mod RefusalNumbers
 pub mod RefusalsHold
+pub mod AllNamesHold
 pub mod HostStays
 pub mod LargePagesHold
 pub mod PairFiles

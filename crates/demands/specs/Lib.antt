@@ -3,7 +3,9 @@ pub mod LongerSet
 pub mod OrderReport
 pub mod Cases
 pub mod FieldCases
+pub mod RefusalCases
 pub mod Refusals
+pub mod AllNames
 pub mod LargePages
 pub mod PairOfSheets
 pub mod ObjectRuns

@@ -1,4 +1,4 @@
--- No refusal of `bind`, `query` or `start_stop` has the number 0. Assumes nothing.
+-- No refusal of `bind`, `query`, `query_all` or `start_stop` has the number 0. Assumes nothing.
 use mathlib.Core.Path.{_≡_, refl, sym, _∙_}
 use mathlib.Core.Bool.{Bool, true, false}
 use mathlib.Core.List.{List, [], _∷_}
@@ -28,7 +28,11 @@ use Rattle.binder.specs.declared.Verdict.the-variants.{Passed, Refused}
 use Rattle.binder.specs.Report.{orderWords, firstUndefined}
 use Rattle.binder.specs.Bind as binding
 use Rattle.binder.specs.Bind.{filesOf, objectsOf, unless, allows, relocateVerdict, Outcome, outcome, outcomeOf, bindOf, replied, repliedOf, replyOf}
+use Rattle.binder.specs.declared.ReplyAll as allReplies
+use Rattle.binder.specs.QueryAll as all
+use Rattle.binder.specs.QueryAll.{listOk, repliedAll, repliedAllOf}
 use Rattle.binder.proofs.OutcomeLaws.{refused-not, sheetVerdict, bind-one, query-one}
+use Rattle.binder.proofs.QueryAllIs.{query-all-one}
 use Rattle.start_stop.specs.declared.Lists as lists
 use Rattle.start_stop.specs.StartStop as functions
 use Rattle.start_stop.specs.StartStop.{Calls, arraysOk, arraysVerdict, listsVerdict, listing, listingOf, thenList}
@@ -129,6 +133,13 @@ unfolding binding.repliedOf
 of-replied size Passed s a arena n k h e = not-refused s a arena n k e
 of-replied size (Refused m j) s a arena n k h e = h n k cc
 
+of-replied-all :
+    (size slots : ℕ) (v : Verdict) (a ws arena words : List ℕ) (n k : ℕ) → Numbered v
+    → repliedAllOf size slots v a ws ≡ repliedAll (allReplies.the-variants.Refused n k) arena words → 0 < n
+unfolding all.repliedAllOf
+of-replied-all size slots Passed a ws arena words n k h e = let z : _≡_ {A = ℕ} 0 1 = cc in absurd (omega arith)
+of-replied-all size slots (Refused m j) a ws arena words n k h e = h n k cc
+
 bind-tells :
     (setting : Setting) (sheet bytes : List ℕ) (size : ℕ) (policy : Policy) (words n k : ℕ) (arena report : List ℕ)
     → bindOf setting sheet bytes size policy words ≡ outcome (answers.the-variants.Refused n k) arena report → 0 < n
@@ -170,13 +181,20 @@ of-then setting sheet bytes size policy words starts stops n k arena report star
     of-listing starts stops _ a r _ _ arena report start stop n k (of-lists _ _ starts stops) e
 
 pub zero-tells : ZeroTells
-unfolding functions.startStopOf
+unfolding binding.bindIn functions.startStopOf
 zero-tells = (
   bind-tells,
   λ setting sheet bytes size requester name n k arena e.
       of-replied size _ (resolve (objectsOf setting (filesOf (setOf sheet bytes))) requester (symbols.byName name)) _ arena n k
       (either-one (sheetVerdict setting sheet bytes size) (unless (ltb requester (length (setOf sheet bytes))) 13 0) (of-prepare setting sheet bytes size)
       (of-test (ltb requester (length (setOf sheet bytes))) 13 0 (omega arith))) (sym (query-one setting sheet bytes size requester name) ∙ e),
+  λ setting sheet bytes size requester list slots n k arena words e.
+      let asking = unless (ltb requester (length (setOf sheet bytes))) 13 0 in
+      let listed = unless (listOk list slots) 23 0 in
+      of-replied-all size slots _ _ _ arena words n k
+      (either-one (sheetVerdict setting sheet bytes size) (first asking listed) (of-prepare setting sheet bytes size)
+      (either-one asking listed (of-test (ltb requester (length (setOf sheet bytes))) 13 0 (omega arith)) (of-test (listOk list slots) 23 0 (omega arith))))
+      (sym (query-all-one setting sheet bytes size requester list slots) ∙ e),
   λ setting sheet bytes size policy words starts stops n k arena report start stop e.
       of-then setting sheet bytes size policy words starts stops n k arena report start stop _ refl e,
 )

@@ -1,4 +1,4 @@
--- What the functions for C answer, as numbers: `bindOf`, `queryOf` and `startStopOf` say what is answered, and this file how it is written. Document 01,
+-- What the functions for C answer, as numbers: `bindOf`, `queryOf`, `queryAllOf` and `startStopOf` say what is answered, and this file how it is written. Document 01,
 -- "Where an answer is an enum, a definition gives this paper's number and values for each of its cases". Assumes nothing.
 use mathlib.Core.List.{List, [], _∷_}
 use mathlib.Core.Path.{_≡_}
@@ -12,7 +12,10 @@ use Rattle.binder.specs.declared.Answer.{Answer}
 use Rattle.binder.specs.declared.Answer as answers
 use Rattle.binder.specs.declared.Reply.{Reply}
 use Rattle.binder.specs.declared.Reply as replies
+use Rattle.binder.specs.declared.ReplyAll.{ReplyAll}
+use Rattle.binder.specs.declared.ReplyAll as allReplies
 use Rattle.binder.specs.Setting.{Setting}
+use Rattle.binder.specs.QueryAll.{RepliedAll, repliedAll, queryAllOf}
 use Rattle.binder.specs.Bind.{Outcome, outcome, bindOf, Replied, replied, queryOf}
 use Rattle.start_stop.specs.declared.Lists.{Lists}
 use Rattle.start_stop.specs.declared.Lists as lists
@@ -65,6 +68,16 @@ pub data Asked : Type 0 where
 abbrev pub askedOf : ℕ → Replied → Asked
 askedOf size (replied reply arena) = asked (replyNumber reply) arena (fitted size (replyWords reply))
 
+-- ---- query_all
+
+-- 0 for names that are answered
+abbrev pub replyAllNumber : ReplyAll → ℕ
+replyAllNumber allReplies.the-variants.Answered = 0
+replyAllNumber (allReplies.the-variants.Refused number object) = packed number object
+
+abbrev pub askedAllOf : RepliedAll → Asked
+askedAllOf (repliedAll reply arena words) = asked (replyAllNumber reply) arena words
+
 -- ---- start_stop
 
 -- 0 for bound and listed
@@ -94,6 +107,8 @@ ZeroTells =
     → bindOf setting sheet bytes size policy words ≡ outcome (answers.the-variants.Refused number object) arena report → 0 < number)
     × ((setting : Setting) (sheet bytes : List ℕ) (size requester : ℕ) (name : List ℕ) (number object : ℕ) (arena : List ℕ)
     → queryOf setting sheet bytes size requester name ≡ replied (replies.the-variants.Refused number object) arena → 0 < number)
+    × ((setting : Setting) (sheet bytes : List ℕ) (size requester : ℕ) (list : List ℕ) (slots number object : ℕ) (arena words : List ℕ)
+    → queryAllOf setting sheet bytes size requester list slots ≡ repliedAll (allReplies.the-variants.Refused number object) arena words → 0 < number)
     × ((setting : Setting) (sheet bytes : List ℕ) (size : ℕ) (policy : Policy) (words starts stops number object : ℕ) (arena report start stop : List ℕ)
     → startStopOf setting sheet bytes size policy words starts stops ≡ listing (lists.the-variants.Refused number object) arena report start stop
     → 0 < number)

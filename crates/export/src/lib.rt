@@ -5,11 +5,13 @@ ghost use lib.ListN.{length};
 ghost use Rattle.words.specs.Memory.{mem};
 ghost use Rattle.binder.specs.Setting.{settingAt};
 ghost use Rattle.binder.specs.Bind.{bindOf, queryOf};
-ghost use Rattle.export.specs.Calls.{packed, policyOf, answerNumber, replyNumber, replyWords, fitted, called, calledOf, asked, askedOf, listsNumber, listsCounts, calledLists, calledListsOf};
+ghost use Rattle.binder.specs.QueryAll.{queryAllOf};
 ghost use Rattle.start_stop.specs.StartStop.{startStopOf};
+ghost use Rattle.export.specs.Calls.{packed, policyOf, answerNumber, replyNumber, replyWords, fitted, called, calledOf, asked, askedOf, replyAllNumber, askedAllOf, listsNumber, listsCounts, calledLists, calledListsOf};
 use binder::Answer;
 use binder::Policy;
 use binder::Reply;
+use binder::ReplyAll;
 use start_stop::Lists;
 
 // A refusal as one number: the low half is its number, the high half its object.
@@ -123,6 +125,41 @@ pub extern "C" fn lugwormpin_query(
 {
     let reply = binder::query::query(sheet, bytes, arena, address, requester, name);
     store_reply(answer, reply)
+}
+
+fn reply_all_number(a: ReplyAll) -> u64
+    ensures { λ r. ⌜ r ≡ replyAllNumber a ⌝ }
+{
+    match a {
+        ReplyAll::Answered => 0,
+        ReplyAll::Refused { number, object } => pack(number, object),
+    }
+}
+
+// The addresses of the names of a list, each of which has a zero byte after it, for the object `requester`: 0 where they are answered, else
+// the refusal.
+#[no_mangle]
+pub extern "C" fn lugwormpin_query_all(
+    sheet: &[u32],
+    bytes: &[u8],
+    arena: &mut [u8],
+    address: u64,
+    requester: u32,
+    names: &[u8],
+    addresses: &mut [u64],
+) -> u64
+    ensures { λ r. ⌜ asked r (now (arena .exit)) (now (addresses .exit)) ≡ askedAllOf (queryAllOf (settingAt address) (now (sheet .entry)) (now (bytes .entry)) (length (now (arena .entry))) requester (now (names .entry)) (length (now (addresses .entry)))) ⌝ }
+{
+    let reply = binder::query_all::query_all(
+        sheet,
+        bytes,
+        arena,
+        address,
+        requester,
+        names,
+        addresses,
+    );
+    reply_all_number(reply)
 }
 
 fn store_pair(counts: &mut [u64], start: u64, stop: u64)

@@ -16,7 +16,7 @@ use std::{
     time::Instant,
 };
 
-use port::{bind, mmap, query, Refusal, Set};
+use port::{bind, mmap, query, query_all, Refusal, Set};
 use shared::*;
 use sides::{Frames, Rust};
 
@@ -92,7 +92,8 @@ impl Figures {
 
 fn questions(set: &Set) -> Vec<(u32, Vec<u8>)> {
     let objects = set.sheet.len() / 2 + 1;
-    let one = |k: usize| ((7 * k % objects) as u32, format!("name_{}_of_lib", 13 * k).into_bytes());
+    let once = set.label.contains("once");
+    let one = |k: usize| (if once { 1 } else { 7 * k % objects } as u32, format!("name_{}_of_lib", 13 * k).into_bytes());
     if set.label.contains("queries") { (0..QUESTIONS).map(one).collect() } else { Vec::new() }
 }
 
@@ -100,6 +101,10 @@ fn measure(set: &Set, rust: &mut Rust, seconds: f64) {
     let (label, more) = set.label.split_once(' ').unwrap_or((&set.label, ""));
     let (alone, program) = (more == "alone", label.starts_with("vi-"));
     let asked = questions(set);
+    // The names of one requester, for one call.
+    let list: Vec<u8> = asked.iter().flat_map(|(_, name)| name.iter().copied().chain([0])).collect();
+    let mut addresses = vec![0u64; asked.len()];
+    let once = more.contains("once");
     if !alone {
         rust.hand_over(set, &asked, RELOCATED);
         rust.shared.set(NEW, 1);
@@ -128,6 +133,13 @@ fn measure(set: &Set, rust: &mut Rust, seconds: f64) {
             eprintln!("{label}: left out, the port refuses it: {number}, object {object}");
             return;
         }
+        let mut all = 0;
+        if once {
+            make_ready(set, room);
+            let arena = &mut room[..set.arena];
+            all = nanoseconds(|| assert_eq!(query_all(set, arena, 1, &list, &mut addresses), Ok(())));
+            assert_eq!(addresses.iter().filter(|&&address| address != 0).count() as u64, found, "{label}: the words of query_all");
+        }
         if !alone {
             rust.go();
         }
@@ -136,6 +148,7 @@ fn measure(set: &Set, rust: &mut Rust, seconds: f64) {
             if !alone {
                 assert_eq!((rust.shared.get(RESULT), rust.shared.get(WRONG)), (FINE, 0), "the Rust on {label}");
                 if asked.is_empty() {
+                    let arena = &room[..set.arena];
                     assert!(rust.shared.part(AT_RELOCATED, set.arena) == arena, "{label}: the relocated bytes differ");
                 } else {
                     assert_eq!(rust.shared.get(OBJECT), found, "{label}: the number of names that are found differs");
@@ -164,6 +177,9 @@ fn measure(set: &Set, rust: &mut Rust, seconds: f64) {
             }
         } else {
             figures.add("port queries", port);
+            if once {
+                figures.add("port query_all", all);
+            }
             figures.add("rust queries", time(1));
             figures.add("rust load and queries", time(0) + time(1));
         }
@@ -198,6 +214,7 @@ fn measure(set: &Set, rust: &mut Rust, seconds: f64) {
     }
     let used = match asked.first() {
         None => stack(&mut || bind(set, arena, &mut report).unwrap()),
+        Some(_) if once => stack(&mut || query_all(set, arena, 1, &list, &mut addresses).unwrap()),
         Some((requester, name)) => stack(&mut || assert!(query(set, arena, *requester, name).is_ok())),
     };
     println!("{label}\tstack\t{used}");
