@@ -10,7 +10,7 @@ use lib.Dec.{leb, eqb}
 use lib.ListN.{length, take, replicate, length-append, length-replicate}
 use lib.Seq.{take-append-seam}
 use Rattle.words.specs.Choice.{pick, both, either}
-use Rattle.words.proofs.Choice.{both-true}
+use Rattle.words.proofs.Choice.{both-true, either-right}
 use Rattle.model.specs.Order.{has}
 use Rattle.sheet.specs.Sheet.{Input, sheetOk, setOf}
 use Rattle.binder.specs.declared.Policy.{Policy}
@@ -53,17 +53,13 @@ use Rattle.demands.proofs.RefusalsHold.{bind-refusals, lengths}
 arrays-met : (calls : ℕ → Calls) (order : List ℕ) (n k : ℕ) → arraysVerdict calls order ≡ Refused n k → (n ≡ 26) × (has k order ≡ true)
 unfolding defs.arraysVerdict bind.unless
 arrays-met calls [] n k e = refused-not n k (sym e)
-arrays-met calls (j ∷ js) n k e = go (arraysOk j (calls j)) e
+arrays-met calls (j ∷ js) n k e = go (λ g. arrays-met calls js n k g) (arraysOk j (calls j)) e
   where
-    go : (t : Bool) → first (pick t Passed (Refused 26 j)) (arraysVerdict calls js) ≡ Refused n k → (n ≡ 26) × (has k (j ∷ js) ≡ true)
-    go true g =
-        let r = arrays-met calls js n k g in
-        (r .0, either-right (eqb k j) (r .1))
-      where
-        either-right : (t : Bool) {u : Bool} → u ≡ true → either t u ≡ true
-        either-right true z = refl
-        either-right false z = z
-    go false g =
+    go :
+        (arraysVerdict calls js ≡ Refused n k → (n ≡ 26) × (has k js ≡ true)) → (t : Bool)
+        → first (pick t Passed (Refused 26 j)) (arraysVerdict calls js) ≡ Refused n k → (n ≡ 26) × (has k (j ∷ js) ≡ true)
+    go rest true g = let r = rest g in (r .0, either-right (eqb k j) (has k js) (r .1))
+    go rest false g =
         let number : 26 ≡ n = cc in
         let object : k ≡ j = cc in
         (sym number, rw (eq-eqb k j object))
@@ -191,7 +187,7 @@ start-stop-refusals setting sheet bytes size policy words starts stops n k arena
         record {
           number =
               inr
-              (⊎-elim (λ x. inl (x .0, number-of setting sheet bytes size policy words starts stops a r q k (x .1))) (λ x. inr x)
+              (⊎-elim (λ x. let b = number-of setting sheet bytes size policy words starts stops a r q k (x .1) in inl (x .0, b .0, b .1)) (λ x. inr x)
               (lists-met _ _ starts stops n k (z .0)));
           arena-zeros = z .1 ∙ ap (λ (i : ℕ). replicate i 0) (l .0);
           report-zeros = z .2 ∙ ap (λ (i : ℕ). replicate i 0) (l .1);

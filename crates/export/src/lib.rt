@@ -202,6 +202,15 @@ pub extern "C" fn lugwormpin_start_stop(
     ensures { λ r. ⌜ calledLists r (now (arena .exit)) (now (report .exit)) (now (start .exit)) (now (stop .exit)) (now (counts .exit)) ≡ calledListsOf (length (now (counts .entry))) (startStopOf (settingAt address) (now (sheet .entry)) (now (bytes .entry)) (length (now (arena .entry))) (policyOf strict) (length (now (report .entry))) (length (now (start .entry))) (length (now (stop .entry)))) ⌝ }
 {
     let policy = policy_of(strict);
-    let l = start_stop::start_stop::start_stop(sheet, bytes, arena, address, policy, report, start, stop);
+    let l = start_stop::start_stop::start_stop(
+        sheet,
+        bytes,
+        arena,
+        address,
+        policy,
+        report,
+        start,
+        stop,
+    );
     store_counts(counts, l)
 }

@@ -217,13 +217,22 @@ words-length bytes a = length-tab (a .count) (λ i. leAt 8 bytes (a .at + 8 * i)
 pub starts-few : (c : Calls) → c .inits .count ≤ 2 ^ 25 → length (startsOf c) ≤ 2 ^ 26
 unfolding startsOf
 starts-few c l =
-    omega
-    (arith, length-append (functionOf (c .base) (c .init)) (wordsOf (c .bytes) (c .inits)), function-few (c .base) (c .init),
-    words-length (c .bytes) (c .inits), l)
+    omega (
+      arith,
+      length-append (functionOf (c .base) (c .init)) (wordsOf (c .bytes) (c .inits)),
+      function-few (c .base) (c .init),
+      words-length (c .bytes) (c .inits),
+      l,
+    )
 
 pub stops-few : (c : Calls) → c .finis .count ≤ 2 ^ 25 → length (stopsOf c) ≤ 2 ^ 26
 unfolding stopsOf
 stops-few c l =
-    omega
-    (arith, length-append (reverse (wordsOf (c .bytes) (c .finis))) (functionOf (c .base) (c .fini)), function-few (c .base) (c .fini),
-    length-reverse (wordsOf (c .bytes) (c .finis)), words-length (c .bytes) (c .finis), l)
+    omega (
+      arith,
+      length-append (reverse (wordsOf (c .bytes) (c .finis))) (functionOf (c .base) (c .fini)),
+      function-few (c .base) (c .fini),
+      length-reverse (wordsOf (c .bytes) (c .finis)),
+      words-length (c .bytes) (c .finis),
+      l,
+    )

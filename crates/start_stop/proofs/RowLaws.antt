@@ -56,9 +56,16 @@ no-slots image tag h = ap (λ (place : ℕ). slots.slotField image place) (zero-
 pub same-word : (f g : Fields) → SameFields f g → (j : ℕ) → rowWord f j ≡ rowWord g j
 unfolding tables.rowWord slots.slotOf
 same-word f g same j =
-    rw
-    (same DT.INIT (omega arith), same DT.FINI (omega arith), same DT.PREINIT-ARRAY (omega arith), same DT.PREINIT-ARRAYSZ (omega arith),
-    same DT.INIT-ARRAY (omega arith), same DT.INIT-ARRAYSZ (omega arith), same DT.FINI-ARRAY (omega arith), same DT.FINI-ARRAYSZ (omega arith))
+    rw (
+      same DT.INIT (omega arith),
+      same DT.FINI (omega arith),
+      same DT.PREINIT-ARRAY (omega arith),
+      same DT.PREINIT-ARRAYSZ (omega arith),
+      same DT.INIT-ARRAY (omega arith),
+      same DT.INIT-ARRAYSZ (omega arith),
+      same DT.FINI-ARRAY (omega arith),
+      same DT.FINI-ARRAYSZ (omega arith),
+    )
 
 -- ---- the rows
 

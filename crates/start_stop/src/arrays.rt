@@ -5,8 +5,8 @@ ghost use Prim.Native.Nat.{_≤_};
 ghost use lib.ListN.{take};
 ghost use Rattle.start_stop.specs.StartStop.{inSpan, arraysOk, arraysVerdict};
 ghost use Rattle.start_stop.specs.Steps.Rows.{callsAt};
-use binder::order::Order;
 use binder::Verdict;
+use binder::order::Order;
 
 // Whether the `count` words at `at` lie in a span, where there are any.
 fn array_inside(span: usize, at: usize, count: usize) -> bool
@@ -30,16 +30,28 @@ fn arrays_inside(table: &[u64], rows: &[u64], k: usize) -> bool
 {
     let s = scope::links::link_at(table, k);
     let span = s.span;
-    if !array_inside(span, crate::rows::word(rows, k, 4), crate::rows::word(rows, k, 5)) {
+    if !array_inside(
+        span,
+        crate::rows::word(rows, k, 4),
+        crate::rows::word(rows, k, 5),
+    ) {
         return false;
     }
-    if !array_inside(span, crate::rows::word(rows, k, 6), crate::rows::word(rows, k, 7)) {
+    if !array_inside(
+        span,
+        crate::rows::word(rows, k, 6),
+        crate::rows::word(rows, k, 7),
+    ) {
         return false;
     }
     if k != 1 {
         return true;
     }
-    array_inside(span, crate::rows::word(rows, k, 2), crate::rows::word(rows, k, 3))
+    array_inside(
+        span,
+        crate::rows::word(rows, k, 2),
+        crate::rows::word(rows, k, 3),
+    )
 }
 
 // The objects of an order, one after another.

@@ -60,7 +60,11 @@ fn put_backwards(list: &mut [u64], n: usize, part: &[u8], at: usize, count: usiz
 {
     let mut i = 0;
     while i < count {
-        set_word(list, n + i, words::bytes::u64_off(part, at, 8 * (count - 1 - i)));
+        set_word(
+            list,
+            n + i,
+            words::bytes::u64_off(part, at, 8 * (count - 1 - i)),
+        );
         i += 1;
     }
     n + count
@@ -84,29 +88,60 @@ fn bytes_of<'a>(arena: &'a [u8], table: &[u64], k: usize) -> &'a [u8]
 }
 
 // Object `k` is started: DT_INIT, then its init array from first to last.
-fn put_starts(list: &mut [u64], n: usize, arena: &[u8], table: &[u64], rows: &[u64], k: usize) -> usize
+fn put_starts(
+    list: &mut [u64],
+    n: usize,
+    arena: &[u8],
+    table: &[u64],
+    rows: &[u64],
+    k: usize,
+) -> usize
     requires { ⌜ (n < 2 ^ 39) × (1026 ≤ length (now table)) × FewWords (now rows) k ⌝ }
     ensures { λ r. ⌜ Put (startsOf (callsAt (now (arena .entry)) (now (table .entry)) (now (rows .entry)) k)) n (now (list .entry)) (now (list .exit)) r ⌝ }
 {
-    let m = put_function(list, n, base_of(table, k), crate::rows::word(rows, k, 0) as u64);
+    let m = put_function(
+        list,
+        n,
+        base_of(table, k),
+        crate::rows::word(rows, k, 0) as u64,
+    );
     let at = crate::rows::word(rows, k, 4);
     let count = crate::rows::word(rows, k, 5);
     put_array(list, m, bytes_of(arena, table, k), at, count)
 }
 
 // Object `k` is stopped: its fini array from last to first, then DT_FINI.
-fn put_stops(list: &mut [u64], n: usize, arena: &[u8], table: &[u64], rows: &[u64], k: usize) -> usize
+fn put_stops(
+    list: &mut [u64],
+    n: usize,
+    arena: &[u8],
+    table: &[u64],
+    rows: &[u64],
+    k: usize,
+) -> usize
     requires { ⌜ (n < 2 ^ 39) × (1026 ≤ length (now table)) × FewWords (now rows) k ⌝ }
     ensures { λ r. ⌜ Put (stopsOf (callsAt (now (arena .entry)) (now (table .entry)) (now (rows .entry)) k)) n (now (list .entry)) (now (list .exit)) r ⌝ }
 {
     let at = crate::rows::word(rows, k, 6);
     let count = crate::rows::word(rows, k, 7);
     let m = put_backwards(list, n, bytes_of(arena, table, k), at, count);
-    put_function(list, m, base_of(table, k), crate::rows::word(rows, k, 1) as u64)
+    put_function(
+        list,
+        m,
+        base_of(table, k),
+        crate::rows::word(rows, k, 1) as u64,
+    )
 }
 
 // The objects are started in their order.
-fn put_in_order(list: &mut [u64], from: usize, arena: &[u8], table: &[u64], rows: &[u64], order: Order) -> usize
+fn put_in_order(
+    list: &mut [u64],
+    from: usize,
+    arena: &[u8],
+    table: &[u64],
+    rows: &[u64],
+    order: Order,
+) -> usize
     requires { ⌜ (from ≤ 2 ^ 25) × (1026 ≤ length (now table)) × (order .count ≤ 64) × AllFew (now rows) (take (order .count) (order .list)) ⌝ }
     ensures { λ r. ⌜ Put (inTurn (λ k. startsOf (callsAt (now (arena .entry)) (now (table .entry)) (now (rows .entry)) k)) (take (order .count) (order .list))) from (now (list .entry)) (now (list .exit)) r ⌝ }
 {
@@ -123,7 +158,13 @@ fn put_in_order(list: &mut [u64], from: usize, arena: &[u8], table: &[u64], rows
 }
 
 // The start list: the program's preinit array, then the objects in their order.
-pub(crate) fn put_start(list: &mut [u64], arena: &[u8], table: &[u64], rows: &[u64], order: Order) -> usize
+pub(crate) fn put_start(
+    list: &mut [u64],
+    arena: &[u8],
+    table: &[u64],
+    rows: &[u64],
+    order: Order,
+) -> usize
     requires { ⌜ (1026 ≤ length (now table)) × (order .count ≤ 64) × (rowAt (now rows) 1 3 ≤ 2 ^ 25) × AllFew (now rows) (take (order .count) (order .list)) ⌝ }
     ensures { λ r. ⌜ Put (startList (callsAt (now (arena .entry)) (now (table .entry)) (now (rows .entry))) (take (order .count) (order .list))) 0 (now (list .entry)) (now (list .exit)) r ⌝ }
 {
@@ -134,7 +175,13 @@ pub(crate) fn put_start(list: &mut [u64], arena: &[u8], table: &[u64], rows: &[u
 }
 
 // The stop list: the objects backwards.
-pub(crate) fn put_stop(list: &mut [u64], arena: &[u8], table: &[u64], rows: &[u64], order: Order) -> usize
+pub(crate) fn put_stop(
+    list: &mut [u64],
+    arena: &[u8],
+    table: &[u64],
+    rows: &[u64],
+    order: Order,
+) -> usize
     requires { ⌜ (1026 ≤ length (now table)) × (order .count ≤ 64) × AllFew (now rows) (take (order .count) (order .list)) ⌝ }
     ensures { λ r. ⌜ Put (stopList (callsAt (now (arena .entry)) (now (table .entry)) (now (rows .entry))) (take (order .count) (order .list))) 0 (now (list .entry)) (now (list .exit)) r ⌝ }
 {

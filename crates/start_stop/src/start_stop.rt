@@ -10,9 +10,9 @@ ghost use Rattle.start_stop.specs.StartStop.{listing, thenList, startSto
 ghost use Rattle.start_stop.specs.Steps.Rows.{callsAt, InOrder};
 ghost use Rattle.start_stop.specs.Steps.Listed.{finishedOf, ListsMade};
 use crate::Lists;
-use binder::order::Order;
 use binder::Policy;
 use binder::Verdict;
+use binder::order::Order;
 use sheet::sheet::Parts;
 
 // Refusals 26 and 27 of a bound set, and the lists, which were all zeros.
@@ -48,10 +48,7 @@ fn list_all(
             object: 0,
         };
     }
-    Lists::Listed {
-        start: n,
-        stop: m,
-    }
+    Lists::Listed { start: n, stop: m }
 }
 
 // Refusals 2 to 20, 26 and 27 of the objects that the table of parts names; the rows are read before the objects are relocated.
@@ -102,8 +99,7 @@ fn finish(
     if let Lists::Refused {
         number: _,
         object: _,
-    } = l
-    {
+    } = l {
         words::bytes::clear(arena);
         words::bytes::clear_words(report);
         crate::fill::clear_list(start);
