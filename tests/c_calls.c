@@ -54,6 +54,21 @@ static void bind(uint32_t strict, size_t report_len)
            zeros(arena, sizeof arena) ? "zeros" : "bound", zeros(report, report_len * 4) ? "zeros" : "words", report[report_len]);
 }
 
+static void list(uint32_t strict, size_t start_len, size_t stop_len, size_t counts_len)
+{
+    uint64_t start[4], stop[4], counts[4];
+    memset(arena, 0xff, sizeof arena);
+    memset(report, 0xff, sizeof report);
+    memset(start, 0xff, sizeof start);
+    memset(stop, 0xff, sizeof stop);
+    memset(counts, 0xff, sizeof counts);
+    uint64_t r = lugwormpin_start_stop(input + 1, words, bytes, bytes_len, arena, sizeof arena, 0x10000000, strict, report, 6, start, start_len, stop,
+                                       stop_len, counts, counts_len);
+    printf("start_stop: %" PRIu32 " %" PRIu32 ", start %" PRIx64 " %" PRIx64 ", stop %" PRIx64 " %" PRIx64 ", counts %" PRIx64 " %" PRIx64 " %" PRIx64
+           ", arena %s\n", LUGWORMPIN_NUMBER(r), LUGWORMPIN_OBJECT(r), start[0], start[1], stop[0], stop[1], counts[0], counts[1], counts[2],
+           zeros(arena, sizeof arena) ? "zeros" : "bound");
+}
+
 int main(int argc, char **argv)
 {
     FILE *file = argc == 2 ? fopen(argv[1], "rb") : NULL;
@@ -78,9 +93,13 @@ int main(int argc, char **argv)
     bind(0, 6);
     bind(0, 3);
     bind(1, 6);
+    list(0, 1, 2, 2);
+    list(0, 0, 0, 3);
+    list(1, 2, 2, 1);
     words -= 1;
     ask(1, "a_call", 4);
     ask_all(1, "a_call", 7, 1);
     bind(0, 6);
+    list(0, 2, 1, 2);
     return 0;
 }
