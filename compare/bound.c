@@ -26,7 +26,10 @@ int main(void)
         uint8_t *bytes = taken(bytes_len), *arena = malloc(arena_len + 1);
         if (report == NULL || arena == NULL)
             return 4;
-        uint64_t answer = lugwormpin_bind(sheet, words, bytes, bytes_len, arena, arena_len, place[0], four[1], report, report_len);
+        uint32_t types[64];
+        lugwormpin_types(types, 64);
+        uint64_t answer =
+            lugwormpin_bind(sheet, words, bytes, bytes_len, arena, arena_len, place[0], four[1], types, 64, report, report_len);
         fwrite(&answer, 1, 8, stdout);
         if (answer == 0)
             fwrite(arena, 1, arena_len, stdout);

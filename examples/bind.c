@@ -1,4 +1,5 @@
-/* Binds the set in a file as the program `bind` does: leniently, at 0x10000000, in 32,768 bytes. Prints the report or the refusal. */
+/* Binds the set in a file as the program `bind` does: leniently, at 0x10000000, in 32,768 bytes, under the supplied words of
+ * the types. Prints the report or the refusal. */
 #include <inttypes.h>
 #include <stdio.h>
 
@@ -6,6 +7,7 @@
 
 static uint32_t input[16385]; /* 65,536 bytes, and a word to see that there are more */
 static uint8_t arena[32768];
+static uint32_t types[64];
 static uint32_t report[1024];
 
 int main(int argc, char **argv)
@@ -22,7 +24,9 @@ int main(int argc, char **argv)
     if (size >= 4 && size <= 65536 && input[0] <= (size - 4) / 4) {
         size_t words = input[0];
         const uint8_t *bytes = (const uint8_t *)(input + 1 + words);
-        answer = lugwormpin_bind(input + 1, words, bytes, size - 4 - 4 * words, arena, sizeof arena, 0x10000000, 0, report, 1024);
+        lugwormpin_types(types, 64);
+        /* types[1] = 0xB0000001 would refuse entries of type 1 */
+        answer = lugwormpin_bind(input + 1, words, bytes, size - 4 - 4 * words, arena, sizeof arena, 0x10000000, 0, types, 64, report, 1024);
     }
     if (answer != 0) {
         printf("refused %" PRIu32 " object %" PRIu32 "\n", LUGWORMPIN_NUMBER(answer), LUGWORMPIN_OBJECT(answer));

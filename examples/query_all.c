@@ -53,7 +53,9 @@ int main(int argc, char **argv)
     }
     size_t words = input[0], bytes_len = size - 4 - 4 * words;
     const uint8_t *bytes = (const uint8_t *)(input + 1 + words);
-    uint64_t answer = lugwormpin_bind(input + 1, words, bytes, bytes_len, image, sizeof image, 0x10000000, 0, report, 1024);
+    uint32_t types[64];
+    lugwormpin_types(types, 64);
+    uint64_t answer = lugwormpin_bind(input + 1, words, bytes, bytes_len, image, sizeof image, 0x10000000, 0, types, 64, report, 1024);
     if (answer != 0)
         return refused("bind", answer);
     answer = lugwormpin_query_all(input + 1, words, bytes, bytes_len, asked, sizeof asked, 0x10000000, 1, (const uint8_t *)names, length, addresses, count);

@@ -18,6 +18,7 @@ enum { ADDRESS = 0x10000000, ARENA = 1 << 24, WORDS = 4096, FUNCTIONS = 4096 };
 
 static uint32_t input[1 << 22]; /* 16 MiB */
 static uint32_t report[WORDS];
+static uint32_t types[64];
 static uint64_t start[FUNCTIONS], stop[FUNCTIONS], counts[2];
 
 static int refused(const char *call, uint64_t answer)
@@ -67,7 +68,8 @@ int main(int argc, char **argv, char **env)
         printf("%s: not found\n", argv[2]);
         return 1;
     }
-    if (refused("start_stop", lugwormpin_start_stop(sheet, words, bytes, bytes_len, arena, ARENA, ADDRESS, 1, report, WORDS, start, FUNCTIONS, stop,
+    lugwormpin_types(types, 64);
+    if (refused("start_stop", lugwormpin_start_stop(sheet, words, bytes, bytes_len, arena, ARENA, ADDRESS, 1, types, 64, report, WORDS, start, FUNCTIONS, stop,
                                                     FUNCTIONS, counts, 2)))
         return 1;
     if (mprotect(arena, ARENA, PROT_READ | PROT_WRITE | PROT_EXEC) != 0) {

@@ -6,7 +6,7 @@
  * - answer every call that keeps to "What the caller owes"; what they answer is proved, for any contents of the slices, refused calls too
  *   (crates/export/src/lib.rt, crates/export/specs/Calls.antt);
  * - keep no pointer, allocate nothing, have no global state, and may run in several threads at once over different memory;
- * - use about 53 KiB of stack (lugwormpin_bind), 60 KiB (lugwormpin_start_stop) or 45 KiB (lugwormpin_query, lugwormpin_query_all), whatever the set:
+ * - use about 54 KiB of stack (lugwormpin_bind), 61 KiB (lugwormpin_start_stop) or 45 KiB (lugwormpin_query, lugwormpin_query_all), whatever the set:
  *   the sum of the compiled frames;
  * - end on every input, but a file can be made so that a call takes seconds (docs/BENCHMARKS.md): bound the size of files of unknown origin,
  *   or the time of the call.
@@ -26,13 +26,15 @@
 extern "C" {
 #endif
 
-/* The answer of each function is 0, or a refusal: its number in the low 32 bits, its object in the high 32.
+/* The answer of each function but lugwormpin_types is 0, or a refusal: its number in the low 32 bits, its object in the high 32.
  * Objects: the host is 0, the program 1, libraries are numbered from 2 in the order of the sheet.
  *
  *  no.  object    refused because
  *    1  0         the sheet: a kind that is wrong for its position, a word missing, over 62 libraries, a name of 0 or over 255 bytes, or
  *                 lengths whose sum is not bytes_len
  *    2  0         the address is no multiple of 4,096, the arena has over 2^28 bytes, or their sum is over 2^63
+ *   24  0         after 2 and before 3, of the words of the types: there are not 64, a word has another kind or type than its place asks for, or
+ *                 a type is marked apply that cannot be applied
  *    3  a library an earlier library has the same name
  *    4  any       the file has under 64 bytes, is no ELF file, or is no shared object (e_type is not 3)
  *    5  any       not 64 bits, not little-endian, not x86-64, or e_phentsize is not 56
@@ -53,10 +55,11 @@ extern "C" {
  *   13  0         lugwormpin_query and lugwormpin_query_all only: the requester is no object of the set
  *   23  0         lugwormpin_query_all only, after 13: the last byte of the names is not zero, or the count of their zero bytes is not
  *                 addresses_len
- *   14  not 0     a relocation entry of type 1, 2, 5, 6, 7, 10, 11 or 24 has a symbol index at or above the symbol count, where that is known
+ *   14  not 0     an applied entry of type 1, 2, 5, 6, 7, 10, 11 or 24 has a symbol index at or above the symbol count, where that is known
  *   15  not 0     that symbol or its name is not in table bytes
- *   16  not 0     a relocation entry of type 37 (R_X86_64_IRELATIVE)
- *   17  not 0     what an entry writes is not inside one writable segment of its object, or a RELR bitmap has a bit set before any address
+ *   16  not 0     an entry of type 37 (R_X86_64_IRELATIVE), where that is marked refuse
+ *   25  not 0     an entry of another type that is marked refuse
+ *   17  not 0     what an applied entry writes is not inside one writable segment of its object, or a RELR bitmap has a bit set before any address
  *   18  not 0     the bytes that a COPY entry reads are at an absolute symbol, outside the object that defines it, or overlap what it writes
  *   19  not 0     the call is strict and an entry is undefined: the first such object in binding order
  *   20  0         the report is too short
@@ -65,10 +68,15 @@ extern "C" {
  *                 program DT_PREINIT_ARRAY) are not all inside the object: the first such object in binding order
  *   27  0         lugwormpin_start_stop only, after 26: a list is too short
  *
- * The first refusal in this order is answered: 4 to 12 and 21 object by object, 14 to 18 and 22 entry by entry in binding order. lugwormpin_bind
- * answers all but 13, 23, 26 and 27, lugwormpin_query 1 to 13 and 21, lugwormpin_query_all these and 23, lugwormpin_start_stop all but 13 and 23. */
+ * The first refusal in this order is answered: 4 to 12 and 21 object by object, 14 to 18, 22 and 25 entry by entry in binding order.
+ * lugwormpin_bind answers all but 13, 23, 26 and 27, lugwormpin_query 1 to 13 and 21, lugwormpin_query_all these and 23, lugwormpin_start_stop all
+ * but 13 and 23. */
 #define LUGWORMPIN_NUMBER(answer) ((uint32_t)(answer))
 #define LUGWORMPIN_OBJECT(answer) ((uint32_t)((answer) >> 32))
+
+/* Fills a slice with the supplied words of the types, those of the list in lugwormpin_bind's description: types_len is 64 for all of them.
+ * Words that do not fit are dropped, words past the 64th are 0. Edit a word to have its type done otherwise. */
+void lugwormpin_types(uint32_t *types, size_t types_len);
 
 /* Binds a set.
  *
@@ -81,12 +89,17 @@ extern "C" {
  *                     `address`: its first byte stands at such a page. Bytes between objects are 0; an added library moves no other
  * address             the address at which the arena will be mapped
  * strict              0: lenient, undefined entries are reported. Any other number: strict, they are refused (19)
+ * types, types_len    64 words, word t for the relocation entries of type t: 0x90000000 + t, apply; 0xA0000000 + t, pass over, with a word in the
+ *                     report (not for type 0); 0xB0000000 + t, refuse (16 for type 37, else 25). Types 1, 2, 5 to 8, 10, 11 and 24 may be
+ *                     applied. Types above 63 are passed over. Of entries that are not applied neither symbol nor place is looked at; RELR
+ *                     has no type, and is done whatever the words say. lugwormpin_types supplies: those nine apply, 37 refuse, all others
+ *                     pass
  * report, report_len  written: for each object in binding order 0x50000000 + its number, then for its entries 0x60000000 + entry number
  *                     (undefined) or 0x70000000 + entry number (of a type that is passed over), RELA from 0, PLT following; the rest 0
  *
  * Returns 0 where the set is bound, else the refusal; then arena and report are all 0. */
 uint64_t lugwormpin_bind(const uint32_t *sheet, size_t sheet_len, const uint8_t *bytes, size_t bytes_len, uint8_t *arena, size_t arena_len,
-                         uint64_t address, uint32_t strict, uint32_t *report, size_t report_len);
+                         uint64_t address, uint32_t strict, const uint32_t *types, size_t types_len, uint32_t *report, size_t report_len);
 
 /* The address of a name, as an object of the set would find it.
  *
@@ -127,7 +140,7 @@ uint64_t lugwormpin_query_all(const uint32_t *sheet, size_t sheet_len, const uin
  *
  * Returns 0 where the set is bound and listed, else the refusal; then arena, report, start, stop and counts are all 0. */
 uint64_t lugwormpin_start_stop(const uint32_t *sheet, size_t sheet_len, const uint8_t *bytes, size_t bytes_len, uint8_t *arena, size_t arena_len,
-                               uint64_t address, uint32_t strict, uint32_t *report, size_t report_len, uint64_t *start, size_t start_len,
+                               uint64_t address, uint32_t strict, const uint32_t *types, size_t types_len, uint32_t *report, size_t report_len, uint64_t *start, size_t start_len,
                                uint64_t *stop, size_t stop_len, uint64_t *counts, size_t counts_len);
 
 #ifdef __cplusplus

@@ -70,7 +70,10 @@ int main(int argc, char **argv)
         alarm(SECONDS);
         memset(arena, fill < 0 ? (int)(0xa5 + set) : fill, arena_len);
         memset(report, fill < 0 ? (int)(0x5a + set) : fill, 4 * report_len);
-        uint64_t answer = lugwormpin_bind(sheet, words, bytes, bytes_len, arena, arena_len, place[0], four[1], report, report_len);
+        uint32_t types[64];
+        lugwormpin_types(types, 64);
+        uint64_t answer =
+            lugwormpin_bind(sheet, words, bytes, bytes_len, arena, arena_len, place[0], four[1], types, 64, report, report_len);
         printf("%" PRIx64 " %" PRIx64 " %" PRIx64, answer, hash(arena, arena_len), hash(report, 4 * report_len));
         char *at = strchr(label, '|');
         while (at != NULL && *at != 0 && at[1] != 0) {

@@ -1,5 +1,5 @@
-"""What document 01's program must answer: its rules for whole sets, with document 02 (c), on top of the reader of object_cases.py. Knows
-nothing of the crates."""
+"""What document 01's program must answer: its rules for whole sets, with document 02 (a), (b), (c) and (f), on top of the reader of
+object_cases.py. Knows nothing of the crates."""
 from object_cases import M64, Object, Refused, headers, le, need
 
 ADDRESS, ARENA, WORDS, INPUT = 0x10000000, 32768, 1024, 65536
@@ -8,6 +8,19 @@ ADDRESS, ARENA, WORDS, INPUT = 0x10000000, 32768, 1024, 65536
 # The types of request (b), psABI "Relocation Types": bytes of the field, whether P is subtracted, and which sums it holds.
 ANY, UNSIGNED, SIGNED = (lambda v: True), (lambda v: v < 1 << 32), (lambda v: v < 1 << 31 or v >= M64 - (1 << 31))
 FIELDS = {1: (8, False, ANY), 24: (8, True, ANY), 2: (4, True, SIGNED), 10: (4, False, UNSIGNED), 11: (4, False, SIGNED)}
+
+
+# The words of request (f), as they are supplied; TYPES are those in use.
+APPLY, PASS, REFUSE = 9, 10, 11
+MAY_APPLY = (1, 2, 5, 6, 7, 8, 10, 11, 24)
+SUPPLIED = tuple((APPLY if t in MAY_APPLY else REFUSE if t == 37 else PASS) << 28 | t for t in range(64))
+TYPES = SUPPLIED
+
+
+def types_ok(types):
+    return len(types) == 64 and all(
+        w & 0xFFFFFFF == t and w >> 28 in (APPLY, PASS, REFUSE) and (w >> 28 != APPLY or t in MAY_APPLY) for t, w in enumerate(types)
+    )
 
 
 class Stop(Exception):
@@ -118,12 +131,14 @@ class Set:
 
     def entry(self, k, o, number, at):
         place, kind, s, addend = (o.u(at + i, w) for i, w in ((0, 8), (8, 4), (12, 4), (16, 8)))
-        need(kind != 37, 16)
+        mark = TYPES[kind] >> 28 if kind < 64 else PASS
+        need(mark != REFUSE, 16 if kind == 37 else 25)
+        if mark == PASS:
+            if kind:
+                self.report.append(7 << 28 | number)
+            return
         if kind == 8:
             self.write(k, place, ADDRESS + self.offsets[k] + addend)
-        if kind not in (0, 5, 6, 7, 8, *FIELDS):
-            self.report.append(7 << 28 | number)
-        if kind not in (5, 6, 7, *FIELDS):
             return
         need(o.count is None or s < o.count, 14)
         need(o.symbol_ok(s), 15)
@@ -173,16 +188,18 @@ class Set:
 
 
 class Expected:
-    """What the rules say of a call to bind at any address, in any arena, with any report and policy; of a query by ask()."""
+    """What the rules say of a call to bind at any address, in any arena, with any report, policy and words of the types; of a query by ask()."""
 
-    def __init__(self, data, address, arena, words, strict, limit=INPUT):
-        global ADDRESS, ARENA, WORDS, INPUT
-        ADDRESS, ARENA, WORDS, INPUT = address, arena, 1 << 32, limit
+    def __init__(self, data, address, arena, words, strict, limit=INPUT, types=SUPPLIED):
+        global ADDRESS, ARENA, WORDS, INPUT, TYPES
+        ADDRESS, ARENA, WORDS, INPUT, TYPES = address, arena, 1 << 32, limit, types
         self.address, self.loaded, self.relocated, self.refusal = address, None, None, None
         try:
             parts_of(data)
             if address % 4096 or arena > 1 << 28 or address + arena > 1 << 63:
                 raise Stop(2, 0)
+            if not types_ok(types):
+                raise Stop(24, 0)
             self.loaded = Set(data)
             self.placed = bytes(self.loaded.arena)
             self.loaded.relocate()

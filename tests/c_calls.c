@@ -6,9 +6,9 @@
 
 #include "lugwormpin.h"
 
-static uint32_t input[16384], report[1024];
+static uint32_t input[16384], report[1024], types[66];
 static uint8_t arena[32768];
-static size_t words, bytes_len;
+static size_t words, bytes_len, types_len = 64;
 static const uint8_t *bytes;
 
 static int zeros(const void *slice, size_t len)
@@ -49,7 +49,8 @@ static void bind(uint32_t strict, size_t report_len)
 {
     memset(arena, 0xff, sizeof arena);
     memset(report, 0xff, sizeof report);
-    uint64_t r = lugwormpin_bind(input + 1, words, bytes, bytes_len, arena, sizeof arena, 0x10000000, strict, report, report_len);
+    uint64_t r =
+        lugwormpin_bind(input + 1, words, bytes, bytes_len, arena, sizeof arena, 0x10000000, strict, types, types_len, report, report_len);
     printf("bind: %" PRIu32 " %" PRIu32 ", arena %s, report %s, next word %" PRIx32 "\n", LUGWORMPIN_NUMBER(r), LUGWORMPIN_OBJECT(r),
            zeros(arena, sizeof arena) ? "zeros" : "bound", zeros(report, report_len * 4) ? "zeros" : "words", report[report_len]);
 }
@@ -62,7 +63,7 @@ static void list(uint32_t strict, size_t start_len, size_t stop_len, size_t coun
     memset(start, 0xff, sizeof start);
     memset(stop, 0xff, sizeof stop);
     memset(counts, 0xff, sizeof counts);
-    uint64_t r = lugwormpin_start_stop(input + 1, words, bytes, bytes_len, arena, sizeof arena, 0x10000000, strict, report, 6, start, start_len, stop,
+    uint64_t r = lugwormpin_start_stop(input + 1, words, bytes, bytes_len, arena, sizeof arena, 0x10000000, strict, types, types_len, report, 6, start, start_len, stop,
                                        stop_len, counts, counts_len);
     printf("start_stop: %" PRIu32 " %" PRIu32 ", start %" PRIx64 " %" PRIx64 ", stop %" PRIx64 " %" PRIx64 ", counts %" PRIx64 " %" PRIx64 " %" PRIx64
            ", arena %s\n", LUGWORMPIN_NUMBER(r), LUGWORMPIN_OBJECT(r), start[0], start[1], stop[0], stop[1], counts[0], counts[1], counts[2],
@@ -79,6 +80,10 @@ int main(int argc, char **argv)
     words = input[0];
     bytes = (const uint8_t *)(input + 1 + words);
     bytes_len = size - 4 - 4 * words;
+    memset(types, 0xff, sizeof types);
+    lugwormpin_types(types, 66);
+    printf("types: %" PRIx32 " %" PRIx32 " %" PRIx32 " %" PRIx32 ", %" PRIx32 " %" PRIx32 "\n", types[0], types[1], types[37], types[63],
+           types[64], types[65]);
     ask(1, "a_call", 4);
     ask(3, "shared_var", 6);
     ask(0, "only_b", 2);
@@ -90,12 +95,22 @@ int main(int argc, char **argv)
     ask_all(1, "a_call", 7, 2);
     ask_all(1, "a_call", 6, 0);
     ask_all(4, "a_call", 6, 3);
-    bind(0, 6);
+    bind(0, 4);
     bind(0, 3);
-    bind(1, 6);
+    bind(1, 4);
     list(0, 1, 2, 2);
     list(0, 0, 0, 3);
     list(1, 2, 2, 1);
+    /* the words of the types: 63 of them, type 6 refused, type 6 passed over */
+    types_len = 63;
+    bind(0, 4);
+    types_len = 64;
+    types[6] = 0xb0000006;
+    bind(0, 4);
+    types[6] = 0xa0000006;
+    bind(0, 4);
+    bind(0, 12);
+    lugwormpin_types(types, 7);
     words -= 1;
     ask(1, "a_call", 4);
     ask_all(1, "a_call", 7, 1);

@@ -4,8 +4,9 @@ use std::ffi::c_void;
 extern "C" {
     fn lugwormpin_bind(
         sheet: *const u32, sheet_length: usize, bytes: *const u8, bytes_length: usize, arena: *mut u8, arena_length: usize, address: u64,
-        strict: u32, report: *mut u32, report_length: usize,
+        strict: u32, types: *const u32, types_length: usize, report: *mut u32, report_length: usize,
     ) -> u64;
+    fn lugwormpin_types(types: *mut u32, types_length: usize);
     fn lugwormpin_query(
         sheet: *const u32, sheet_length: usize, bytes: *const u8, bytes_length: usize, arena: *mut u8, arena_length: usize, address: u64,
         requester: u32, name: *const u8, name_length: usize, answer: *mut u64, answer_length: usize,
@@ -48,11 +49,14 @@ pub struct Found {
     pub address: u64,
 }
 
+/// Under the supplied words of the types, for which alone the Rust is the oracle.
 pub fn bind(set: &Set, arena: &mut [u8], report: &mut [u32]) -> Result<(), Refusal> {
+    let mut types = [0; 64];
     refusal(unsafe {
+        lugwormpin_types(types.as_mut_ptr(), types.len());
         lugwormpin_bind(
             set.sheet.as_ptr(), set.sheet.len(), set.bytes.as_ptr(), set.bytes.len(), arena.as_mut_ptr(), arena.len(), set.address,
-            set.strict as u32, report.as_mut_ptr(), report.len(),
+            set.strict as u32, types.as_ptr(), types.len(), report.as_mut_ptr(), report.len(),
         )
     })
 }

@@ -25,9 +25,10 @@ use Rattle.binder.specs.declared.Verdict.{Verdict}
 use Rattle.binder.specs.declared.Verdict.the-variants.{Passed, Refused}
 use Rattle.binder.specs.Report.{orderWords, firstUndefined}
 use Rattle.binder.specs.SetOrder.{setOrder}
-use Rattle.binder.specs.Bind.{filesOf, namesOf, objectsOf, unless, allows, prepareVerdict, relocateVerdict, refusedBind, outcomeOf, bindIn, bindSet, bindOf}
+use Rattle.binder.specs.Bind.{filesOf, namesOf, objectsOf, unless, allows, prepareVerdict, typesVerdict, relocateVerdict, refusedBind, outcomeOf, bindIn, bindSet, bindOf}
 use Rattle.binder.specs.Steps.Prepared.{Prepared}
 use Rattle.binder.specs.Steps.Finished.{endsBy, finishedOf, Relocated, BoundSet}
+use Rattle.binder.specs.Steps.Relocating.{rowAt}
 use Rattle.binder.specs.Steps.Needed.{Arranged}
 use Rattle.model.specs.Order.{OnceEach}
 use Rattle.binder.proofs.OrderIs.{order-is, names-length}
@@ -99,26 +100,26 @@ module _ (setting : Setting) (size : ℕ) (table : List ℕ) (hf pf : File) (fs 
   files = hf ∷ (pf ∷ fs)
 
   module _ (p : Progress) (a report : List ℕ) (ended : relocated.Ended setting size table hf pf fs order words p a report) where
-    ends : endsBy policy p ≡ relocateVerdict S files order policy words
+    ends : endsBy policy p ≡ relocateVerdict (setting .row) S files order policy words
     unfolding endsBy relocateVerdict
-    ends = go (orderVerdict S files order) refl
+    ends = go (orderVerdict (setting .row) S files order) refl
       where
-        go : (v : Verdict) → orderVerdict S files order ≡ v → endsBy policy p ≡ relocateVerdict S files order policy words
+        go : (v : Verdict) → orderVerdict (setting .row) S files order ≡ v → endsBy policy p ≡ relocateVerdict (setting .row) S files order policy words
         go Passed q =
             let g = ended .bound-is q .2 in
-            rw (ended .verdict-is, q, g .undefined, g .full, not-full (length (orderWords S files order)) words)
+            rw (ended .verdict-is, q, g .undefined, g .full, not-full (length (orderWords (setting .row) S files order)) words)
         go (Refused n k) q = rw (ended .verdict-is, q)
 
-    room : relocateVerdict S files order policy words ≡ Passed → (orderVerdict S files order ≡ Passed) × (length (orderWords S files order) ≤ words)
+    room : relocateVerdict (setting .row) S files order policy words ≡ Passed → (orderVerdict (setting .row) S files order ≡ Passed) × (length (orderWords (setting .row) S files order) ≤ words)
     unfolding relocateVerdict
     room e =
-        let a = first-passed (orderVerdict S files order) _ e in
-        let b = first-passed (unless (allows policy (firstUndefined S files order)) 19 (firstUndefined S files order)) _ (a .1) in
-        (a .0, leb-true _ _ (unless-passed (leb (length (orderWords S files order)) words) 20 0 (b .1)))
+        let a = first-passed (orderVerdict (setting .row) S files order) _ e in
+        let b = first-passed (unless (allows policy (firstUndefined (setting .row) S files order)) 19 (firstUndefined (setting .row) S files order)) _ (a .1) in
+        (a .0, leb-true _ _ (unless-passed (leb (length (orderWords (setting .row) S files order)) words) 20 0 (b .1)))
 
     pub relocated-set :
         (m : Verdict) → m ≡ endsBy policy p → finishedOf m a report
-        ≡ outcomeOf size words (relocateVerdict S files order policy words) (tab size (bound S order)) (orderWords S files order)
+        ≡ outcomeOf size words (relocateVerdict (setting .row) S files order policy words) (tab size (bound S order)) (orderWords (setting .row) S files order)
     relocated-set m e =
         finished-by size words m _ _ _ a report (e ∙ ends) (ended .lengths .0) (ended .lengths .1)
         (λ z.
@@ -142,7 +143,7 @@ bytes-of (o ∷ ls) (suc j) l = bytes-of ls j (omega arith)
 
 -- refusals 2 to 12
 pub prepare-refused :
-    (setting : Setting) (os : List Input) (size : ℕ) (policy : Policy) (words : ℕ) (m : Verdict) (a report : List ℕ) → m ≡ prepareVerdict setting os size
+    (setting : Setting) (os : List Input) (size : ℕ) (policy : Policy) (words : ℕ) (m : Verdict) (a report : List ℕ) → m ≡ prepareVerdict setting (typesVerdict setting) os size
     → (n k : ℕ) → m ≡ Refused n k → length a ≡ size → length report ≡ words → BoundSet setting os size policy words a report m
 unfolding bindSet bindIn
 prepare-refused setting os size policy words m a report e n k z la lr =
@@ -151,10 +152,11 @@ prepare-refused setting os size policy words m a report e n k z la lr =
 -- a set that was loaded
 module _
     (setting : Setting) (size : ℕ) (table : List ℕ) (h p : Input) (ls : List Input) (arena a : List ℕ) (r : Verdict) (len : length arena ≡ size)
-    (kept : length a ≡ length arena) (made : Prepared setting (h ∷ (p ∷ ls)) arena a table r) (z : r ≡ Passed)
+    (kept : length a ≡ length arena) (made : Prepared setting (typesVerdict setting) (h ∷ (p ∷ ls)) arena a table r) (z : r ≡ Passed)
+    (typed : (rtype : ℕ) → rowAt table rtype ≡ setting .row rtype)
   where
-    passed-it : Ready setting (h ∷ (p ∷ ls)) size
-    passed-it = subst (λ (n : ℕ). Ready setting (h ∷ (p ∷ ls)) n) len (passes setting (h ∷ (p ∷ ls)) arena a table r made z)
+    passed-it : Ready setting (typesVerdict setting) (h ∷ (p ∷ ls)) size
+    passed-it = subst (λ (n : ℕ). Ready setting (typesVerdict setting) (h ∷ (p ∷ ls)) n) len (passes setting (typesVerdict setting) (h ∷ (p ∷ ls)) arena a table r made z)
 
     abbrev fs : List File
     fs = map fileOf ls
@@ -187,6 +189,7 @@ module _
           links = made .table z;
           counted = made .counted z ∙ sym (many ∙ omega arith);
           addressed = made .addressed z;
+          typed = typed;
           end = passed-it .end;
           small = passed-it .small;
         }
@@ -211,7 +214,7 @@ module _
     pub bound-in :
         (policy : Policy) (words : ℕ) (order : List ℕ) → OnceEach (objects.count made-set) order → (report : List ℕ) → report ≡ replicate words 0
         → (a′ report′ : List ℕ) (m : Verdict) → Relocated (h ∷ (p ∷ ls)) table order a policy report a′ report′ m
-        → finishedOf m a′ report′ ≡ bindIn setting (prepareVerdict setting (h ∷ (p ∷ ls)) size) (filesOf (h ∷ (p ∷ ls))) order size policy words
+        → finishedOf m a′ report′ ≡ bindIn setting (prepareVerdict setting (typesVerdict setting) (h ∷ (p ∷ ls)) size) (filesOf (h ∷ (p ∷ ls))) order size policy words
     unfolding filesOf bindIn objectsOf
     bound-in policy words order once report zeros a′ report′ m g =
         let n : length a ≡ size = kept ∙ len in
@@ -230,24 +233,24 @@ module _
 -- whatever objects the table of parts names
 pub bind-is :
     (setting : Setting) (os : List Input) (count : ℕ) (arena a table : List ℕ) (r : Verdict) → 2 ≤ count → length os ≡ count → length a ≡ length arena
-    → Prepared setting os arena a table r → r ≡ Passed → (order : Order) → Arranged os count a table order
+    → Prepared setting (typesVerdict setting) os arena a table r → r ≡ Passed → ((rtype : ℕ) → rowAt table rtype ≡ setting .row rtype) → (order : Order) → Arranged os count a table order
     → (policy : Policy) (report : List ℕ) → report ≡ replicate (length report) 0
     → (a′ report′ : List ℕ) (m : Verdict) → Relocated os table (take (order .count) (order .list)) a policy report a′ report′ m
     → BoundSet setting os (length arena) policy (length report) a′ report′ m
 unfolding bindSet
-bind-is setting [] count arena a table r two many kept made z order o policy report zeros a′ report′ m g =
+bind-is setting [] count arena a table r two many kept made z typed order o policy report zeros a′ report′ m g =
     absurd (omega (arith, many))
-bind-is setting (h ∷ []) count arena a table r two many kept made z order o policy report zeros a′ report′ m g =
+bind-is setting (h ∷ []) count arena a table r two many kept made z typed order o policy report zeros a′ report′ m g =
     absurd (omega (arith, many))
-bind-is setting (h ∷ (p ∷ ls)) count arena a table r two many kept made z order o policy report zeros a′ report′ m g =
+bind-is setting (h ∷ (p ∷ ls)) count arena a table r two many kept made z typed order o policy report zeros a′ report′ m g =
     let c : count ≡ length ls + 2 = omega (arith, many) in
-    let same = ordered setting (length arena) table h p ls arena a r refl kept made z order
+    let same = ordered setting (length arena) table h p ls arena a r refl kept made z typed order
     (subst (λ (n : ℕ). Arranged (h ∷ (p ∷ ls)) n a table order) c o) in
-    bound-in setting (length arena) table h p ls arena a r refl kept made z policy (length report) (take (order .count) (order .list))
-    (in-order setting (length arena) table h p ls arena a r refl kept made z (take (order .count) (order .list)) same) report zeros a′ report′ m
+    bound-in setting (length arena) table h p ls arena a r refl kept made z typed policy (length report) (take (order .count) (order .list))
+    (in-order setting (length arena) table h p ls arena a r refl kept made z typed (take (order .count) (order .list)) same) report zeros a′ report′ m
     g
     ∙ ap
-    (λ (l : List ℕ). bindIn setting (prepareVerdict setting (h ∷ (p ∷ ls)) (length arena)) (filesOf (h ∷ (p ∷ ls))) l (length arena) policy (length report))
+    (λ (l : List ℕ). bindIn setting (prepareVerdict setting (typesVerdict setting) (h ∷ (p ∷ ls)) (length arena)) (filesOf (h ∷ (p ∷ ls))) l (length arena) policy (length report))
     same
 
 -- ---- the objects of a sheet

@@ -25,7 +25,7 @@ use Rattle.object.specs.HashCheck.{symbolOk}
 use Rattle.object.specs.Record.{Record, indexOk, isTableOf, checkedSymbol, nameOf}
 use Rattle.object.specs.declared.symbol.Symbol.{Symbol}
 use Rattle.object.specs.declared.relocate.Rela.{Rela}
-use Rattle.object.specs.RelocationTypes.{Calculation, Row, noSearch, inScope, ignored, passedOver, turnedAway, copies, writes}
+use Rattle.object.specs.RelocationTypes.{Calculation, Row, noSearch, inScope, ignored, passedOver, turnedAway, markedRefuse, copies, writes}
 use Rattle.object.specs.declared.entry_symbol.CheckedSymbol.{CheckedSymbol}
 use Rattle.object.specs.declared.entry_symbol.CheckedSymbol.the-variants.{Refused, Checked}
 use Rattle.object.specs.declared.hash_tables.Definition.{Definition}
@@ -578,6 +578,7 @@ module _ (setting : Setting) (size : ℕ) (table : List ℕ) (h pr : File) (fs :
             (rw (earlier-none u) (word-going ws u n p report (d .going) 7 i (omega arith))) (note-kept (reportSum 7 i) p report)
             (d .written) (d .memory)
         entry-by turnedAway = stopped 16 _ (λ e. omega arith)
+        entry-by markedRefuse = stopped 25 _ (λ e. omega arith)
         entry-by (writes noSearch f) =
             subst
             (λ (base : ℕ).

@@ -36,7 +36,7 @@ use Rattle.object.specs.Loaded.{objectRecord}
 use Rattle.object.specs.Loaded as loading
 use Rattle.object.specs.declared.symbol.Symbol.{Symbol}
 use Rattle.object.specs.declared.relocate.Rela.{Rela}
-use Rattle.object.specs.RelocationTypes.{Calculation, Row, noSearch, inScope, ignored, passedOver, turnedAway, copies, writes, rowOf}
+use Rattle.object.specs.RelocationTypes.{Calculation, Row, noSearch, inScope, ignored, passedOver, turnedAway, markedRefuse, copies, writes}
 use Rattle.object.specs.declared.entry_symbol.CheckedSymbol.the-variants.{Refused, Checked}
 use Rattle.object.specs.declared.program_header.Segment.{Segment}
 use Rattle.object.specs.declared.program_header.Dynamic.{Dynamic}
@@ -111,7 +111,7 @@ name-is image r index =
     let z : r .symbols + 24 * index + 0 ≡ r .symbols + 24 * index = omega arith in
     ap (λ (at : ℕ). nameAt image (r .strings + leAt 4 (mem image) at)) z
 
-module _ (S : Objs) (k : ℕ) (image : List ℕ) (r : Record) (base : ℕ)
+module _ (row : ℕ → Row) (S : Objs) (k : ℕ) (image : List ℕ) (r : Record) (base : ℕ)
     (inner : (p n : ℕ) → inWritable (r .segments) p n ≡ true → p + n ≤ (obj S k) .span) where
   written : (e : Rela) (f : Calculation) (s : ℕ) → fieldRefusal ((obj S k) .base) r e f s ≡ 0 → e .place + f .width ≤ (obj S k) .span
   written e f s z = inner (e .place) (f .width) (required (inWritable (r .segments) (e .place) (f .width)) 16 _ z .0)
@@ -140,6 +140,7 @@ module _ (S : Objs) (k : ℕ) (image : List ℕ) (r : Record) (base : ℕ)
   entry-inside e ignored z = tt
   entry-inside e passedOver z = tt
   entry-inside e turnedAway z = tt
+  entry-inside e markedRefuse z = tt
   entry-inside e (writes noSearch f) z = written e f 0 z
   entry-inside e (writes (inScope searched) f) z = go (searched (e .symbol))
     where
@@ -163,14 +164,14 @@ module _ (S : Objs) (k : ℕ) (image : List ℕ) (r : Record) (base : ℕ)
       (checked-then (e .symbol) (λ y. copyRefusal S k r (e .place) (y .size) found) z)
 
   pub entries-inside :
-      (es : List Rela) → entriesVerdict S k image r es ≡ Passed → (x : Entry) → List·Memᴰ x (map (entryOf image r base) es)
+      (es : List Rela) → entriesVerdict row S k image r es ≡ Passed → (x : Entry) → List·Memᴰ x (map (entryOf row image r base) es)
       → Inside S k x
   unfolding entriesVerdict
   entries-inside [] v x m = absurd (List·Memᴰ·not-nil m)
   entries-inside (e ∷ es) v x m =
-      let a = first-passed (verdict (entryRefusal S k image r e) k) (entriesVerdict S k image r es) v in
+      let a = first-passed (verdict (entryRefusal row S k image r e) k) (entriesVerdict row S k image r es) v in
       ⊎-elim
-      (λ (t : x ≡ entryOf image r base e).
-      subst (λ (y : Entry). Inside S k y) (sym t) (entry-inside e (rowOf (e .rtype)) (verdict-passed (entryRefusal S k image r e) k (a .0))))
-      (λ (t : List·Memᴰ x (map (entryOf image r base) es)). entries-inside es (a .1) x t)
+      (λ (t : x ≡ entryOf row image r base e).
+      subst (λ (y : Entry). Inside S k y) (sym t) (entry-inside e (row (e .rtype)) (verdict-passed (entryRefusal row S k image r e) k (a .0))))
+      (λ (t : List·Memᴰ x (map (entryOf row image r base) es)). entries-inside es (a .1) x t)
       (List·Memᴰ·cases-cons m)

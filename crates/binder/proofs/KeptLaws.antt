@@ -18,7 +18,7 @@ use Rattle.object.proofs.FineLaws.{fine-same}
 use Rattle.object.specs.declared.symbol.Symbol.{Symbol}
 use Rattle.object.specs.declared.hash_tables.Definition.{Definition}
 use Rattle.object.specs.declared.relocate.Rela.{Rela}
-use Rattle.object.specs.RelocationTypes.{Calculation, Row, noSearch, inScope, ignored, passedOver, turnedAway, copies, writes}
+use Rattle.object.specs.RelocationTypes.{Calculation, Row, noSearch, inScope, ignored, passedOver, turnedAway, markedRefuse, copies, writes}
 use Rattle.object.specs.declared.entry_symbol.CheckedSymbol.{CheckedSymbol}
 use Rattle.object.specs.declared.entry_symbol.CheckedSymbol.the-variants.{Refused, Checked}
 use Rattle.scope.specs.Steps.Links.{linkAt}
@@ -167,6 +167,7 @@ module _ (t : Turn) (r : Record) where
     entry-keeps ignored = kept-none a
     entry-keeps passedOver = noted-keeps a a (noteOf (reportSum 7 i) p report) (kept-none a)
     entry-keeps turnedAway = kept-none a
+    entry-keeps markedRefuse = kept-none a
     entry-keeps (writes noSearch f) = fixed-keeps f
     entry-keeps (writes (inScope searched) f) = symbolic-keeps f searched (checkedSymbol (imageIn a t) r (e .symbol))
     entry-keeps copies = copying-keeps (checkedSymbol (imageIn a t) r (e .symbol))

@@ -35,3 +35,5 @@ pub mod SymbolicLaws
 pub mod BitLaws
 pub mod BindIs
 pub mod LoadsSame
+pub mod TypesLaws
+pub mod TypeWords

@@ -62,22 +62,22 @@ module _ (setting : Setting) (size : ℕ) (table : List ℕ) (h pr : File) (fs :
   unfolding objectAt
   base-is = ap (λ (o : Obj). o .base) is
 
-  entries-are : (obj S k) .entries ≡ map (entryOf image r ((obj S k) .base)) (relasOf image r)
+  entries-are : (obj S k) .entries ≡ map (entryOf (setting .row) image r ((obj S k) .base)) (relasOf image r)
   unfolding objectAt
   entries-are =
       ap (λ (o : Obj). o .entries) is
-      ∙ (ap (λ (b : Bool). pick b [] (map (entryOf image r (address + (obj S k) .offset)) (relasOf image r))) (L .others k lo hi)
-      ∙ ap (λ (b : ℕ). map (entryOf image r b) (relasOf image r)) (sym base-is))
+      ∙ (ap (λ (b : Bool). pick b [] (map (entryOf (setting .row) image r (address + (obj S k) .offset)) (relasOf image r))) (L .others k lo hi)
+      ∙ ap (λ (b : ℕ). map (entryOf (setting .row) image r b) (relasOf image r)) (sym base-is))
 
   relocate-is :
       (m : Mem)
-      → effects S k (map (entryOf image r ((obj S k) .base)) (relasOf image r)) (addWords (obj S k) (placesOf (namedWords image r)) m) ≡ relocate S k m
+      → effects S k (map (entryOf (setting .row) image r ((obj S k) .base)) (relasOf image r)) (addWords (obj S k) (placesOf (namedWords image r)) m) ≡ relocate S k m
   unfolding relocate
   relocate-is m =
       sym
       (ap (λ (es : List Entry). effects S k es (addWords (obj S k) ((obj S k) .words) m)) entries-are
       ∙ ap
-      (λ (ps : List ℕ). effects S k (map (entryOf image r ((obj S k) .base)) (relasOf image r)) (addWords (obj S k) ps m))
+      (λ (ps : List ℕ). effects S k (map (entryOf (setting .row) image r ((obj S k) .base)) (relasOf image r)) (addWords (obj S k) ps m))
       words-are)
 
   -- ---- its turn
@@ -86,7 +86,7 @@ module _ (setting : Setting) (size : ℕ) (table : List ℕ) (h pr : File) (fs :
     -- what its turn leaves
     abbrev pub Turned : Progress → List ℕ → List ℕ → Type 0
     Turned =
-        Doing setting size table h pr fs L k lo hi n a (ws ++ objectWords S k f) (earlier u (pick (hasUndefined S k f) k 0))
+        Doing setting size table h pr fs L k lo hi n a (ws ++ objectWords (setting .row) S k f) (earlier u (pick (hasUndefined (setting .row) S k f) k 0))
         (relocate S k (mem a))
 
     entered-turned :
@@ -96,22 +96,22 @@ module _ (setting : Setting) (size : ℕ) (table : List ℕ) (h pr : File) (fs :
         → Turned p′ a′ report′
     unfolding objectWords hasUndefined
     entered-turned p′ a′ report′ d =
-        rw (← relocate-is (mem a), ← append-assoc ws (reportWord 5 k ∷ []) (entryReport S k image r 0 (relasOf image r))) d
+        rw (← relocate-is (mem a), ← append-assoc ws (reportWord 5 k ∷ []) (entryReport (setting .row) S k image r 0 (relasOf image r))) d
 
     after-relr :
         (z : ℕ) (b : List ℕ) (q : Noted) → RelrEnded setting size table h pr fs k z a b → NotedGoing (ws ++ (reportWord 5 k ∷ [])) u n q
-        → KeptAs 0 0 q → Ran size n (objectVerdict S k f) Turned (thenTables table t r (summed z b) q)
+        → KeptAs 0 0 q → Ran size n (objectVerdict (setting .row) S k f) Turned (thenTables table t r (summed z b) q)
     unfolding objectVerdict
     after-relr z b (noted p′ report′) w g′ none =
         subst
         (λ (v : Verdict).
-        Ran size n (first v (entriesVerdict S k image r (relasOf image r))) Turned
+        Ran size n (first v (entriesVerdict (setting .row) S k image r (relasOf image r))) Turned
         (thenTables table t r (summed z b) (noted p′ report′)))
         (w .verdict-is)
         (⊎-elim
         (λ (c : eqb z 0 ≡ true).
         rw (c, verdict-none z k (eqb-true z 0 c))
-        (ran-weaker size n (entriesVerdict S k image r (relasOf image r))
+        (ran-weaker size n (entriesVerdict (setting .row) S k image r (relasOf image r))
         (Entered setting size table h pr fs L k lo hi n a (ws ++ (reportWord 5 k ∷ [])) u (addWords (obj S k) (placesOf (namedWords image r)) (mem a))
         0 (relasOf image r))
         Turned entered-turned (runTables table t r (left p′ b report′))
@@ -124,20 +124,20 @@ module _ (setting : Setting) (size : ℕ) (table : List ℕ) (h pr : File) (fs :
           kept = none-kept setting size table h pr fs L k lo hi n a p′ (none .0);
         })))
         (λ (c : eqb z 0 ≡ false).
-        rw (c, first-met z k (entriesVerdict S k image r (relasOf image r)) (eqb-false z 0 c))
+        rw (c, first-met z k (entriesVerdict (setting .row) S k image r (relasOf image r)) (eqb-false z 0 c))
         (ran-refused size n z k Turned (refusedBy t z p′) b report′ (eqb-false z 0 c) refl refl (w .length-is)
         (going-length (ws ++ (reportWord 5 k ∷ [])) u n p′ report′ g′)))
         (decide (eqb z 0)))
 
     pub object-ran :
-        5 * 2 ^ 28 + k < 2 ^ 32 → Ran size n (objectVerdict S k f) Turned (runObject table t r p a report)
+        5 * 2 ^ 28 + k < 2 ^ 32 → Ran size n (objectVerdict (setting .row) S k f) Turned (runObject table t r p a report)
     unfolding runObject
     object-ran small =
         go (runRelrs t r a) refl
       where
         go :
             (x : Summed) → x ≡ runRelrs t r a
-            → Ran size n (objectVerdict S k f) Turned (thenTables table t r x (noteOf (reportSum 5 k) (keeps 0 0 p) report))
+            → Ran size n (objectVerdict (setting .row) S k f) Turned (thenTables table t r x (noteOf (reportSum 5 k) (keeps 0 0 p) report))
         go (summed z b) e =
             after-relr z b (noteOf (reportSum 5 k) (keeps 0 0 p) report) (relr-is setting size table h pr fs L k lo hi a s z b e)
             (word-going ws u n (keeps 0 0 p) report (keeps-going ws u n 0 0 p report g) 5 k small) (note-kept (reportSum 5 k) (keeps 0 0 p) report)
@@ -145,7 +145,7 @@ module _ (setting : Setting) (size : ℕ) (table : List ℕ) (h pr : File) (fs :
     -- with the record that is read again
     pub turn-ran :
         5 * 2 ^ 28 + k < 2 ^ 32 → PlacedAt setting size table h pr fs a k
-        → Ran size n (objectVerdict S k f) Turned (runAt table k (f .bytes) p a report)
+        → Ran size n (objectVerdict (setting .row) S k f) Turned (runAt table k (f .bytes) p a report)
     unfolding runAt
     turn-ran small placed =
         let x = again setting size table h pr fs L a k lo hi placed in

@@ -23,7 +23,7 @@ use Rattle.binder.specs.declared.Verdict.the-variants.{Passed, Refused}
 use Rattle.binder.specs.Steps.Prepared.{loadFrom}
 use Rattle.binder.specs.Report.{orderWords}
 use Rattle.binder.specs.SetOrder.{setOrder}
-use Rattle.binder.specs.Bind.{filesOf, namesOf, objectsOf, unless, prepareVerdict, relocateVerdict, outcome, refusedBind, outcomeOf, bindIn, bindSet, bindOf, replyOf, refusedQuery, repliedOf, askSet, queryOf}
+use Rattle.binder.specs.Bind.{filesOf, namesOf, objectsOf, unless, prepareVerdict, typesVerdict, relocateVerdict, outcome, refusedBind, outcomeOf, bindIn, bindSet, bindOf, replyOf, refusedQuery, repliedOf, askSet, queryOf}
 use Rattle.binder.proofs.LoadsSame.{loads-same}
 
 -- ---- verdicts that passed
@@ -66,14 +66,14 @@ objectsIn setting os = objectsOf setting (filesOf os)
 
 -- ---- the answers for a sheet, by one verdict
 
--- 1 to 12 of a sheet and its bytes
-abbrev pub sheetVerdict : Setting → List ℕ → List ℕ → ℕ → Verdict
-sheetVerdict setting sheet bytes size = first (unless (sheetOk sheet (length bytes)) 1 0) (prepareVerdict setting (setOf sheet bytes) size)
+-- 1 to 12, 21 and 24 of a sheet and its bytes
+abbrev pub sheetVerdict : Setting → Verdict → List ℕ → List ℕ → ℕ → Verdict
+sheetVerdict setting types sheet bytes size = first (unless (sheetOk sheet (length bytes)) 1 0) (prepareVerdict setting types (setOf sheet bytes) size)
 
 pub bind-one :
     (setting : Setting) (sheet bytes : List ℕ) (size : ℕ) (policy : Policy) (words : ℕ)
     → bindOf setting sheet bytes size policy words
-    ≡ bindIn setting (sheetVerdict setting sheet bytes size) (filesOf (setOf sheet bytes)) (orderIn (setOf sheet bytes)) size policy words
+    ≡ bindIn setting (sheetVerdict setting (typesVerdict setting) sheet bytes size) (filesOf (setOf sheet bytes)) (orderIn (setOf sheet bytes)) size policy words
 unfolding bindOf bindSet bindIn outcomeOf unless
 bind-one setting sheet bytes size policy words = go (sheetOk sheet (length bytes))
   where
@@ -82,14 +82,14 @@ bind-one setting sheet bytes size policy words = go (sheetOk sheet (length bytes
 
     go :
         (t : Bool) → pick t (bindSet setting os size policy words) (refusedBind size words 1 0)
-        ≡ bindIn setting (first (unless t 1 0) (prepareVerdict setting os size)) (filesOf os) (orderIn os) size policy words
+        ≡ bindIn setting (first (unless t 1 0) (prepareVerdict setting (typesVerdict setting) os size)) (filesOf os) (orderIn os) size policy words
     go true = refl
     go false = refl
 
 pub query-one :
     (setting : Setting) (sheet bytes : List ℕ) (size requester : ℕ) (name : List ℕ)
     → queryOf setting sheet bytes size requester name
-    ≡ repliedOf size (first (sheetVerdict setting sheet bytes size) (unless (ltb requester (length (setOf sheet bytes))) 13 0))
+    ≡ repliedOf size (first (sheetVerdict setting Passed sheet bytes size) (unless (ltb requester (length (setOf sheet bytes))) 13 0))
     (replyOf (resolve (objectsIn setting (setOf sheet bytes)) requester (byName name))) (tab size (placed (objectsIn setting (setOf sheet bytes))))
 unfolding queryOf askSet repliedOf unless
 query-one setting sheet bytes size requester name = go (sheetOk sheet (length bytes))
@@ -99,7 +99,7 @@ query-one setting sheet bytes size requester name = go (sheetOk sheet (length by
 
     go :
         (t : Bool) → pick t (askSet setting os size requester name) (refusedQuery size 1 0)
-        ≡ repliedOf size (first (first (unless t 1 0) (prepareVerdict setting os size)) (unless (ltb requester (length os)) 13 0))
+        ≡ repliedOf size (first (first (unless t 1 0) (prepareVerdict setting Passed os size)) (unless (ltb requester (length os)) 13 0))
         (replyOf (resolve (objectsIn setting os) requester (byName name))) (tab size (placed (objectsIn setting os)))
     go true = refl
     go false = refl
@@ -109,14 +109,15 @@ query-one setting sheet bytes size requester name = go (sheetOk sheet (length by
 pub record AllPassed (setting : Setting) (sheet bytes : List ℕ) (size words : ℕ) (arena report : List ℕ) : Type 0 where
   pub sheet-ok : sheetOk sheet (length bytes) ≡ true
   pub arena-ok : arenaOk size (setting .address) ≡ true
+  pub typed-ok : setting .typed ≡ true
   pub no-duplicate : duplicateOf (setOf sheet bytes) ≡ 0
   pub loads : loadFrom setting size 0 0 (filesOf (setOf sheet bytes)) ≡ Passed
-  pub relocates : orderVerdict (objectsIn setting (setOf sheet bytes)) (filesOf (setOf sheet bytes)) (orderIn (setOf sheet bytes)) ≡ Passed
+  pub relocates : orderVerdict (setting .row) (objectsIn setting (setOf sheet bytes)) (filesOf (setOf sheet bytes)) (orderIn (setOf sheet bytes)) ≡ Passed
   pub arena-is : arena ≡ tab size (bound (objectsIn setting (setOf sheet bytes)) (orderIn (setOf sheet bytes)))
   pub report-is :
       report
-      ≡ orderWords (objectsIn setting (setOf sheet bytes)) (filesOf (setOf sheet bytes)) (orderIn (setOf sheet bytes))
-      ++ replicate (words - length (orderWords (objectsIn setting (setOf sheet bytes)) (filesOf (setOf sheet bytes)) (orderIn (setOf sheet bytes)))) 0
+      ≡ orderWords (setting .row) (objectsIn setting (setOf sheet bytes)) (filesOf (setOf sheet bytes)) (orderIn (setOf sheet bytes))
+      ++ replicate (words - length (orderWords (setting .row) (objectsIn setting (setOf sheet bytes)) (filesOf (setOf sheet bytes)) (orderIn (setOf sheet bytes)))) 0
 
 pub bound-passed :
     (setting : Setting) (sheet bytes : List ℕ) (size : ℕ) (policy : Policy) (words : ℕ) (arena report : List ℕ)
@@ -127,14 +128,16 @@ bound-passed setting sheet bytes size policy words arena report e =
     let os : List Input = setOf sheet bytes in
     let S : Objs = objectsIn setting os in
     let o = bound-outcome size words _ _ _ arena report (sym (bind-one setting sheet bytes size policy words) ∙ e) in
-    let p = first-passed (sheetVerdict setting sheet bytes size) (relocateVerdict S (filesOf os) (orderIn os) policy words) (o .0) in
+    let p = first-passed (sheetVerdict setting (typesVerdict setting) sheet bytes size) (relocateVerdict (setting .row) S (filesOf os) (orderIn os) policy words) (o .0) in
     let a = first-passed (unless (sheetOk sheet (length bytes)) 1 0) _ (p .0) in
     let b = first-passed (unless (arenaOk size (setting .address)) 2 0) _ (a .1) in
-    let c = first-passed (unless (eqb (duplicateOf os) 0) 3 (duplicateOf os)) (loadVerdict S size 0 (filesOf os)) (b .1) in
-    let d = first-passed (orderVerdict S (filesOf os) (orderIn os)) _ (p .1) in
+    let y = first-passed (typesVerdict setting) _ (b .1) in
+    let c = first-passed (unless (eqb (duplicateOf os) 0) 3 (duplicateOf os)) (loadVerdict S size 0 (filesOf os)) (y .1) in
+    let d = first-passed (orderVerdict (setting .row) S (filesOf os) (orderIn os)) _ (p .1) in
     record {
       sheet-ok = unless-passed (sheetOk sheet (length bytes)) 1 0 (a .0);
       arena-ok = unless-passed (arenaOk size (setting .address)) 2 0 (b .0);
+      typed-ok = unless-passed (setting .typed) 24 0 (y .0);
       no-duplicate = eqb-true (duplicateOf os) 0 (unless-passed (eqb (duplicateOf os) 0) 3 (duplicateOf os) (c .0));
       loads = sym (loads-same setting size (filesOf os)) ∙ c .1;
       relocates = d .0;

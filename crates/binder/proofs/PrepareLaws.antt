@@ -334,7 +334,7 @@ arena-bounds size address e =
     (leb-true size (2 ^ 28) (q .0), leb-true (address + size) (2 ^ 63) (q .1))
 
 -- a table with the same links
-linked-same :
+pub linked-same :
     (setting : Setting) (t t′ : List ℕ) (k off : ℕ) (fs : List File) → ((j : ℕ) → j < k + length fs → linkAt t′ j ≡ linkAt t j)
     → Linked setting t k off fs → Linked setting t′ k off fs
 unfolding Linked
@@ -344,10 +344,10 @@ linked-same setting t t′ k off (f ∷ fs) same s = (
   linked-same setting t t′ (k + 1) (offsetOf setting f off + objectSpan (f .host) (f .bytes)) fs (λ j l. same j (omega arith)) (s .1),
 )
 
-module _ (setting : Setting) (os : List Input) (arena : List ℕ) where
+module _ (setting : Setting) (types : Verdict) (os : List Input) (arena : List ℕ) where
   -- a refusal before anything is loaded
   refuses :
-      (n k : ℕ) → prepareVerdict setting os (length arena) ≡ Refused n k → (arena′ table : List ℕ) → Prepared setting os arena arena′ table (Refused n k)
+      (n k : ℕ) → prepareVerdict setting types os (length arena) ≡ Refused n k → (arena′ table : List ℕ) → Prepared setting types os arena arena′ table (Refused n k)
   refuses n k e arena′ table =
       record {
         met = sym e;
@@ -359,56 +359,66 @@ module _ (setting : Setting) (os : List Input) (arena : List ℕ) where
       }
 
   pub prepare-two :
-      arenaOk (length arena) (setting .address) ≡ false → (arena′ table : List ℕ) → Prepared setting os arena arena′ table (Refused 2 0)
+      arenaOk (length arena) (setting .address) ≡ false → (arena′ table : List ℕ) → Prepared setting types os arena arena′ table (Refused 2 0)
   unfolding prepareVerdict unless
   prepare-two e = refuses 2 0 (rw e)
 
   module _ (ok : arenaOk (length arena) (setting .address) ≡ true) where
-    pub prepare-three : (t : ℕ) → t ≡ duplicateOf os → (t ≡ 0 → ⊥) → (arena′ table : List ℕ) → Prepared setting os arena arena′ table (Refused 3 t)
+    -- what is met between 2 and 3
+    pub prepare-types : (n k : ℕ) → types ≡ Refused n k → (arena′ table : List ℕ) → Prepared setting types os arena arena′ table types
     unfolding prepareVerdict unless
-    prepare-three t e ne = refuses 3 t (rw (ok, ← e, ne-eqb t 0 ne))
+    prepare-types n k e arena′ table =
+        subst (λ (v : Verdict). Prepared setting types os arena arena′ table v) (sym e) (refuses n k (rw (ok, e)) arena′ table)
 
-    -- the table `t` with the set's count and the setting is `t′`
-    pub prepare-loads :
-        duplicateOf os ≡ 0 → (arena′ t t′ : List ℕ) (r : Verdict) → LoadedFiles setting (filesOf os) arena arena′ t r → length os ≤ 64
-        → countIn t′ ≡ length os → addressIn t′ ≡ setting .address → ((k : ℕ) → k < 64 → linkAt t′ k ≡ linkAt t k)
-        → (FilteredBelow t (length os) → Filtered t′)
-        → Prepared setting os arena arena′ t′ r
-    unfolding prepareVerdict unless
-    prepare-loads none arena′ t t′ r h few count-is address-is same filters =
-        record {
-          met = h .met ∙ (sym (loads-same setting (length arena) (filesOf os)) ∙ rw (ok, eq-eqb (duplicateOf os) 0 none));
-          arena = h .arena;
-          table = λ z. linked-same setting t t′ 0 0 (filesOf os) (λ k l. same k (omega (arith, files-length os))) (h .table z);
-          filtered = λ z. filters (λ k l. h .filtered z k (omega (arith, files-length os)));
-          counted = λ z. count-is;
-          addressed = λ z. address-is;
-        }
+    module _ (pass : types ≡ Passed) where
+      pub prepare-three : (t : ℕ) → t ≡ duplicateOf os → (t ≡ 0 → ⊥) → (arena′ table : List ℕ) → Prepared setting types os arena arena′ table (Refused 3 t)
+      unfolding prepareVerdict unless
+      prepare-three t e ne = refuses 3 t (rw (ok, pass, ← e, ne-eqb t 0 ne))
+
+      -- the table `t` with the set's count and the setting is `t′`
+      pub prepare-loads :
+          duplicateOf os ≡ 0 → (arena′ t t′ : List ℕ) (r : Verdict) → LoadedFiles setting (filesOf os) arena arena′ t r → length os ≤ 64
+          → countIn t′ ≡ length os → addressIn t′ ≡ setting .address → ((k : ℕ) → k < 64 → linkAt t′ k ≡ linkAt t k)
+          → (FilteredBelow t (length os) → Filtered t′)
+          → Prepared setting types os arena arena′ t′ r
+      unfolding prepareVerdict unless
+      prepare-loads none arena′ t t′ r h few count-is address-is same filters =
+          record {
+            met = h .met ∙ (sym (loads-same setting (length arena) (filesOf os)) ∙ rw (ok, pass, eq-eqb (duplicateOf os) 0 none));
+            arena = h .arena;
+            table = λ z. linked-same setting t t′ 0 0 (filesOf os) (λ k l. same k (omega (arith, files-length os))) (h .table z);
+            filtered = λ z. filters (λ k l. h .filtered z k (omega (arith, files-length os)));
+            counted = λ z. count-is;
+            addressed = λ z. address-is;
+          }
 
 -- a set that passed
-pub record Ready (setting : Setting) (os : List Input) (size : ℕ) : Type 0 where
-  pub verdict-is : prepareVerdict setting os size ≡ Passed
+pub record Ready (setting : Setting) (types : Verdict) (os : List Input) (size : ℕ) : Type 0 where
+  pub verdict-is : prepareVerdict setting types os size ≡ Passed
+  pub typed : types ≡ Passed
   pub loads : loadFrom setting size 0 0 (filesOf os) ≡ Passed
   pub end : setting .address + size ≤ 2 ^ 63
   pub small : size ≤ 2 ^ 28
 
-pub ready : (setting : Setting) (os : List Input) (size : ℕ) → prepareVerdict setting os size ≡ Passed → Ready setting os size
+pub ready : (setting : Setting) (types : Verdict) (os : List Input) (size : ℕ) → prepareVerdict setting types os size ≡ Passed → Ready setting types os size
 unfolding prepareVerdict
-ready setting os size e =
+ready setting types os size e =
     let b = first-passed (unless (arenaOk size (setting .address)) 2 0) _ e in
-    let c = first-passed (unless (eqb (duplicateOf os) 0) 3 (duplicateOf os)) (loadVerdict (objectsOf setting (filesOf os)) size 0 (filesOf os)) (b .1) in
+    let y = first-passed types _ (b .1) in
+    let c = first-passed (unless (eqb (duplicateOf os) 0) 3 (duplicateOf os)) (loadVerdict (objectsOf setting (filesOf os)) size 0 (filesOf os)) (y .1) in
     let p = arena-bounds size (setting .address) (unless-passed (arenaOk size (setting .address)) 2 0 (b .0)) in
     record {
       verdict-is = e;
+      typed = y .0;
       loads = sym (loads-same setting size (filesOf os)) ∙ c .1;
       end = p .1;
       small = p .0;
     }
 
 pub passes :
-    (setting : Setting) (os : List Input) (arena arena′ table : List ℕ) (r : Verdict) → Prepared setting os arena arena′ table r → r ≡ Passed
-    → Ready setting os (length arena)
-passes setting os arena arena′ table r made z = ready setting os (length arena) (sym (made .met) ∙ z)
+    (setting : Setting) (types : Verdict) (os : List Input) (arena arena′ table : List ℕ) (r : Verdict) → Prepared setting types os arena arena′ table r → r ≡ Passed
+    → Ready setting types os (length arena)
+passes setting types os arena arena′ table r made z = ready setting types os (length arena) (sym (made .met) ∙ z)
 
 -- a table of parts names as many objects as it counts
 pub many-parts : {sheet : List ℕ} {n : ℕ} {p : Parts} → Tabled sheet n p → (bytes : List ℕ) → length (inputsIn bytes p) ≡ p .count

@@ -34,25 +34,25 @@ use Rattle.binder.proofs.QueryIs.{LoadedFor, loaded-for}
 
 module _ (setting : Setting) (os : List Input) (size requester : ℕ) (list : List ℕ) (words : ℕ) where
   pub all-refused :
-      (r : Verdict) → r ≡ prepareVerdict setting os size → (n k : ℕ) → r ≡ Refused n k
+      (r : Verdict) → r ≡ prepareVerdict setting Passed os size → (n k : ℕ) → r ≡ Refused n k
       → askAllSet setting os size requester list words ≡ refusedAll size words n k
   unfolding askAllSet repliedAllOf
   all-refused r e n k z = rw (sym e ∙ z)
 
   pub all-thirteen :
-      (r : Verdict) → r ≡ prepareVerdict setting os size → r ≡ Passed → length os ≤ requester
+      (r : Verdict) → r ≡ prepareVerdict setting Passed os size → r ≡ Passed → length os ≤ requester
       → askAllSet setting os size requester list words ≡ refusedAll size words 13 0
   unfolding askAllSet repliedAllOf unless
   all-thirteen r e z l = rw (sym e ∙ z, le-ltb requester (length os) l)
 
   pub all-list :
-      (r : Verdict) → r ≡ prepareVerdict setting os size → r ≡ Passed → requester < length os → listOk list words ≡ false
+      (r : Verdict) → r ≡ prepareVerdict setting Passed os size → r ≡ Passed → requester < length os → listOk list words ≡ false
       → askAllSet setting os size requester list words ≡ refusedAll size words 23 0
   unfolding askAllSet repliedAllOf unless
   all-list r e z l bad = rw (sym e ∙ z, lt-ltb requester (length os) l, bad)
 
   pub all-found :
-      (r : Verdict) → r ≡ prepareVerdict setting os size → r ≡ Passed → requester < length os → listOk list words ≡ true
+      (r : Verdict) → r ≡ prepareVerdict setting Passed os size → r ≡ Passed → requester < length os → listOk list words ≡ true
       → askAllSet setting os size requester list words
       ≡ repliedAll replies.the-variants.Answered (tab size (placed (objectsOf setting (filesOf os))))
       (addressesOf (objectsOf setting (filesOf os)) requester (namesIn list))
@@ -70,7 +70,7 @@ links-are S size requester arena table t (name ∷ names) =
 
 pub asked-all :
     (setting : Setting) (os : List Input) (count : ℕ) (arena arena′ table : List ℕ) (requester : ℕ) (list : List ℕ) (slots : ℕ) (r : Verdict)
-    → 2 ≤ count → length os ≡ count → Prepared setting os arena arena′ table r → r ≡ Passed → requester < count
+    → 2 ≤ count → length os ≡ count → Prepared setting Passed os arena arena′ table r → r ≡ Passed → requester < count
     → length arena′ ≡ length arena → listOk list slots ≡ true
     → (ws : List ℕ) → ws ≡ linkAddresses arena′ table requester (namesIn list)
     → repliedAll replies.the-variants.Answered arena′ ws ≡ askAllSet setting os (length arena) requester list slots
@@ -101,7 +101,7 @@ pub query-all-one :
     (setting : Setting) (sheet bytes : List ℕ) (size requester : ℕ) (list : List ℕ) (words : ℕ)
     → queryAllOf setting sheet bytes size requester list words
     ≡ repliedAllOf size words
-    (first (sheetVerdict setting sheet bytes size)
+    (first (sheetVerdict setting Passed sheet bytes size)
     (first (unless (ltb requester (length (setOf sheet bytes))) 13 0) (unless (listOk list words) 23 0)))
     (tab size (placed (objectsIn setting (setOf sheet bytes)))) (addressesOf (objectsIn setting (setOf sheet bytes)) requester (namesIn list))
 unfolding queryAllOf askAllSet repliedAllOf unless
@@ -113,7 +113,7 @@ query-all-one setting sheet bytes size requester list words = go (sheetOk sheet 
     go :
         (t : Bool) → pick t (askAllSet setting os size requester list words) (refusedAll size words 1 0)
         ≡ repliedAllOf size words
-        (first (first (unless t 1 0) (prepareVerdict setting os size))
+        (first (first (unless t 1 0) (prepareVerdict setting Passed os size))
         (first (unless (ltb requester (length os)) 13 0) (unless (listOk list words) 23 0)))
         (tab size (placed (objectsIn setting os))) (addressesOf (objectsIn setting os) requester (namesIn list))
     go true = refl

@@ -41,19 +41,19 @@ use Rattle.binder.proofs.QueryLaws.{placed-is, linked-for}
 
 module _ (setting : Setting) (os : List Input) (size requester : ℕ) (name : List ℕ) where
   pub ask-refused :
-      (r : Verdict) → r ≡ prepareVerdict setting os size → (n k : ℕ) → r ≡ Refused n k
+      (r : Verdict) → r ≡ prepareVerdict setting Passed os size → (n k : ℕ) → r ≡ Refused n k
       → askSet setting os size requester name ≡ replied (replies.the-variants.Refused n k) (replicate size 0)
   unfolding askSet repliedOf
   ask-refused r e n k z = rw (sym e ∙ z)
 
   pub ask-thirteen :
-      (r : Verdict) → r ≡ prepareVerdict setting os size → r ≡ Passed → length os ≤ requester
+      (r : Verdict) → r ≡ prepareVerdict setting Passed os size → r ≡ Passed → length os ≤ requester
       → askSet setting os size requester name ≡ replied (replies.the-variants.Refused 13 0) (replicate size 0)
   unfolding askSet repliedOf unless
   ask-thirteen r e z l = rw (sym e ∙ z, le-ltb requester (length os) l)
 
   pub ask-found :
-      (r : Verdict) → r ≡ prepareVerdict setting os size → r ≡ Passed → requester < length os
+      (r : Verdict) → r ≡ prepareVerdict setting Passed os size → r ≡ Passed → requester < length os
       → askSet setting os size requester name
       ≡ replied (replyOf (resolve (objectsOf setting (filesOf os)) requester (byName name))) (tab size (placed (objectsOf setting (filesOf os))))
   unfolding askSet repliedOf unless
@@ -67,7 +67,7 @@ pub record LoadedFor (S : objects.Objs) (size requester : ℕ) (arena table : Li
 
 pub loaded-for :
     (setting : Setting) (os : List Input) (count : ℕ) (arena arena′ table : List ℕ) (requester : ℕ) (r : Verdict)
-    → 2 ≤ count → length os ≡ count → Prepared setting os arena arena′ table r → r ≡ Passed → requester < count
+    → 2 ≤ count → length os ≡ count → Prepared setting Passed os arena arena′ table r → r ≡ Passed → requester < count
     → length arena′ ≡ length arena
     → LoadedFor (objectsOf setting (filesOf os)) (length arena) requester arena′ table
 unfolding filesOf objectsOf
@@ -102,12 +102,12 @@ loaded-for setting (h ∷ (p ∷ ls)) count arena arena′ table requester r two
     S : objects.Objs
     S = objsOf (objectFrom setting) hf pf fs
 
-    passed-it : Ready setting (h ∷ (p ∷ ls)) (length arena)
-    passed-it = passes setting (h ∷ (p ∷ ls)) arena arena′ table r made z
+    passed-it : Ready setting Passed (h ∷ (p ∷ ls)) (length arena)
+    passed-it = passes setting Passed (h ∷ (p ∷ ls)) arena arena′ table r made z
 
 pub asked :
     (setting : Setting) (os : List Input) (count : ℕ) (arena arena′ table : List ℕ) (requester : ℕ) (name : List ℕ) (r : Verdict)
-    → 2 ≤ count → length os ≡ count → Prepared setting os arena arena′ table r → r ≡ Passed → requester < count
+    → 2 ≤ count → length os ≡ count → Prepared setting Passed os arena arena′ table r → r ≡ Passed → requester < count
     → length arena′ ≡ length arena
     → (x : Reply) → x ≡ replyOf (scopedOf (resolveLinks arena′ table requester name (gnuHash name) (elfHash name)))
     → replied x arena′ ≡ askSet setting os (length arena) requester name

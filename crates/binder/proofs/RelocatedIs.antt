@@ -91,10 +91,10 @@ module _ (setting : Setting) (size : ℕ) (table : List ℕ) (h pr : File) (fs :
 
   -- what is left of an order whose objects were all relocated, or one was refused
   pub record Ended (order : List ℕ) (n : ℕ) (p′ : Progress) (a′ report′ : List ℕ) : Type 0 where
-    pub verdict-is : verdict (p′ .refusal) (p′ .object) ≡ orderVerdict S fl order
+    pub verdict-is : verdict (p′ .refusal) (p′ .object) ≡ orderVerdict (setting .row) S fl order
     pub bound-is :
-        orderVerdict S fl order ≡ Passed
-        → (mem a′ ≡ bound S order) × (length a′ ≡ size) × Going (orderWords S fl order) (firstUndefined S fl order) n p′ report′
+        orderVerdict (setting .row) S fl order ≡ Passed
+        → (mem a′ ≡ bound S order) × (length a′ ≡ size) × Going (orderWords (setting .row) S fl order) (firstUndefined (setting .row) S fl order) n p′ report′
     pub lengths : (length a′ ≡ size) × (length report′ ≡ n)
 
   module _ (L : LoadedSet setting size table h pr fs) (small : count (set setting size table h pr fs) ≤ 2 ^ 28) (os : List Input)
@@ -110,15 +110,15 @@ module _ (setting : Setting) (size : ℕ) (table : List ℕ) (h pr : File) (fs :
     one-turn :
         (k : ℕ) (ks : List ℕ) → Turns (count S) (k ∷ ks) → (ws : List ℕ) (u : ℕ) (m : Mem) (p : Progress) (a report : List ℕ)
         → Before (k ∷ ks) ws u m p a report
-        → Ran size n (objectVerdict S k (getD fl k noFile))
-        (Before ks (ws ++ objectWords S k (getD fl k noFile)) (earlier u (pick (hasUndefined S k (getD fl k noFile)) k 0)) (relocate S k m))
+        → Ran size n (objectVerdict (setting .row) S k (getD fl k noFile))
+        (Before ks (ws ++ objectWords (setting .row) S k (getD fl k noFile)) (earlier u (pick (hasUndefined (setting .row) S k (getD fl k noFile)) k 0)) (relocate S k m))
         (runAt table k (getD os k noInput .file) p a report)
     one-turn k ks o ws u m p a report b =
         let at = o .among k (omega (arith, head-in k ks)) in
         rw (inputs k (at .1))
-        (ran-weaker size n (objectVerdict S k (getD fl k noFile))
+        (ran-weaker size n (objectVerdict (setting .row) S k (getD fl k noFile))
         (Turned setting size table h pr fs L k (at .0) (at .1) n ws u p a report (b .going) (b .steady))
-        (Before ks (ws ++ objectWords S k (getD fl k noFile)) (earlier u (pick (hasUndefined S k (getD fl k noFile)) k 0)) (relocate S k m))
+        (Before ks (ws ++ objectWords (setting .row) S k (getD fl k noFile)) (earlier u (pick (hasUndefined (setting .row) S k (getD fl k noFile)) k 0)) (relocate S k m))
         (λ p′ a′ report′ d.
         record {
           going = d .going;
@@ -140,7 +140,7 @@ module _ (setting : Setting) (size : ℕ) (table : List ℕ) (h pr : File) (fs :
     order-ran :
         (ks : List ℕ) → Turns (count S) ks → (ws : List ℕ) (u : ℕ) (m : Mem) (p : Progress) (a report : List ℕ)
         → Before ks ws u m p a report
-        → Ran size n (orderVerdict S fl ks) (Before [] (ws ++ orderWords S fl ks) (earlier u (firstUndefined S fl ks)) (run S ks m))
+        → Ran size n (orderVerdict (setting .row) S fl ks) (Before [] (ws ++ orderWords (setting .row) S fl ks) (earlier u (firstUndefined (setting .row) S fl ks)) (run S ks m))
         (runOrder table os ks (left p a report))
     unfolding orderVerdict orderWords firstUndefined run runOrder
     order-ran [] o ws u m p a report b =
@@ -148,15 +148,15 @@ module _ (setting : Setting) (size : ℕ) (table : List ℕ) (h pr : File) (fs :
         (going-length ws u n p report (b .going))
         record { going = rw (append-nil ws, earlier-none u) (b .going); memory = b .memory; steady = b .steady; rest = b .rest }
     order-ran (k ∷ ks) o ws u m p a report b =
-        let x : List ℕ = objectWords S k (getD fl k noFile) in
-        let y : Bool = hasUndefined S k (getD fl k noFile) in
+        let x : List ℕ = objectWords (setting .row) S k (getD fl k noFile) in
+        let y : Bool = hasUndefined (setting .row) S k (getD fl k noFile) in
         let at = o .among k (omega (arith, head-in k ks)) in
-        ran-then size n (objectVerdict S k (getD fl k noFile)) (orderVerdict S fl ks)
+        ran-then size n (objectVerdict (setting .row) S k (getD fl k noFile)) (orderVerdict (setting .row) S fl ks)
         (Before ks (ws ++ x) (earlier u (pick y k 0)) (relocate S k m))
-        (Before [] (ws ++ (x ++ orderWords S fl ks)) (earlier u (pick y k (firstUndefined S fl ks))) (run S ks (relocate S k m)))
+        (Before [] (ws ++ (x ++ orderWords (setting .row) S fl ks)) (earlier u (pick y k (firstUndefined (setting .row) S fl ks))) (run S ks (relocate S k m)))
         (runOrder table os ks)
         (λ p′ a′ report′ b′.
-        rw (← append-assoc ws x (orderWords S fl ks), ← mark-first y u k (firstUndefined S fl ks) (at .0))
+        rw (← append-assoc ws x (orderWords (setting .row) S fl ks), ← mark-first y u k (firstUndefined (setting .row) S fl ks) (at .0))
         (order-ran ks (turns-tail (count S) k ks o) (ws ++ x) (earlier u (pick y k 0)) (relocate S k m) p′ a′ report′ b′))
         (runAt table k (getD os k noInput .file) p a report)
         (one-turn k ks o ws u m p a report b)
@@ -182,8 +182,8 @@ module _ (setting : Setting) (size : ℕ) (table : List ℕ) (h pr : File) (fs :
         report-is = zeros ∙ fill-none n;
       } in
       let ran = subst
-      (Ran size n (orderVerdict S fl order)
-      (Before L small os inputs n [] (orderWords S fl order) (earlier 0 (firstUndefined S fl order)) (run S order (placed S))))
+      (Ran size n (orderVerdict (setting .row) S fl order)
+      (Before L small os inputs n [] (orderWords (setting .row) S fl order) (earlier 0 (firstUndefined (setting .row) S fl order)) (run S order (placed S))))
       (sym e)
       (order-ran L small os inputs n order turns [] 0 (placed S) started a report
       record {
@@ -195,6 +195,6 @@ module _ (setting : Setting) (size : ℕ) (table : List ℕ) (h pr : File) (fs :
       record {
         verdict-is = ran .verdict-is;
         bound-is = λ v.
-            let d = ran .done v in (d .memory, d .steady .size-is, rw (earlier-first (firstUndefined S fl order)) at (d .going));
+            let d = ran .done v in (d .memory, d .steady .size-is, rw (earlier-first (firstUndefined (setting .row) S fl order)) at (d .going));
         lengths = (ran .arena-length, ran .report-length);
       }

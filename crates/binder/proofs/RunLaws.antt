@@ -11,7 +11,7 @@ use lib.ListN.{length, getD, take, drop, length-take, drop-of-length-le}
 use lib.Seq.{drop-cons, getD-take}
 use Rattle.object.specs.Steps.LoadTable.{SegmentsIn, segmentsIn}
 use Rattle.object.specs.ProgramHeader.{loadsOf, dynamicOf}
-use Rattle.object.specs.RelocationTypes.{Calculation, Row, rowOf}
+use Rattle.object.specs.RelocationTypes.{Calculation, Row}
 use Rattle.object.specs.Entries.{relaAt}
 use Rattle.object.specs.TableBytes.{inWritable}
 use Rattle.object.specs.Record.{Record, ReadBy, heldBy, checkedSymbol, nameOf}
@@ -33,7 +33,7 @@ use Rattle.scope.specs.declared.scope.Resolved.the-variants.{Absent, Found}
 use Rattle.binder.specs.declared.turn.Turn.{Turn}
 use Rattle.binder.specs.declared.relocate.Sought.{Sought}
 use Rattle.binder.specs.declared.relocate.Sought.the-variants.{Stopped, Known}
-use Rattle.binder.specs.Steps.Relocating.{Left, left, wrote, noted, withArena, withReport, unresolvedOf, copyBytes, summed, unlessRefused, refusedBy, imageIn, turnOf, againRefusal, againRecord, symbolRefusal, soughtFor, soughtForCopy, keeps, soughtBy, soughtOf, copyOf, copyingOf, runAction, runTable, cutTo32, reportSum, noteOf, runRelrs, runTables, runObject, runAt, runOrder}
+use Rattle.binder.specs.Steps.Relocating.{Left, left, wrote, noted, withArena, withReport, unresolvedOf, copyBytes, summed, unlessRefused, refusedBy, imageIn, turnOf, againRefusal, againRecord, symbolRefusal, soughtFor, soughtForCopy, keeps, soughtBy, soughtOf, copyOf, copyingOf, runAction, runTable, cutTo32, reportSum, noteOf, runRelrs, runTables, runObject, runAt, runOrder, rowAt}
 
 -- ---- the entries of a symbol
 
@@ -102,7 +102,7 @@ module _ (table : List ℕ) (t : Turn) (r : Record) (at first : ℕ) where
   entriesLeft n i st = runTable table t r at first (n - i) i st
 
   module _ (n i : ℕ) (p : Progress) (a report : List ℕ) {q : Progress} {b noted : List ℕ} {e : Rela} {act : Row} {number : ℕ} (some : i < n)
-      (he : e ≡ relaAt (imageIn a t) at i) (ha : act ≡ rowOf (e .rtype)) (hn : number ≡ (first + i) % 2 ^ 32)
+      (he : e ≡ relaAt (imageIn a t) at i) (ha : act ≡ rowAt table (e .rtype)) (hn : number ≡ (first + i) % 2 ^ 32)
       (run : left q b noted ≡ runAction table t r number e act p a report) {end : Left} (all : entriesLeft n i (left p a report) ≡ end) where
     entry-step : entriesLeft n i (left p a report) ≡ unlessRefused (entriesLeft n (i + 1)) (left q b noted)
     unfolding runTable

@@ -19,6 +19,7 @@ use Rattle.model.proofs.Laid.{objs-apart}
 use Rattle.model.proofs.OrderLaws.{decide}
 use Rattle.object.specs.TableBytes.{inWritable}
 use Rattle.object.specs.Placed.{objectSpan}
+use Rattle.object.specs.RelocationTypes.{Row}
 use Rattle.object.specs.Loaded.{objectRefusal}
 use Rattle.binder.specs.Setting.{Setting}
 use Rattle.binder.specs.Instance.{File, fileImage, fileRecord, placesOf, namedWords, relasOf, entryOf, objectAt, offsetOf, objectFrom}
@@ -81,15 +82,15 @@ module _ (setting : Setting) (size : ℕ) where
 -- ---- every object of the order is checked
 
 order-checked :
-    (S : Objs) (files : List File) (order : List ℕ) → orderVerdict S files order ≡ Passed → (k : ℕ) → 0 < times k order
-    → objectVerdict S k (getD files k noFile) ≡ Passed
+    (row : ℕ → Row) (S : Objs) (files : List File) (order : List ℕ) → orderVerdict row S files order ≡ Passed → (k : ℕ) → 0 < times k order
+    → objectVerdict row S k (getD files k noFile) ≡ Passed
 unfolding orderVerdict
-order-checked S files [] v k h = absurd (omega arith)
-order-checked S files (j ∷ js) v k h =
-    let a = first-passed (objectVerdict S j (getD files j noFile)) (orderVerdict S files js) v in
+order-checked row S files [] v k h = absurd (omega arith)
+order-checked row S files (j ∷ js) v k h =
+    let a = first-passed (objectVerdict row S j (getD files j noFile)) (orderVerdict row S files js) v in
     ⊎-elim
-    (λ (t : eqb j k ≡ true). subst (λ (i : ℕ). objectVerdict S i (getD files i noFile) ≡ Passed) (eqb-true j k t) (a .0))
-    (λ (t : eqb j k ≡ false). order-checked S files js (a .1) k (rw t at h))
+    (λ (t : eqb j k ≡ true). subst (λ (i : ℕ). objectVerdict row S i (getD files i noFile) ≡ Passed) (eqb-true j k t) (a .0))
+    (λ (t : eqb j k ≡ false). order-checked row S files js (a .1) k (rw t at h))
     (decide (eqb j k))
 
 times-front : (k : ℕ) (front : List ℕ) → 0 < times k front → 0 < times k (front ++ (1 ∷ []))
@@ -120,7 +121,7 @@ from-pick false xs m = m
 
 module _ (setting : Setting) (size : ℕ) (h p : File) (fs : List File) (v : loadFrom setting size 0 0 (h ∷ (p ∷ fs)) ≡ Passed) (order : List ℕ)
     (once : OnceEach (count (objsOf (objectFrom setting) h p fs)) order)
-    (w : orderVerdict (objsOf (objectFrom setting) h p fs) (h ∷ (p ∷ fs)) order ≡ Passed) where
+    (w : orderVerdict (setting .row) (objsOf (objectFrom setting) h p fs) (h ∷ (p ∷ fs)) order ≡ Passed) where
   abbrev set : Objs
   set = objsOf (objectFrom setting) h p fs
 
@@ -130,11 +131,11 @@ module _ (setting : Setting) (size : ℕ) (h p : File) (fs : List File) (v : loa
   checked :
       (k : ℕ) → 1 ≤ k → k < count set
       → (wordsVerdict k (fileRecord (file k)) (namedWords (fileImage (file k)) (fileRecord (file k))) ≡ Passed)
-      × (entriesVerdict set k (fileImage (file k)) (fileRecord (file k)) (relasOf (fileImage (file k)) (fileRecord (file k))) ≡ Passed)
+      × (entriesVerdict (setting .row) set k (fileImage (file k)) (fileRecord (file k)) (relasOf (fileImage (file k)) (fileRecord (file k))) ≡ Passed)
   unfolding objectVerdict
   checked k a b =
       first-passed (wordsVerdict k (fileRecord (file k)) (namedWords (fileImage (file k)) (fileRecord (file k)))) _
-      (order-checked set (h ∷ (p ∷ fs)) order w k (in-order (count set) order once k a b))
+      (order-checked (setting .row) set (h ∷ (p ∷ fs)) order w k (in-order (count set) order once k a b))
 
   inner :
       (k : ℕ) → k < count set → (q n : ℕ) → inWritable (fileRecord (file k) .segments) q n ≡ true → q + n ≤ (obj set k) .span
@@ -158,9 +159,9 @@ module _ (setting : Setting) (size : ℕ) (h p : File) (fs : List File) (v : loa
         entries-in = λ k a b x m.
             let s = object-is setting size h p fs v k b in
             let es : List Entry =
-            map (entryOf (fileImage (file k)) (fileRecord (file k)) (setting .address + s .off)) (relasOf (fileImage (file k)) (fileRecord (file k))) in
+            map (entryOf (setting .row) (fileImage (file k)) (fileRecord (file k)) (setting .address + s .off)) (relasOf (fileImage (file k)) (fileRecord (file k))) in
             let in-file : List·Memᴰ x es =
             from-pick (file k .host) es (subst (λ (l : List Entry). List·Memᴰ x l) (ap (λ (o : Obj). o .entries) (s .is)) m) in
-            entries-inside set k (fileImage (file k)) (fileRecord (file k)) (setting .address + s .off) (inner k b)
+            entries-inside (setting .row) set k (fileImage (file k)) (fileRecord (file k)) (setting .address + s .off) (inner k b)
             (relasOf (fileImage (file k)) (fileRecord (file k))) (checked k a b .1) x in-file;
       }

@@ -22,7 +22,7 @@ use Rattle.scope.specs.Steps.Links.{linkAt, countIn, addressIn}
 use Rattle.binder.specs.Steps.Prepared.{loadFrom, linkOf, placeFiles, Linked}
 use Rattle.scope.specs.Steps.ScopeCode.{imageAt}
 use Rattle.binder.specs.Steps.ScopeModel.{scopedOf}
-use Rattle.binder.specs.Steps.Relocating.{turnOf, imageIn, soughtFor, soughtForCopy, againRefusal, againRecord, copyFits}
+use Rattle.binder.specs.Steps.Relocating.{turnOf, imageIn, soughtFor, soughtForCopy, againRefusal, againRecord, copyFits, rowAt}
 
 module _ (setting : Setting) (size : ℕ) (table : List ℕ) (h p : File) (fs : List File) where
   abbrev address : ℕ
@@ -37,13 +37,14 @@ module _ (setting : Setting) (size : ℕ) (table : List ℕ) (h p : File) (fs : 
   abbrev pub set : Objs
   set = objsOf (objectFrom setting) h p fs
 
-  -- refusals 2, 4 to 12 and 21 were passed, and the table has the links, the count and the address
+  -- refusals 2, 4 to 12 and 21 were passed, and the table has the links, the count, the address and the words of the types
   pub record LoadedSet : Type 0 where
     pub others : (k : ℕ) → 1 ≤ k → k < count set → fileAt k .host ≡ false
     pub loads : loadFrom setting size 0 0 files ≡ Passed
     pub links : Linked setting table 0 0 files
     pub counted : countIn table ≡ count set
     pub addressed : addressIn table ≡ address
+    pub typed : (rtype : ℕ) → rowAt table rtype ≡ setting .row rtype
     pub end : address + size ≤ 2 ^ 63
     pub small : size ≤ 2 ^ 28
 

@@ -11,7 +11,7 @@ use Rattle.words.specs.Choice.{pick}
 use Rattle.words.specs.Memory.{mem, patch}
 use Rattle.words.specs.Words.{leAt, byteOf}
 use Rattle.words.specs.Names.{nameAt}
-use Rattle.object.specs.RelocationTypes.{Calculation, rowOf}
+use Rattle.object.specs.RelocationTypes.{Calculation}
 use Rattle.object.specs.Entries as entries
 use Rattle.object.specs.Entries.{relaAt}
 use Rattle.object.specs.Steps.Actions.{fieldBy, searchedBy, rowBy}
@@ -35,7 +35,7 @@ use Rattle.binder.specs.declared.relocate.Symbols.{Symbols}
 use Rattle.binder.specs.declared.relocate.Run.{Run}
 use Rattle.binder.specs.declared.relocate.Address.the-variants.{Nowhere, At}
 use Rattle.binder.specs.declared.relocate.Sought.the-variants.{Known}
-use Rattle.binder.specs.Steps.Relocating.{Left, left, wrote, withReport, keeps, imageIn, writtenNumber, fieldOf, soughtFor, soughtBy, soughtOf, writeSought, runAction}
+use Rattle.binder.specs.Steps.Relocating.{Left, left, wrote, withReport, keeps, imageIn, writtenNumber, fieldOf, soughtFor, soughtBy, soughtOf, writeSought, runAction, rowAt}
 use Rattle.binder.specs.Steps.RunSteps.{EntriesPassed, SymbolsOf, EntryHere, addressFound, SymbolsPassed}
 use Rattle.binder.proofs.RunLaws.{entriesLeft, entry-goes}
 use Rattle.binder.proofs.RelativeLaws.{number-in}
@@ -72,7 +72,7 @@ module _
     (fits : at + 24 * n ≤ t .span)
     (inside : y .symbols + 24 * y .fits ≤ t .span)
     (stands : k ≡ t .offset + at + 24 * s .next)
-    (here : EntryHere a t y k low high field place index name addend)
+    (here : EntryHere table a t y k low high field place index name addend)
     (number-is : number ≡ index + 1)
     (found-is : At found
     ≡ pick (eqb (s .last) number) (At (s .address)) (addressFound (soughtFor table t a (nameAt (imageIn a t) (y .strings + name)))))
@@ -100,8 +100,8 @@ module _
     abbrev calculation : Calculation
     calculation = fieldBy field
 
-    acts : rowBy (Symbolic field) ≡ rowOf (e .rtype)
-    acts = sym (ap rowOf rtype-here ∙ here .acts)
+    acts : rowBy (Symbolic field) ≡ rowAt table (e .rtype)
+    acts = sym (ap (rowAt table) rtype-here ∙ here .acts)
 
     module _ (r : Record) (of : SymbolsOf t r y a) where
       abbrev y-here : Symbol
@@ -171,13 +171,13 @@ module _
 -- a run of entries that are Relative, then one of entries that are Symbolic
 pub runs-passed :
     (table : List ℕ) (t : Turn) (r : Record) (y : Symbols) (at first n low high : ℕ) (q : Progress) (a b c report : List ℕ)
-    (i j : ℕ) (s : Run) {end : Left} → EntriesPassed t at n low high i a j b
+    (i j : ℕ) (s : Run) {end : Left} → EntriesPassed table t at n low high i a j b
     → SymbolsPassed table t y at n low high (record { next = j; last = q .last; address = q .address }) b s c
     → WritableRange (r .segments) low high → (0 < high → q .refusal ≡ 0) → SymbolsOf t r y a
     → entriesLeft table t r at first n i (left q a report) ≡ end
     → (entriesLeft table t r at first n (s .next) (left (keeps (s .last) (s .address) q) c report) ≡ end) × SymbolsOf t r y c
 runs-passed table t r y at first n low high q a b c report i j s one two wr fine of all =
-    let x = one table r first q report wr fine in
+    let x = one r first q report wr fine in
     let here = kept-symbols t r y a b (x .1) of in
     let z = two r first q report wr here fine in
     (z .0 ∙ (x .0 ∙ all), kept-symbols t r y b c (z .1) here)

@@ -10,7 +10,7 @@ use Rattle.words.specs.Memory.{Mem}
 use Rattle.model.specs.Objects.{Entry, Objs, count, obj}
 use Rattle.model.specs.Relocation.{effect, effects}
 use Rattle.model.proofs.OrderLaws.{either-assoc}
-use Rattle.object.specs.RelocationTypes.{rowOf}
+use Rattle.object.specs.RelocationTypes.{Row}
 use Rattle.object.specs.Entries.{relaAt, relasFrom}
 use Rattle.object.specs.Record.{Record}
 use Rattle.object.specs.declared.relocate.Rela.{Rela}
@@ -19,7 +19,7 @@ use Rattle.binder.specs.Setting.{Setting}
 use Rattle.binder.specs.Verdict.{first, verdict, entryRefusal, entriesVerdict}
 use Rattle.binder.specs.declared.Verdict.the-variants.{Passed}
 use Rattle.binder.specs.Report.{reportWord, isUndefined, isPassed, entryReport}
-use Rattle.binder.specs.Steps.Relocating.{left, imageIn, cutTo32, turnOf, runAction, runTable, runTables}
+use Rattle.binder.specs.Steps.Relocating.{left, imageIn, cutTo32, turnOf, runAction, runTable, runTables, rowAt}
 use Rattle.binder.specs.declared.turn.Turn.{Turn}
 use Rattle.binder.specs.declared.report.Progress.{Progress}
 use Rattle.binder.proofs.Steady.{set, fileAt, LoadedSet, Steady}
@@ -57,25 +57,25 @@ some-append p [] ys = refl
 some-append p (x ∷ xs) ys = ap (either (p x)) (some-append p xs ys) ∙ either-assoc (p x) (some p xs) (some p ys)
 
 -- the words of an entry
-abbrev entryWord : Objs → ℕ → List ℕ → Record → ℕ → Rela → List ℕ
-entryWord S k image r i e =
-    pick (isUndefined S k image r e) (reportWord 6 i ∷ []) (pick (isPassed (rowOf (e .rtype))) (reportWord 7 i ∷ []) [])
+abbrev entryWord : (ℕ → Row) → Objs → ℕ → List ℕ → Record → ℕ → Rela → List ℕ
+entryWord row S k image r i e =
+    pick (isUndefined row S k image r e) (reportWord 6 i ∷ []) (pick (isPassed (row (e .rtype))) (reportWord 7 i ∷ []) [])
 
-module _ (S : Objs) (k : ℕ) (image : List ℕ) (r : Record) where
-  verdicts-append : (xs ys : List Rela) → entriesVerdict S k image r (xs ++ ys) ≡ first (entriesVerdict S k image r xs) (entriesVerdict S k image r ys)
+module _ (row : ℕ → Row) (S : Objs) (k : ℕ) (image : List ℕ) (r : Record) where
+  verdicts-append : (xs ys : List Rela) → entriesVerdict row S k image r (xs ++ ys) ≡ first (entriesVerdict row S k image r xs) (entriesVerdict row S k image r ys)
   unfolding entriesVerdict
   verdicts-append [] ys = refl
   verdicts-append (x ∷ xs) ys =
-      ap (first (verdict (entryRefusal S k image r x) k)) (verdicts-append xs ys)
-      ∙ sym (first-assoc (verdict (entryRefusal S k image r x) k) (entriesVerdict S k image r xs) (entriesVerdict S k image r ys))
+      ap (first (verdict (entryRefusal row S k image r x) k)) (verdicts-append xs ys)
+      ∙ sym (first-assoc (verdict (entryRefusal row S k image r x) k) (entriesVerdict row S k image r xs) (entriesVerdict row S k image r ys))
 
   words-append :
-      (i j : ℕ) (xs ys : List Rela) → j ≡ i + length xs → entryReport S k image r i (xs ++ ys) ≡ entryReport S k image r i xs ++ entryReport S k image r j ys
+      (i j : ℕ) (xs ys : List Rela) → j ≡ i + length xs → entryReport row S k image r i (xs ++ ys) ≡ entryReport row S k image r i xs ++ entryReport row S k image r j ys
   unfolding entryReport
-  words-append i j [] ys e = ap (λ (i : ℕ). entryReport S k image r i ys) (omega arith)
+  words-append i j [] ys e = ap (λ (i : ℕ). entryReport row S k image r i ys) (omega arith)
   words-append i j (x ∷ xs) ys e =
-      ap (λ (l : List ℕ). entryWord S k image r i x ++ l) (words-append (i + 1) j xs ys (omega arith))
-      ∙ sym (append-assoc (entryWord S k image r i x) (entryReport S k image r (i + 1) xs) (entryReport S k image r j ys))
+      ap (λ (l : List ℕ). entryWord row S k image r i x ++ l) (words-append (i + 1) j xs ys (omega arith))
+      ∙ sym (append-assoc (entryWord row S k image r i x) (entryReport row S k image r (i + 1) xs) (entryReport row S k image r j ys))
 
   effects-append :
       (g : Rela → Entry) (xs ys : List Rela) (m : Mem) → effects S k (map g (xs ++ ys)) m ≡ effects S k (map g ys) (effects S k (map g xs) m)
@@ -89,6 +89,9 @@ module _ (setting : Setting) (size : ℕ) (table : List ℕ) (h pr : File) (fs :
     (k : ℕ) (lo : 1 ≤ k) (hi : k < count (set setting size table h pr fs)) (n : ℕ) (a₀ : List ℕ) where
   abbrev address : ℕ
   address = setting .address
+
+  abbrev row : ℕ → Row
+  row = setting .row
 
   abbrev S : Objs
   S = set setting size table h pr fs
@@ -111,35 +114,35 @@ module _ (setting : Setting) (size : ℕ) (table : List ℕ) (h pr : File) (fs :
   -- after entries, the first of which has the number `i`
   abbrev pub Entered : List ℕ → ℕ → Mem → ℕ → List Rela → Progress → List ℕ → List ℕ → Type 0
   Entered ws u m i es =
-      Does (ws ++ entryReport S k image r i es) (earlier u (pick (some (isUndefined S k image r) es) k 0))
-      (effects S k (map (entryOf image r ((obj S k) .base)) es) m)
+      Does (ws ++ entryReport row S k image r i es) (earlier u (pick (some (isUndefined row S k image r) es) k 0))
+      (effects S k (map (entryOf row image r ((obj S k) .base)) es) m)
 
   -- more entries after one, and after several
   entered-more :
       (ws : List ℕ) (u : ℕ) (m : Mem) (i : ℕ) (x : Rela) (ys : List Rela) (p : Progress) (a report : List ℕ)
-      → Entered (ws ++ entryWord S k image r i x) (earlier u (pick (isUndefined S k image r x) k 0))
-      (effect S k (entryOf image r ((obj S k) .base) x) m) (i + 1) ys p a report
+      → Entered (ws ++ entryWord row S k image r i x) (earlier u (pick (isUndefined row S k image r x) k 0))
+      (effect S k (entryOf row image r ((obj S k) .base) x) m) (i + 1) ys p a report
       → Entered ws u m i (x ∷ ys) p a report
   unfolding entryReport some effects
   entered-more ws u m i x ys p a report d =
       rw (
-        ← append-assoc ws (entryWord S k image r i x) (entryReport S k image r (i + 1) ys),
-        ← mark-twice (isUndefined S k image r x) (some (isUndefined S k image r) ys) u k lo,
+        ← append-assoc ws (entryWord row S k image r i x) (entryReport row S k image r (i + 1) ys),
+        ← mark-twice (isUndefined row S k image r x) (some (isUndefined row S k image r) ys) u k lo,
       )
       d
 
   entered-join :
       (ws : List ℕ) (u : ℕ) (m : Mem) (i j : ℕ) (xs ys : List Rela) → j ≡ i + length xs → (p : Progress) (a report : List ℕ)
-      → Entered (ws ++ entryReport S k image r i xs) (earlier u (pick (some (isUndefined S k image r) xs) k 0))
-      (effects S k (map (entryOf image r ((obj S k) .base)) xs) m) j ys p a report
+      → Entered (ws ++ entryReport row S k image r i xs) (earlier u (pick (some (isUndefined row S k image r) xs) k 0))
+      (effects S k (map (entryOf row image r ((obj S k) .base)) xs) m) j ys p a report
       → Entered ws u m i (xs ++ ys) p a report
   entered-join ws u m i j xs ys e p a report d =
       rw (
-        words-append S k image r i j xs ys e,
-        some-append (isUndefined S k image r) xs ys,
-        effects-append S k image r (entryOf image r ((obj S k) .base)) xs ys m,
-        ← append-assoc ws (entryReport S k image r i xs) (entryReport S k image r j ys),
-        ← mark-twice (some (isUndefined S k image r) xs) (some (isUndefined S k image r) ys) u k lo,
+        words-append row S k image r i j xs ys e,
+        some-append (isUndefined row S k image r) xs ys,
+        effects-append row S k image r (entryOf row image r ((obj S k) .base)) xs ys m,
+        ← append-assoc ws (entryReport row S k image r i xs) (entryReport row S k image r j ys),
+        ← mark-twice (some (isUndefined row S k image r) xs) (some (isUndefined row S k image r) ys) u k lo,
       )
       d
 
@@ -151,39 +154,39 @@ module _ (setting : Setting) (size : ℕ) (table : List ℕ) (h pr : File) (fs :
     -- the entry `j`
     one-entry :
         (i j : ℕ) → i ≡ start + j → j < c′ → (ws : List ℕ) (u : ℕ) (m : Mem) (p : Progress) (a report : List ℕ) → Does ws u m p a report
-        → Ran size n (verdict (entryRefusal S k image r (relaAt image at j)) k)
-        (Does (ws ++ entryWord S k image r i (relaAt image at j)) (earlier u (pick (isUndefined S k image r (relaAt image at j)) k 0))
-        (effect S k (entryOf image r ((obj S k) .base) (relaAt image at j)) m))
-        (runAction table t r ((start + j) % 2 ^ 32) (relaAt (imageIn a t) at j) (rowOf (relaAt (imageIn a t) at j .rtype)) p a report)
+        → Ran size n (verdict (entryRefusal row S k image r (relaAt image at j)) k)
+        (Does (ws ++ entryWord row S k image r i (relaAt image at j)) (earlier u (pick (isUndefined row S k image r (relaAt image at j)) k 0))
+        (effect S k (entryOf row image r ((obj S k) .base) (relaAt image at j)) m))
+        (runAction table t r ((start + j) % 2 ^ 32) (relaAt (imageIn a t) at j) (rowAt table (relaAt (imageIn a t) at j .rtype)) p a report)
     one-entry i j e b ws u m p a report d =
-        rw (number i j e b, same a (d .written .steady) j b)
+        rw (number i j e b, same a (d .written .steady) j b, L .typed (relaAt image at j .rtype))
         (entry-ran setting size table h pr fs L k lo hi n a₀ ws u m p a report d i (omega arith) (relaAt image at j)
-        (rowOf (relaAt image at j .rtype)))
+        (row (relaAt image at j .rtype)))
 
     pub table-ran :
         (c i j : ℕ) → i ≡ start + j → j + c ≤ c′ → (ws : List ℕ) (u : ℕ) (m : Mem) (p : Progress) (a report : List ℕ) → Does ws u m p a report
-        → Ran size n (entriesVerdict S k image r (relasFrom image at j c)) (Entered ws u m i (relasFrom image at j c))
+        → Ran size n (entriesVerdict row S k image r (relasFrom image at j c)) (Entered ws u m i (relasFrom image at j c))
         (runTable table t r at start c j (left p a report))
     unfolding runTable relasFrom entriesVerdict entryReport some effects
     table-ran zero i j e b ws u m p a report d =
         plain setting size table h pr fs L k lo hi n a₀ ws u m p a report d Passed m a refl (d .written) (d .memory)
     table-ran (suc c) i j e b ws u m p a report d =
-        ran-then size n (verdict (entryRefusal S k image r (relaAt image at j)) k) (entriesVerdict S k image r (relasFrom image at (j + 1) c))
-        (Does (ws ++ entryWord S k image r i (relaAt image at j)) (earlier u (pick (isUndefined S k image r (relaAt image at j)) k 0))
-        (effect S k (entryOf image r ((obj S k) .base) (relaAt image at j)) m))
+        ran-then size n (verdict (entryRefusal row S k image r (relaAt image at j)) k) (entriesVerdict row S k image r (relasFrom image at (j + 1) c))
+        (Does (ws ++ entryWord row S k image r i (relaAt image at j)) (earlier u (pick (isUndefined row S k image r (relaAt image at j)) k 0))
+        (effect S k (entryOf row image r ((obj S k) .base) (relaAt image at j)) m))
         (Entered ws u m i (relaAt image at j ∷ relasFrom image at (j + 1) c))
         (runTable table t r at start c (j + 1))
         (λ p′ a′ report′ d′.
-        ran-weaker size n (entriesVerdict S k image r (relasFrom image at (j + 1) c))
-        (Entered (ws ++ entryWord S k image r i (relaAt image at j)) (earlier u (pick (isUndefined S k image r (relaAt image at j)) k 0))
-        (effect S k (entryOf image r ((obj S k) .base) (relaAt image at j)) m) (i + 1) (relasFrom image at (j + 1) c))
+        ran-weaker size n (entriesVerdict row S k image r (relasFrom image at (j + 1) c))
+        (Entered (ws ++ entryWord row S k image r i (relaAt image at j)) (earlier u (pick (isUndefined row S k image r (relaAt image at j)) k 0))
+        (effect S k (entryOf row image r ((obj S k) .base) (relaAt image at j)) m) (i + 1) (relasFrom image at (j + 1) c))
         (Entered ws u m i (relaAt image at j ∷ relasFrom image at (j + 1) c))
         (entered-more ws u m i (relaAt image at j) (relasFrom image at (j + 1) c))
         (runTable table t r at start c (j + 1) (left p′ a′ report′))
-        (table-ran c (i + 1) (j + 1) (omega arith) (omega arith) (ws ++ entryWord S k image r i (relaAt image at j))
-        (earlier u (pick (isUndefined S k image r (relaAt image at j)) k 0))
-        (effect S k (entryOf image r ((obj S k) .base) (relaAt image at j)) m) p′ a′ report′ d′))
-        (runAction table t r ((start + j) % 2 ^ 32) (relaAt (imageIn a t) at j) (rowOf (relaAt (imageIn a t) at j .rtype)) p a report)
+        (table-ran c (i + 1) (j + 1) (omega arith) (omega arith) (ws ++ entryWord row S k image r i (relaAt image at j))
+        (earlier u (pick (isUndefined row S k image r (relaAt image at j)) k 0))
+        (effect S k (entryOf row image r ((obj S k) .base) (relaAt image at j)) m) p′ a′ report′ d′))
+        (runAction table t r ((start + j) % 2 ^ 32) (relaAt (imageIn a t) at j) (rowAt table (relaAt (imageIn a t) at j .rtype)) p a report)
         (one-entry i j e (omega arith) ws u m p a report d)
 
   -- ---- RELA, then PLT
@@ -193,7 +196,7 @@ module _ (setting : Setting) (size : ℕ) (table : List ℕ) (h pr : File) (fs :
 
   pub tables-ran :
       (ws : List ℕ) (u : ℕ) (m : Mem) (p : Progress) (a report : List ℕ) → Does ws u m p a report
-      → Ran size n (entriesVerdict S k image r (relasOf image r)) (Entered ws u m 0 (relasOf image r))
+      → Ran size n (entriesVerdict row S k image r (relasOf image r)) (Entered ws u m 0 (relasOf image r))
       (runTables table t r (left p a report))
   unfolding relasOf runTables
   tables-ran ws u m p a report d =
@@ -201,18 +204,18 @@ module _ (setting : Setting) (size : ℕ) (table : List ℕ) (h pr : File) (fs :
       let o = L .others k lo hi in
       let xs : List Rela = relasFrom image (r .rela) 0 (r .relas) in
       let ys : List Rela = relasFrom image (r .plt) 0 (r .plts) in
-      rw (cut-is (r .relas) (few .0), cut-is (r .plts) (few .1), verdicts-append S k image r xs ys)
-      (ran-then size n (entriesVerdict S k image r xs) (entriesVerdict S k image r ys) (Entered ws u m 0 xs) (Entered ws u m 0 (xs ++ ys))
+      rw (cut-is (r .relas) (few .0), cut-is (r .plts) (few .1), verdicts-append row S k image r xs ys)
+      (ran-then size n (entriesVerdict row S k image r xs) (entriesVerdict row S k image r ys) (Entered ws u m 0 xs) (Entered ws u m 0 (xs ++ ys))
       (runTable table t r (r .plt) (r .relas) (r .plts) 0)
       (λ p′ a′ report′ d′.
-      ran-weaker size n (entriesVerdict S k image r ys)
-      (Entered (ws ++ entryReport S k image r 0 xs) (earlier u (pick (some (isUndefined S k image r) xs) k 0))
-      (effects S k (map (entryOf image r ((obj S k) .base)) xs) m) (r .relas) ys)
+      ran-weaker size n (entriesVerdict row S k image r ys)
+      (Entered (ws ++ entryReport row S k image r 0 xs) (earlier u (pick (some (isUndefined row S k image r) xs) k 0))
+      (effects S k (map (entryOf row image r ((obj S k) .base)) xs) m) (r .relas) ys)
       (Entered ws u m 0 (xs ++ ys))
       (entered-join ws u m 0 (r .relas) xs ys (omega (arith, relas-length image (r .rela) 0 (r .relas))))
       (runTable table t r (r .plt) (r .relas) (r .plts) 0 (left p′ a′ report′))
       (table-ran (r .plt) (r .relas) (r .plts) (omega (arith, few .0, few .1)) (λ a s. entry-same image (imageIn a t) (r .plt) (r .plts) (readings setting size table h pr fs L a s k hi .plts o)) (r .plts) (r .relas) 0 (omega arith) (omega arith)
-      (ws ++ entryReport S k image r 0 xs) (earlier u (pick (some (isUndefined S k image r) xs) k 0))
-      (effects S k (map (entryOf image r ((obj S k) .base)) xs) m) p′ a′ report′ d′))
+      (ws ++ entryReport row S k image r 0 xs) (earlier u (pick (some (isUndefined row S k image r) xs) k 0))
+      (effects S k (map (entryOf row image r ((obj S k) .base)) xs) m) p′ a′ report′ d′))
       (runTable table t r (r .rela) 0 (r .relas) 0 (left p a report))
       (table-ran (r .rela) 0 (r .relas) (omega (arith, few .0)) (λ a s. entry-same image (imageIn a t) (r .rela) (r .relas) (readings setting size table h pr fs L a s k hi .relas o)) (r .relas) 0 0 (omega arith) (omega arith) ws u m p a report d))

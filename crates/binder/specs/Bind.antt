@@ -20,6 +20,7 @@ use Rattle.binder.specs.declared.Answer.{Answer}
 use Rattle.binder.specs.declared.Answer as answers
 use Rattle.binder.specs.declared.Reply.{Reply}
 use Rattle.binder.specs.declared.Reply as replies
+use Rattle.object.specs.RelocationTypes.{Row}
 use Rattle.sheet.specs.Sheet.{Input, sheetOk, setOf, arenaOk, duplicateOf}
 use Rattle.binder.specs.Setting.{Setting}
 use Rattle.binder.specs.Instance.{File, objectFrom}
@@ -49,24 +50,29 @@ objectsOf setting (h ∷ (p ∷ fs)) = objsOf (objectFrom setting) h p fs
 unfoldable pub unless : Bool → ℕ → ℕ → Verdict
 unless t n k = pick t Passed (Refused n k)
 
--- 2 to 12 and 21 of a set, which a query meets too
-unfoldable pub prepareVerdict : Setting → List Input → ℕ → Verdict
-prepareVerdict setting os size =
+-- 2 to 12 and 21 of a set, which a query meets too; `types` is what a call that binds meets between 2 and 3
+unfoldable pub prepareVerdict : Setting → Verdict → List Input → ℕ → Verdict
+prepareVerdict setting types os size =
     first (unless (arenaOk size (setting .address)) 2 0)
+    (first types
     (first (unless (eqb (duplicateOf os) 0) 3 (duplicateOf os))
-    (loadVerdict (objectsOf setting (filesOf os)) size 0 (filesOf os)))
+    (loadVerdict (objectsOf setting (filesOf os)) size 0 (filesOf os))))
+
+-- "24, after 2": of the words of the types
+abbrev pub typesVerdict : Setting → Verdict
+typesVerdict setting = unless (setting .typed) 24 0
 
 -- 19: "Strict policy and an undefined entry"
 abbrev pub allows : Policy → ℕ → Bool
 allows Strict undefined = eqb undefined 0
 allows Lenient undefined = true
 
--- 14 to 20 of a set's objects in an order
-unfoldable pub relocateVerdict : Objs → List File → List ℕ → Policy → ℕ → Verdict
-relocateVerdict S files order policy words =
-    first (orderVerdict S files order)
-    (first (unless (allows policy (firstUndefined S files order)) 19 (firstUndefined S files order))
-    (unless (leb (length (orderWords S files order)) words) 20 0))
+-- 14 to 20, 22 and 25 of a set's objects in an order
+unfoldable pub relocateVerdict : (ℕ → Row) → Objs → List File → List ℕ → Policy → ℕ → Verdict
+relocateVerdict row S files order policy words =
+    first (orderVerdict row S files order)
+    (first (unless (allows policy (firstUndefined row S files order)) 19 (firstUndefined row S files order))
+    (unless (leb (length (orderWords row S files order)) words) 20 0))
 
 -- ---- bind
 
@@ -86,13 +92,13 @@ outcomeOf size words Passed arena report = outcome answers.the-variants.Bound ar
 -- a set bound in an order, in an arena of `size` bytes and with a report of `words` words
 unfoldable pub bindIn : Setting → Verdict → List File → List ℕ → ℕ → Policy → ℕ → Outcome
 bindIn setting prepared files order size policy words =
-    outcomeOf size words (first prepared (relocateVerdict (objectsOf setting files) files order policy words))
-    (tab size (bound (objectsOf setting files) order)) (orderWords (objectsOf setting files) files order)
+    outcomeOf size words (first prepared (relocateVerdict (setting .row) (objectsOf setting files) files order policy words))
+    (tab size (bound (objectsOf setting files) order)) (orderWords (setting .row) (objectsOf setting files) files order)
 
--- a set bound in its order: refusals 2 to 20
+-- a set bound in its order: refusals 2 to 25
 unfoldable pub bindSet : Setting → List Input → ℕ → Policy → ℕ → Outcome
 bindSet setting os size policy words =
-    bindIn setting (prepareVerdict setting os size) (filesOf os) (setOrder (filesOf os) (namesOf os)) size policy words
+    bindIn setting (prepareVerdict setting (typesVerdict setting) os size) (filesOf os) (setOrder (filesOf os) (namesOf os)) size policy words
 
 -- what `bind` answers for a sheet and its bytes: refusal 1, or what it does for the sheet's set
 unfoldable pub bindOf : Setting → List ℕ → List ℕ → ℕ → Policy → ℕ → Outcome
@@ -121,7 +127,7 @@ repliedOf size Passed reply arena = replied reply arena
 -- a set that is asked: it "meets only refusals 1 to 13", 2 to 13 here, and 21
 unfoldable pub askSet : Setting → List Input → ℕ → ℕ → List ℕ → Replied
 askSet setting os size requester name =
-    repliedOf size (first (prepareVerdict setting os size) (unless (ltb requester (length os)) 13 0))
+    repliedOf size (first (prepareVerdict setting Passed os size) (unless (ltb requester (length os)) 13 0))
     (replyOf (resolve (objectsOf setting (filesOf os)) requester (byName name))) (tab size (placed (objectsOf setting (filesOf os))))
 
 -- what `query` answers for a sheet and its bytes

@@ -15,7 +15,7 @@ use Rattle.object.specs.declared.hash_tables.Exported.{Exported}
 use Rattle.object.specs.declared.hash_tables.Exported.the-variants.{Absent, Present}
 use Rattle.object.specs.Symbol.{symbolAt, symbolName}
 use Rattle.object.specs.HashTable.{answerIn}
-use Rattle.object.specs.RelocationTypes.{Row, noSearch, inScope, ignored, passedOver, turnedAway, copies, writes, rowOf}
+use Rattle.object.specs.RelocationTypes.{Row, noSearch, inScope, ignored, passedOver, turnedAway, markedRefuse, copies, writes}
 use Rattle.object.specs.Entries.{relasFrom, relrsFrom, Location, Word, place, nowhere, relrWords}
 use Rattle.object.specs.Entries as entries
 use Rattle.object.specs.Record.{Record, viewOf}
@@ -64,6 +64,7 @@ unfoldable pub entryBy : List ℕ → Record → ℕ → Rela → Row → Entry
 entryBy image r base e ignored = pass
 entryBy image r base e passedOver = pass
 entryBy image r base e turnedAway = pass
+entryBy image r base e markedRefuse = pass
 entryBy image r base e (writes noSearch f) = fixed (e .place) (f .width) (f .value 0 (e .addend) base (base + e .place))
 entryBy image r base e (writes (inScope searched) f) =
     pick (searched (e .symbol))
@@ -72,8 +73,9 @@ entryBy image r base e (writes (inScope searched) f) =
 entryBy image r base e copies =
     copy (e .place) (wantedBy image r (e .symbol)) (symbolAt image (r .symbols) (e .symbol) .size)
 
-abbrev pub entryOf : List ℕ → Record → ℕ → Rela → Entry
-entryOf image r base e = entryBy image r base e (rowOf (e .rtype))
+-- `row` says what an entry of a type does
+abbrev pub entryOf : (ℕ → Row) → List ℕ → Record → ℕ → Rela → Entry
+entryOf row image r base e = entryBy image r base e (row (e .rtype))
 
 -- the object of a file at an offset, in a setting; the host's relocation tables are not read
 unfoldable pub objectAt : Setting → File → ℕ → Obj
@@ -85,7 +87,7 @@ objectAt setting f off =
       image = objectBytes (f .host) (f .bytes);
       find = λ wanted. exportedOf (answerIn (fileImage f) (viewOf (fileRecord f)) (wanted .name));
       words = pick (f .host) [] (placesOf (namedWords (fileImage f) (fileRecord f)));
-      entries = pick (f .host) [] (map (entryOf (fileImage f) (fileRecord f) (setting .address + off)) (relasOf (fileImage f) (fileRecord f)));
+      entries = pick (f .host) [] (map (entryOf (setting .row) (fileImage f) (fileRecord f) (setting .address + off)) (relasOf (fileImage f) (fileRecord f)));
     }
 
 -- ---- where an object goes: "Each object after the host goes to the next free offset where arena address plus offset is a multiple of" its

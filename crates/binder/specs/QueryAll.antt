@@ -71,7 +71,7 @@ addressesOf S requester names = map (λ name. addressOr0 (resolve S requester (b
 unfoldable pub askAllSet : Setting → List Input → ℕ → ℕ → List ℕ → ℕ → RepliedAll
 askAllSet setting os size requester list words =
     repliedAllOf size words
-    (first (prepareVerdict setting os size) (first (unless (ltb requester (length os)) 13 0) (unless (listOk list words) 23 0)))
+    (first (prepareVerdict setting Passed os size) (first (unless (ltb requester (length os)) 13 0) (unless (listOk list words) 23 0)))
     (tab size (placed (objectsOf setting (filesOf os)))) (addressesOf (objectsOf setting (filesOf os)) requester (namesIn list))
 
 -- what `query_all` answers for a sheet and its bytes, in an arena of `size` bytes and with a slice of `words` words

@@ -11,7 +11,7 @@ use Rattle.model.specs.Symbols.{Resolved, absent, answer}
 use Rattle.model.specs.Objects.{Objs}
 use Rattle.model.specs.Scope.{resolve, resolveCopy}
 use Rattle.object.specs.Symbol.{symbolAt, bindingOf}
-use Rattle.object.specs.RelocationTypes.{Row, noSearch, inScope, ignored, passedOver, turnedAway, copies, writes, rowOf}
+use Rattle.object.specs.RelocationTypes.{Row, noSearch, inScope, ignored, passedOver, turnedAway, markedRefuse, copies, writes}
 use Rattle.object.specs.Record.{Record}
 use Rattle.object.specs.declared.relocate.Rela.{Rela}
 use Rattle.binder.specs.Instance.{File, fileImage, fileRecord, relasOf, wantedBy}
@@ -34,41 +34,43 @@ unfoldable pub undefinedBy : Objs → ℕ → List ℕ → Record → Rela → R
 undefinedBy S k image r e ignored = false
 undefinedBy S k image r e passedOver = false
 undefinedBy S k image r e turnedAway = false
+undefinedBy S k image r e markedRefuse = false
 undefinedBy S k image r e (writes noSearch f) = false
 undefinedBy S k image r e (writes (inScope searched) f) =
     both (searched (e .symbol)) (unresolved image r e (resolve S k (wantedBy image r (e .symbol))))
 undefinedBy S k image r e copies = unresolved image r e (resolveCopy S (wantedBy image r (e .symbol)))
 
-abbrev pub isUndefined : Objs → ℕ → List ℕ → Record → Rela → Bool
-isUndefined S k image r e = undefinedBy S k image r e (rowOf (e .rtype))
+abbrev pub isUndefined : (ℕ → Row) → Objs → ℕ → List ℕ → Record → Rela → Bool
+isUndefined row S k image r e = undefinedBy S k image r e (row (e .rtype))
 
 abbrev pub isPassed : Row → Bool
 isPassed ignored = false
 isPassed passedOver = true
 isPassed turnedAway = false
+isPassed markedRefuse = false
 isPassed (writes search f) = false
 isPassed copies = false
 
 -- the words of the entries, the first of which has the number `i`
-unfoldable pub entryReport : Objs → ℕ → List ℕ → Record → ℕ → List Rela → List ℕ
-entryReport S k image r i [] = []
-entryReport S k image r i (e ∷ es) =
-    pick (isUndefined S k image r e) (reportWord 6 i ∷ [])
-    (pick (isPassed (rowOf (e .rtype))) (reportWord 7 i ∷ []) [])
-    ++ entryReport S k image r (i + 1) es
+unfoldable pub entryReport : (ℕ → Row) → Objs → ℕ → List ℕ → Record → ℕ → List Rela → List ℕ
+entryReport row S k image r i [] = []
+entryReport row S k image r i (e ∷ es) =
+    pick (isUndefined row S k image r e) (reportWord 6 i ∷ [])
+    (pick (isPassed (row (e .rtype))) (reportWord 7 i ∷ []) [])
+    ++ entryReport row S k image r (i + 1) es
 
-unfoldable pub objectWords : Objs → ℕ → File → List ℕ
-objectWords S k f = reportWord 5 k ∷ entryReport S k (fileImage f) (fileRecord f) 0 (relasOf (fileImage f) (fileRecord f))
+unfoldable pub objectWords : (ℕ → Row) → Objs → ℕ → File → List ℕ
+objectWords row S k f = reportWord 5 k ∷ entryReport row S k (fileImage f) (fileRecord f) 0 (relasOf (fileImage f) (fileRecord f))
 
 -- the words of the objects of an order
-unfoldable pub orderWords : Objs → List File → List ℕ → List ℕ
-orderWords S files [] = []
-orderWords S files (k ∷ ks) = objectWords S k (getD files k noFile) ++ orderWords S files ks
+unfoldable pub orderWords : (ℕ → Row) → Objs → List File → List ℕ → List ℕ
+orderWords row S files [] = []
+orderWords row S files (k ∷ ks) = objectWords row S k (getD files k noFile) ++ orderWords row S files ks
 
 -- 19: the first object of an order that has an undefined entry; 0 where none has
-unfoldable pub hasUndefined : Objs → ℕ → File → Bool
-hasUndefined S k f = some (isUndefined S k (fileImage f) (fileRecord f)) (relasOf (fileImage f) (fileRecord f))
+unfoldable pub hasUndefined : (ℕ → Row) → Objs → ℕ → File → Bool
+hasUndefined row S k f = some (isUndefined row S k (fileImage f) (fileRecord f)) (relasOf (fileImage f) (fileRecord f))
 
-unfoldable pub firstUndefined : Objs → List File → List ℕ → ℕ
-firstUndefined S files [] = 0
-firstUndefined S files (k ∷ ks) = pick (hasUndefined S k (getD files k noFile)) k (firstUndefined S files ks)
+unfoldable pub firstUndefined : (ℕ → Row) → Objs → List File → List ℕ → ℕ
+firstUndefined row S files [] = 0
+firstUndefined row S files (k ∷ ks) = pick (hasUndefined row S k (getD files k noFile)) k (firstUndefined row S files ks)

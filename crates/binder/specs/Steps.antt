@@ -9,3 +9,4 @@ pub mod RunSteps
 pub mod Needed
 pub mod Finished
 pub mod AllNames
+pub mod TypesBefore

@@ -1,5 +1,5 @@
--- Refusals of a set, each with its object: 4 to 12 and 21 object by object, 14 to 18 and 22 entry by entry in binding order. Document 01,
--- "Refused, in checking order"; document 02, (a) and (b). All are functions of the placed images. Assumes nothing.
+-- Refusals of a set, each with its object: 4 to 12 and 21 object by object, 14 to 18, 22 and 25 entry by entry in binding order. Document
+-- 01, "Refused, in checking order"; document 02, (a), (b) and (f). All are functions of the placed images. Assumes nothing.
 use mathlib.Core.Bool.{Bool, true, false, not}
 use mathlib.Core.List.{List, [], _∷_}
 use Prim.Native.Nat.{ℕ, zero, suc, _+_, _-_, min}
@@ -13,7 +13,7 @@ use Rattle.model.specs.Relocation.{addressOr0}
 use Rattle.object.specs.Refusal.{require}
 use Rattle.object.specs.TableBytes.{inWritable}
 use Rattle.object.specs.Symbol.{bindingOf}
-use Rattle.object.specs.RelocationTypes.{Calculation, Row, noSearch, inScope, ignored, passedOver, turnedAway, copies, writes, rowOf}
+use Rattle.object.specs.RelocationTypes.{Calculation, Row, noSearch, inScope, ignored, passedOver, turnedAway, markedRefuse, copies, writes}
 use Rattle.object.specs.Entries.{Word, place, nowhere}
 use Rattle.object.specs.Record.{Record, checkedSymbol}
 use Rattle.object.specs.Loaded.{objectRefusal}
@@ -42,7 +42,7 @@ loadVerdict S size k [] = Passed
 loadVerdict S size k (f ∷ fs) =
     first (verdict (objectRefusal (f .host) (size - (obj S k) .offset) (f .bytes)) k) (loadVerdict S size (k + 1) fs)
 
--- ---- 14 to 18 and 22: "entry by entry in binding order"
+-- ---- 14 to 18, 22 and 25: "entry by entry in binding order"
 
 -- 17: "A written place .. not inside one writable PT_LOAD of its object, or a RELR bit set before any address"
 abbrev pub wordRefusal : Record → Word → ℕ
@@ -74,11 +74,12 @@ abbrev pub symbolThen : CheckedSymbol → (Symbol → ℕ) → ℕ
 symbolThen (checked.the-variants.Refused n) rest = n
 symbolThen (checked.the-variants.Checked y) rest = rest y
 
--- 14 to 18 and 22 of an entry, by the row of its type
+-- 14 to 18, 22 and 25 of an entry, by the row of its type
 unfoldable pub refusalBy : Objs → ℕ → List ℕ → Record → Rela → Row → ℕ
 refusalBy S k image r e ignored = 0
 refusalBy S k image r e passedOver = 0
 refusalBy S k image r e turnedAway = 16
+refusalBy S k image r e markedRefuse = 25
 refusalBy S k image r e (writes noSearch f) = fieldRefusal ((obj S k) .base) r e f 0
 refusalBy S k image r e (writes (inScope searched) f) =
     symbolThen (checkedSymbol image r (e .symbol))
@@ -86,28 +87,28 @@ refusalBy S k image r e (writes (inScope searched) f) =
 refusalBy S k image r e copies =
     symbolThen (checkedSymbol image r (e .symbol)) (λ y. copyRefusal S k r (e .place) (y .size) (resolveCopy S (wantedBy image r (e .symbol))))
 
-abbrev pub entryRefusal : Objs → ℕ → List ℕ → Record → Rela → ℕ
-entryRefusal S k image r e = refusalBy S k image r e (rowOf (e .rtype))
+abbrev pub entryRefusal : (ℕ → Row) → Objs → ℕ → List ℕ → Record → Rela → ℕ
+entryRefusal row S k image r e = refusalBy S k image r e (row (e .rtype))
 
 -- the words that RELR names, then the entries of RELA and PLT
 unfoldable pub wordsVerdict : ℕ → Record → List Word → Verdict
 wordsVerdict k r [] = Passed
 wordsVerdict k r (w ∷ ws) = first (verdict (wordRefusal r w) k) (wordsVerdict k r ws)
 
-unfoldable pub entriesVerdict : Objs → ℕ → List ℕ → Record → List Rela → Verdict
-entriesVerdict S k image r [] = Passed
-entriesVerdict S k image r (e ∷ es) = first (verdict (entryRefusal S k image r e) k) (entriesVerdict S k image r es)
+unfoldable pub entriesVerdict : (ℕ → Row) → Objs → ℕ → List ℕ → Record → List Rela → Verdict
+entriesVerdict row S k image r [] = Passed
+entriesVerdict row S k image r (e ∷ es) = first (verdict (entryRefusal row S k image r e) k) (entriesVerdict row S k image r es)
 
-unfoldable pub objectVerdict : Objs → ℕ → File → Verdict
-objectVerdict S k f =
+unfoldable pub objectVerdict : (ℕ → Row) → Objs → ℕ → File → Verdict
+objectVerdict row S k f =
     first (wordsVerdict k (fileRecord f) (namedWords (fileImage f) (fileRecord f)))
-    (entriesVerdict S k (fileImage f) (fileRecord f) (relasOf (fileImage f) (fileRecord f)))
+    (entriesVerdict row S k (fileImage f) (fileRecord f) (relasOf (fileImage f) (fileRecord f)))
 
 -- what a number that is no object's stands for
 abbrev pub noFile : File
 noFile = record { host = true; bytes = [] }
 
 -- the objects of an order, one after another
-unfoldable pub orderVerdict : Objs → List File → List ℕ → Verdict
-orderVerdict S files [] = Passed
-orderVerdict S files (k ∷ ks) = first (objectVerdict S k (getD files k noFile)) (orderVerdict S files ks)
+unfoldable pub orderVerdict : (ℕ → Row) → Objs → List File → List ℕ → Verdict
+orderVerdict row S files [] = Passed
+orderVerdict row S files (k ∷ ks) = first (objectVerdict row S k (getD files k noFile)) (orderVerdict row S files ks)

@@ -4,7 +4,7 @@ ghost use Prim.Native.Nat.{_≤_};
 ghost use lib.Dec.{eqb};
 ghost use lib.ListN.{length, replicate, take};
 ghost use Rattle.sheet.specs.Steps.Parts.{inputsIn};
-ghost use Rattle.binder.specs.Setting.{settingAt};
+ghost use Rattle.binder.specs.Setting.{settingOf};
 ghost use Rattle.binder.specs.Bind.{outcome, bindOf, allows};
 ghost use Rattle.scope.specs.Steps.Links.{Filtered};
 ghost use Rattle.binder.specs.Steps.Finished.{endsBy, Relocated, BoundSet, finishedOf};
@@ -34,7 +34,7 @@ fn is_zero(n: u32) -> bool
     false
 }
 
-// The refusal of relocating: 14 to 18, then 19, then 20.
+// The refusal of relocating: 14 to 18, 22 or 25, then 19, then 20.
 fn end(p: Progress, policy: Policy) -> Verdict
     ensures { λ r. ⌜ r ≡ endsBy policy p ⌝ }
 {
@@ -59,7 +59,7 @@ fn end(p: Progress, policy: Policy) -> Verdict
     Verdict::Passed
 }
 
-// Refusals 14 to 20 of the objects that the table of parts names, which are loaded: they are relocated in any order of them.
+// Refusals 14 to 20, 22 and 25 of the objects that the table of parts names, which are loaded: they are relocated in any order of them.
 pub fn bind_in(
     bytes: &[u8],
     parts: Parts,
@@ -76,23 +76,26 @@ pub fn bind_in(
     end(p, policy)
 }
 
-// Refusals 2 to 20 of the objects that the table of parts names, bound in the order of the set.
+// Refusals 2 to 25 of the objects that the table of parts names, bound in the order of the set.
 fn bind_set(
     bytes: &[u8],
     parts: Parts,
     arena: &mut [u8],
     address: u64,
     policy: Policy,
+    types: &[u32],
     report: &mut [u32],
 ) -> Verdict
     requires { ⌜ (2 ≤ parts .count) × (parts .count ≤ 64) × (length (inputsIn (now bytes) parts) ≡ parts .count) × (now report ≡ replicate (length (now report)) 0) ⌝ }
-    ensures { λ r. ⌜ BoundSet (settingAt address) (inputsIn (now (bytes .entry)) parts) (length (now (arena .entry))) policy (length (now (report .entry))) (now (arena .exit)) (now (report .exit)) r ⌝ }
+    ensures { λ r. ⌜ BoundSet (settingOf address (now (types .entry))) (inputsIn (now (bytes .entry)) parts) (length (now (arena .entry))) policy (length (now (report .entry))) (now (arena .exit)) (now (report .exit)) r ⌝ }
 {
-    let mut table = [0u64; 1026];
-    let m = crate::prepare::prepare(bytes, parts, arena, address, &mut table);
+    let mut table = [0u64; 1090];
+    let v = crate::types::types_verdict(types);
+    let m = crate::prepare::prepare(bytes, parts, arena, address, v, &mut table);
     let Verdict::Passed = m else {
         return m;
     };
+    crate::types::put_types(&mut table, types);
     let order = crate::needs::order_of(bytes, parts, arena, &table);
     bind_in(bytes, parts, arena, policy, report, &table, order)
 }
@@ -112,16 +115,17 @@ fn finish(m: Verdict, arena: &mut [u8], report: &mut [u32]) -> Answer
     }
 }
 
-// Binds the set of a sheet and its bytes in the arena at `address`. A refused sheet's table of parts names no object.
+// Binds the set of a sheet and its bytes in the arena at `address`, each type as its word says. A refused sheet's table of parts names no object.
 pub fn bind(
     sheet: &[u32],
     bytes: &[u8],
     arena: &mut [u8],
     address: u64,
     policy: Policy,
+    types: &[u32],
     report: &mut [u32],
 ) -> Answer
-    ensures { λ r. ⌜ outcome r (now (arena .exit)) (now (report .exit)) ≡ bindOf (settingAt address) (now (sheet .entry)) (now (bytes .entry)) (length (now (arena .entry))) policy (length (now (report .entry))) ⌝ }
+    ensures { λ r. ⌜ outcome r (now (arena .exit)) (now (report .exit)) ≡ bindOf (settingOf address (now (types .entry))) (now (sheet .entry)) (now (bytes .entry)) (length (now (arena .entry))) policy (length (now (report .entry))) ⌝ }
 {
     words::bytes::clear_words(report);
     let parts = sheet::sheet::parts_of(sheet, bytes.len());
@@ -132,6 +136,6 @@ pub fn bind(
         };
         return finish(one, arena, report);
     }
-    let m = bind_set(bytes, parts, arena, address, policy, report);
+    let m = bind_set(bytes, parts, arena, address, policy, types, report);
     finish(m, arena, report)
 }

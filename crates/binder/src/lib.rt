@@ -10,6 +10,7 @@ pub mod relocate;
 pub mod relr;
 pub mod report;
 pub mod turn;
+pub mod types;
 
 // What happens to a set with undefined entries: it is refused, or bound with a report.
 pub enum Policy {

@@ -109,17 +109,18 @@ fn load_all(
     Verdict::Passed
 }
 
-// Refusals 2 to 12 and 21 of the objects that the table of parts names; what passes is loaded, whatever the arena holds before, and its links,
+// Refusals 2 to 12 and 21 of the objects that the table of parts names, and `types` between 2 and 3; what passes is loaded, whatever the arena holds before, and its links,
 // its count and the arena's address are in the table.
 pub fn prepare(
     bytes: &[u8],
     parts: Parts,
     arena: &mut [u8],
     address: u64,
+    types: Verdict,
     table: &mut [u64],
 ) -> Verdict
     requires { ⌜ (parts .count ≤ 64) × (length (inputsIn (now bytes) parts) ≡ parts .count) × (1026 ≤ length (now table)) ⌝ }
-    ensures { λ r. ⌜ Prepared (settingAt address) (inputsIn (now (bytes .entry)) parts) (now (arena .entry)) (now (arena .exit)) (now (table .exit)) r ⌝ }
+    ensures { λ r. ⌜ Prepared (settingAt address) types (inputsIn (now (bytes .entry)) parts) (now (arena .entry)) (now (arena .exit)) (now (table .exit)) r ⌝ }
 {
     if !sheet::sheet::arena_ok(arena.len(), address) {
         return Verdict::Refused {
@@ -127,6 +128,9 @@ pub fn prepare(
             object: 0,
         };
     }
+    let Verdict::Passed = types else {
+        return types;
+    };
     let t = sheet::sheet::duplicate(bytes, parts);
     if t != 0 {
         return Verdict::Refused {

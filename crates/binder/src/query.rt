@@ -56,7 +56,7 @@ fn ask_set(
 {
     let count = parts.count;
     let mut table = [0u64; 1026];
-    let m = crate::prepare::prepare(bytes, parts, arena, address, &mut table);
+    let m = crate::prepare::prepare(bytes, parts, arena, address, Verdict::Passed, &mut table);
     if let Verdict::Refused { number, object } = m {
         return refuse(number, object, arena);
     }

@@ -1,4 +1,4 @@
-// Relocation: port of strategies/relocate.rs. The objects one after another: RELR, RELA, PLT; refusals 14 to 18 and 22, entry
+// Relocation: port of strategies/relocate.rs. The objects one after another: RELR, RELA, PLT; refusals 14 to 18, 22 and 25, entry
 // by entry.
 ghost use mathlib.Core.Path.{_≡_};
 ghost use mathlib.Core.Bool.{true};
@@ -7,15 +7,13 @@ ghost use lib.Dec.{eqb};
 ghost use lib.ListN.{length, take};
 ghost use Rattle.words.specs.Choice.{pick};
 ghost use Rattle.words.specs.Names.{nameAt};
-ghost use Rattle.object.specs.RelocationTypes.{rowOf};
 ghost use Rattle.object.specs.Entries.{relaAt};
-ghost use Rattle.object.specs.Steps.Actions.{relativeWord, fieldBy, searchedBy, rowBy};
-ghost use Rattle.object.specs.declared.relocate.Action.the-variants as actions;
+ghost use Rattle.object.specs.Steps.Actions.{relativeWord, fieldBy, searchedBy};
 ghost use Rattle.object.specs.Record.{heldBy, checkedSymbol};
 ghost use Rattle.object.specs.Steps.WritableRange.{WritableRange};
 ghost use Rattle.sheet.specs.Steps.Parts.{inputsIn};
 ghost use Rattle.scope.specs.Steps.Links.{Filtered};
-ghost use Rattle.binder.specs.Steps.Relocating.{left, wrote, started, imageIn, fieldOf, fixedOf, symbolRefusal, soughtFor, soughtForCopy, soughtOf, writeSought, copyingOf, runAction, runTable, runTables, runObject, runAt, runOrder};
+ghost use Rattle.binder.specs.Steps.Relocating.{left, wrote, started, imageIn, fieldOf, fixedOf, symbolRefusal, soughtFor, soughtForCopy, soughtOf, writeSought, copyingOf, runAction, runTable, runTables, runObject, runAt, runOrder, rowAt};
 ghost use Rattle.binder.specs.Steps.RunSteps.{InReach, RelativesWritten, EntriesPassed, SymbolsOf, EntryRead, addressFound, SymbolsPassed};
 ghost use Rattle.binder.specs.declared.relocate.Address.the-variants.{At};
 use crate::order::Order;
@@ -223,9 +221,9 @@ fn run_action(
     e: Rela,
 ) -> Progress
     requires { ⌜ Filtered (now table) ⌝ }
-    ensures { λ r. ⌜ left r (now (arena .exit)) (now (report .exit)) ≡ runAction (now (table .entry)) t (heldBy o) i e (rowOf (e .rtype)) p (now (arena .entry)) (now (report .entry)) ⌝ }
+    ensures { λ r. ⌜ left r (now (arena .exit)) (now (report .exit)) ≡ runAction (now (table .entry)) t (heldBy o) i e (rowAt (now (table .entry)) (e .rtype)) p (now (arena .entry)) (now (report .entry)) ⌝ }
 {
-    let a = object::relocate::action_of(e.rtype);
+    let a = crate::types::action_at(table, e.rtype);
     match a {
         Action::Ignored => p,
         Action::Passed => crate::report::note(
@@ -234,6 +232,7 @@ fn run_action(
             std::num::wrapping_add_u32(0x7000_0000, i),
         ),
         Action::Irelative => crate::report::refused(p, t, 16),
+        Action::Refused => crate::report::refused(p, t, 25),
         Action::Relative => relative(arena, p, t, object::dynamic_fields::bounds_of(o), e),
         Action::Symbolic(f) => {
             let s = seek(arena, p, table, t, o, e, f);
@@ -272,8 +271,8 @@ fn in_reach(len: usize, t: Turn, at: usize, n: u32, high: usize) -> bool
     n as usize <= (t.span - at) / 24
 }
 
-// As many entries that are Relative as follow one another from entry `start` on, below `n`, with places in low .. high: base + addend. The
-// first entry that is not of this kind. The table and low .. high lie in the part.
+// As many entries of type 8 as follow one another from entry `start` on, below `n`, with places in low .. high: base + addend. The first
+// entry that is not of this kind. The table and low .. high lie in the part.
 fn relatives(
     part: &mut [u8],
     base: u64,
@@ -290,7 +289,7 @@ fn relatives(
     let mut i = start;
     let mut k = at + 24 * (start as usize);
     while i < n {
-        if !is_relative(words::bytes::u32_in(part, k + 8)) {
+        if words::bytes::u32_in(part, k + 8) != 8 {
             return i;
         }
         let place = words::bytes::u64_in(part, k) as usize;
@@ -309,9 +308,10 @@ fn relatives(
 }
 
 // The same, of the object at its place in the arena, where low .. high is in a writable segment: its part is lent. Nothing is done where the
-// table is not inside the span.
+// table is not inside the span, or type 8 is not applied.
 fn run_relatives(
     arena: &mut [u8],
+    table: &[u64],
     t: Turn,
     at: usize,
     start: u32,
@@ -320,9 +320,12 @@ fn run_relatives(
     high: usize,
 ) -> u32
     requires { ⌜ start ≤ n ⌝ }
-    ensures { λ r. ⌜ (start ≤ r) × (r ≤ n) × EntriesPassed t at n low high start (now (arena .entry)) r (now (arena .exit)) ⌝ }
+    ensures { λ r. ⌜ (start ≤ r) × (r ≤ n) × EntriesPassed (now (table .entry)) t at n low high start (now (arena .entry)) r (now (arena .exit)) ⌝ }
 {
     if !in_reach(arena.len(), t, at, n, high) {
+        return start;
+    }
+    if !crate::types::applies_relative(table) {
         return start;
     }
     let off = t.offset;
@@ -362,16 +365,6 @@ fn symbols_of(arena: &[u8], t: Turn, o: ObjectData) -> Symbols
     }
 }
 
-fn is_relative(rtype: u32) -> bool
-    ensures { λ r. ⌜ (r ≡ true → rowOf rtype ≡ rowBy actions.Relative) ⌝ }
-{
-    let a = object::relocate::action_of(rtype);
-    match a {
-        Action::Relative => true,
-        _ => false,
-    }
-}
-
 // Whether the symbols that need no test lie in the span.
 fn symbols_in(t: Turn, y: Symbols) -> bool
     ensures { λ r. ⌜ (r ≡ true → y .symbols + 24 * y .fits ≤ t .span) ⌝ }
@@ -396,11 +389,19 @@ pub enum SymbolEntry {
 }
 
 // The entry that stands at `k` of the arena.
-fn symbol_entry(arena: &[u8], t: Turn, y: Symbols, k: usize, low: usize, high: usize) -> SymbolEntry
+fn symbol_entry(
+    arena: &[u8],
+    table: &[u64],
+    t: Turn,
+    y: Symbols,
+    k: usize,
+    low: usize,
+    high: usize,
+) -> SymbolEntry
     requires { ⌜ (k + 24 ≤ length (now arena)) × (t .offset + y .symbols + 24 * y .fits ≤ length (now arena)) × (8 ≤ high) ⌝ }
-    ensures { λ r. ⌜ EntryRead (now (arena .entry)) t y k low high r ⌝ }
+    ensures { λ r. ⌜ EntryRead (now (table .entry)) (now (arena .entry)) t y k low high r ⌝ }
 {
-    let a = object::relocate::action_of(words::bytes::u32_in(arena, k + 8));
+    let a = crate::types::action_at(table, words::bytes::u32_in(arena, k + 8));
     let Action::Symbolic(field) = a else {
         return SymbolEntry::Other;
     };
@@ -486,7 +487,7 @@ fn symbolics(
     let mut p = s;
     let mut k = t.offset + at + 24 * (s.next as usize);
     while p.next < n {
-        let e = symbol_entry(arena, t, y, k, w.low, w.high);
+        let e = symbol_entry(arena, table, t, y, k, w.low, w.high);
         let SymbolEntry::Here {
             field,
             place,
@@ -515,8 +516,8 @@ fn symbolics(
 }
 
 // Whether the loops above may do entries of a type.
-fn in_runs(rtype: u32) -> bool {
-    let a = object::relocate::action_of(rtype);
+fn in_runs(table: &[u64], rtype: u32) -> bool {
+    let a = crate::types::action_at(table, rtype);
     match a {
         Action::Relative => true,
         Action::Symbolic(f) => true,
@@ -525,11 +526,11 @@ fn in_runs(rtype: u32) -> bool {
 }
 
 // The range to be used after an entry: after one that the loops above do, the segment of its place.
-fn range_after(w: Writable, b: Bounds, rtype: u32, place: usize) -> Writable
+fn range_after(table: &[u64], w: Writable, b: Bounds, rtype: u32, place: usize) -> Writable
     requires { ⌜ WritableRange (take (b .count) (b .segments)) (w .low) (w .high) ⌝ }
     ensures { λ r. ⌜ WritableRange (take (b .count) (b .segments)) (r .low) (r .high) ⌝ }
 {
-    if !in_runs(rtype) {
+    if !in_runs(table, rtype) {
         return w;
     }
     object::table_bytes::writable_at(b, place, 8)
@@ -564,7 +565,7 @@ fn run_table(
     let mut i = 0u32;
     while i < n {
         let s = Run {
-            next: run_relatives(arena, t, at, i, n, w.low, w.high),
+            next: run_relatives(arena, table, t, at, i, n, w.low, w.high),
             last: q.last,
             address: q.address,
         };
@@ -580,7 +581,7 @@ fn run_table(
         if q.refusal != 0 {
             return q;
         }
-        w = range_after(w, b, e.rtype, e.place);
+        w = range_after(table, w, b, e.rtype, e.place);
         i = j + 1;
     }
     q

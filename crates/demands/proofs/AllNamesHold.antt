@@ -49,7 +49,7 @@ word-is size v (answer k s b) a e = rw e refl
 module _ (setting : Setting) (sheet bytes : List ℕ) (size requester : ℕ) where
   -- refusals 1 to 13 and 21
   abbrev asking : Verdict
-  asking = first (sheetVerdict setting sheet bytes size) (unless (ltb requester (length (setOf sheet bytes))) 13 0)
+  asking = first (sheetVerdict setting Passed sheet bytes size) (unless (ltb requester (length (setOf sheet bytes))) 13 0)
 
   abbrev S : Objs
   S = objectsIn setting (setOf sheet bytes)
@@ -81,7 +81,7 @@ pub single-queries : SingleQueries
 single-queries setting sheet bytes size requester list slots some =
     query-all-one setting sheet bytes size requester list slots
     ∙ rw (query-one setting sheet bytes size requester some)
-    (put-together size slots (sheetVerdict setting sheet bytes size) (unless (ltb requester (length (setOf sheet bytes))) 13 0) (listOk list slots)
+    (put-together size slots (sheetVerdict setting Passed sheet bytes size) (unless (ltb requester (length (setOf sheet bytes))) 13 0) (listOk list slots)
     (resolve (S setting sheet bytes size requester) requester (byName some)) (tab size (placed (S setting sheet bytes size requester))) _ _
     (λ e. words-are setting sheet bytes size requester e (namesIn list)))
 
@@ -180,7 +180,7 @@ pub all-lengths : AllLengths
 unfolding addressesOf
 all-lengths setting sheet bytes size requester list slots r arena words e =
     answered-lengths size slots _ _ _ r arena words (length-tab size _)
-    (λ v. length-map (namesIn list) _ ∙ end-to-end list slots (list-passed (sheetVerdict setting sheet bytes size) (unless (ltb requester (length (setOf sheet bytes))) 13 0) (listOk list slots) v) .1)
+    (λ v. length-map (namesIn list) _ ∙ end-to-end list slots (list-passed (sheetVerdict setting Passed sheet bytes size) (unless (ltb requester (length (setOf sheet bytes))) 13 0) (listOk list slots) v) .1)
     (sym (query-all-one setting sheet bytes size requester list slots) ∙ e)
 
 -- ---- a longer set
@@ -217,12 +217,12 @@ longer-all setting sheet bytes size requester list slots arena words e f n added
     let T : List ℕ = sheet ++ (f ∷ (n ∷ [])) in
     let more : List ℕ = bytes ++ added in
     let x = answered-all size slots _ _ _ arena words (sym (query-all-one setting sheet bytes size requester list slots) ∙ e) in
-    let p = first-passed (sheetVerdict setting sheet bytes size) _ (x .0) in
+    let p = first-passed (sheetVerdict setting Passed sheet bytes size) _ (x .0) in
     let q = first-passed (unless (ltb requester (length os)) 13 0) (unless (listOk list slots) 23 0) (p .1) in
     let ok : listOk list slots ≡ true = unless-passed (listOk list slots) 23 0 (q .1) in
     let l : requester < length os = ltb-true requester (length os) (unless-passed (ltb requester (length os)) 13 0 (q .0)) in
     let h : requester < length (setOf T more) =
-    omega (arith, longer-count os (setOf T more) (sheet-longer sheet bytes f n added (sheet-prepared sheet bytes setting size (p .0) .0))) in
+    omega (arith, longer-count os (setOf T more) (sheet-longer sheet bytes f n added (sheet-prepared sheet bytes setting Passed size (p .0) .0))) in
     let passed : asking setting sheet bytes size requester ≡ Passed = both-passed (p .0) (q .0) in
     let ws : words ≡ map (word setting sheet bytes size requester) (namesIn list) = x .1 ∙ words-are setting sheet bytes size requester passed (namesIn list) in (
       map (word setting T more size′ requester) (namesIn list),

@@ -2,14 +2,14 @@
 use mathlib.Core.Path.{refl}
 use Rattle.words.specs.Hash.{hashBy, elfHash, gnuHash}
 use Rattle.model.specs.Order.{visit, orderOf}
-use Rattle.object.specs.RelocationTypes.{rowOf}
+use Rattle.object.specs.RelocationTypes.{appliedRow}
 use Rattle.object.specs.Entries.{relrOf, bitWords, relrWords}
 use Rattle.object.specs.SymbolCount.{countOf}
 use Rattle.binder.specs.Instance.{entryBy}
 use Rattle.demands.specs.Cases.{Cases}
 
 pub cases : Cases
-unfolding hashBy elfHash gnuHash relrOf bitWords relrWords rowOf visit orderOf countOf entryBy
+unfolding hashBy elfHash gnuHash relrOf bitWords relrWords appliedRow visit orderOf countOf entryBy
 cases =
     record {
       elf-empty = refl;

@@ -1,13 +1,13 @@
 -- Document 02, (b): the cases hold. Assumes nothing.
 use mathlib.Core.Path.{refl}
 use Rattle.object.specs.Refusal.{require}
-use Rattle.object.specs.RelocationTypes.{rowOf}
+use Rattle.object.specs.RelocationTypes.{appliedRow}
 use Rattle.binder.specs.Instance.{entryBy}
 use Rattle.binder.specs.Report.{undefinedBy}
 use Rattle.demands.specs.FieldCases.{FieldCases}
 
 pub field-cases : FieldCases
-unfolding rowOf entryBy undefinedBy require
+unfolding appliedRow entryBy undefinedBy require
 field-cases =
     record {
       direct = λ B P. refl;

@@ -100,7 +100,7 @@ module _ (setting : Setting) (size : ℕ) (h p : Input) (ls : List Input) (v : l
   placed-host i l = rw (files-are h p ls) (placed-first setting h (fileOf p) fs i l)
 
   bound-host :
-      orderVerdict (objectsIn setting (h ∷ (p ∷ ls))) (filesOf (h ∷ (p ∷ ls))) (orderIn (h ∷ (p ∷ ls))) ≡ Passed
+      orderVerdict (setting .row) (objectsIn setting (h ∷ (p ∷ ls))) (filesOf (h ∷ (p ∷ ls))) (orderIn (h ∷ (p ∷ ls))) ≡ Passed
       → (i : ℕ) → i < length (h .file)
       → bound (objectsIn setting (h ∷ (p ∷ ls))) (orderIn (h ∷ (p ∷ ls))) i ≡ mem (h .file) i
   unfolding objectsOf objectSpan objectFrom objectAt nextOffset layouts.objsOf
@@ -126,7 +126,7 @@ module _ (setting : Setting) (size : ℕ) (os : List Input) (s : Shape os) (v : 
       (λ i l. rw (s .is) (placed-host setting size (s .host) (s .program) (s .libs) (rw (s .is) at v) i l))
 
   bound-in :
-      orderVerdict (objectsIn setting os) (filesOf os) (orderIn os) ≡ Passed → HostIn os (tab size (bound (objectsIn setting os) (orderIn os)))
+      orderVerdict (setting .row) (objectsIn setting os) (filesOf os) (orderIn os) ≡ Passed → HostIn os (tab size (bound (objectsIn setting os) (orderIn os)))
   bound-in w =
       host-in (bound (objectsIn setting os) (orderIn os))
       (λ i l. rw (s .is) (bound-host setting size (s .host) (s .program) (s .libs) (rw (s .is) at v) (rw (s .is) at w) i l))
@@ -159,5 +159,5 @@ host-kept = record { bound = bind-host; asked = query-host }
         → HostIn (setOf sheet bytes) arena
     query-host setting sheet bytes size requester name r arena e ne =
         let a = answered size _ _ _ r arena (sym (query-one setting sheet bytes size requester name) ∙ e) ne in
-        let q = prepared sheet bytes setting size (sheet-prepared sheet bytes setting size (first-passed (sheetVerdict setting sheet bytes size) _ (a .0) .0)) in
+        let q = prepared sheet bytes setting size (sheet-prepared sheet bytes setting Passed size (first-passed (sheetVerdict setting Passed sheet bytes size) _ (a .0) .0)) in
         rw (a .1) (placed-in setting size (setOf sheet bytes) (sheet-shape sheet bytes (length bytes) (q .sheet-ok)) (q .loads))

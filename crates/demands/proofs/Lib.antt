@@ -5,6 +5,7 @@ pub mod LongerQueryLaw
 pub mod CasesHold
 pub mod FieldCasesHold
 pub mod RefusalCasesHold
+pub mod TypesHold
 pub mod OrderReported
 pub mod RefusalNumbers
 pub mod RefusalsHold

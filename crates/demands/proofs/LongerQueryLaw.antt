@@ -19,7 +19,7 @@ use Rattle.sheet.proofs.SheetLonger.{Longer, sheet-longer}
 use Rattle.binder.specs.declared.Policy.{Policy}
 use Rattle.binder.specs.declared.Reply.{Reply}
 use Rattle.binder.specs.declared.Reply.the-variants.{Found}
-use Rattle.binder.specs.Setting.{Setting}
+use Rattle.binder.specs.Setting.{Setting, settingAt}
 use Rattle.binder.specs.Instance.{File, objectFrom}
 use Rattle.binder.specs.declared.Verdict.{Verdict}
 use Rattle.binder.specs.declared.Verdict.the-variants.{Passed, Refused}
@@ -27,7 +27,8 @@ use Rattle.binder.specs.Bind.{filesOf, objectsOf, unless, prepareVerdict, repli
 use Rattle.demands.proofs.PassedSet.{sheet-prepared}
 use Rattle.demands.specs.LongerSet.{PassesLoading, BoundBy, setObjects, LongerQuery}
 use Rattle.binder.proofs.LoadsSame.{loads-same}
-use Rattle.binder.proofs.OutcomeLaws.{first-passed, unless-passed, sheetVerdict, query-one, bound-passed}
+use Rattle.binder.proofs.OutcomeLaws.{first-passed, unless-passed, sheetVerdict, query-one, AllPassed, bound-passed}
+use Rattle.binder.proofs.TypesLaws.{verdict-as}
 use Rattle.binder.proofs.FileLaws.{hostFile, fileOf, files-are, files-longer}
 use Rattle.binder.proofs.SoundLaws.{count-is}
 
@@ -66,13 +67,19 @@ kept setting os os′ l r small name k s a e pos =
     )
 
 -- a bound set passed refusals 1 to 12
+prepared-so :
+    (setting : Setting) (sheet bytes : List ℕ) (size words : ℕ) (arena report : List ℕ) → AllPassed setting sheet bytes size words arena report
+    → prepareVerdict setting Passed (setOf sheet bytes) size ≡ Passed
+unfolding prepareVerdict unless
+prepared-so setting sheet bytes size words arena report p =
+    rw (p .arena-ok, p .no-duplicate) (loads-same setting size (filesOf (setOf sheet bytes)) ∙ p .loads)
+
 loaded :
     (setting : Setting) (sheet bytes : List ℕ) (size : ℕ) (policy : Policy) (words : ℕ) (arena report : List ℕ)
-    → BoundBy setting sheet bytes size policy words arena report → PassesLoading setting sheet bytes size
-unfolding prepareVerdict unless
+    → BoundBy setting sheet bytes size policy words arena report → PassesLoading (settingAt (setting .address)) sheet bytes size
 loaded setting sheet bytes size policy words arena report e =
     let p = bound-passed setting sheet bytes size policy words arena report e in
-    (p .sheet-ok, rw (p .arena-ok, p .no-duplicate) (loads-same setting size (filesOf (setOf sheet bytes)) ∙ p .loads))
+    (p .sheet-ok, verdict-as setting Passed (setOf sheet bytes) size ∙ prepared-so setting sheet bytes size words arena report p)
 
 -- what a set that is not refused replies
 pub asked :
@@ -91,8 +98,8 @@ same :
 same setting sheet bytes size requester name k i a arena e pos f n added size′ v =
     let os : List Input = setOf sheet bytes in
     let p = found-passed size _ _ _ arena k i a (sym (query-one setting sheet bytes size requester name) ∙ e) in
-    let q = first-passed (sheetVerdict setting sheet bytes size) (unless (ltb requester (length os)) 13 0) (p .0) in
-    let ok = sheet-prepared sheet bytes setting size (q .0) .0 in
+    let q = first-passed (sheetVerdict setting Passed sheet bytes size) (unless (ltb requester (length os)) 13 0) (p .0) in
+    let ok = sheet-prepared sheet bytes setting Passed size (q .0) .0 in
     let l = ltb-true requester (length os) (unless-passed (ltb requester (length os)) 13 0 (q .1)) in
     let x = found-answer (resolve (setObjects setting sheet bytes) requester (byName name)) k i a (p .1) in
     let t = kept setting os (setOf (sheet ++ (f ∷ (n ∷ []))) (bytes ++ added)) (sheet-longer sheet bytes f n added ok) requester l name k (x .0) a

@@ -28,7 +28,7 @@ abbrev Loads : Setting → ℕ → List File → Type 0
 Loads setting size files = loadFrom setting size 0 0 files ≡ Passed
 
 abbrev Relocates : Setting → List File → List (List ℕ) → Type 0
-Relocates setting files names = orderVerdict (objectsOf setting files) files (setOrder files names) ≡ Passed
+Relocates setting files names = orderVerdict (setting .row) (objectsOf setting files) files (setOrder files names) ≡ Passed
 
 -- what is claimed, of two sets in arenas of `size` and `size′` bytes
 abbrev Keeps : Setting → ℕ → List File → List (List ℕ) → ℕ → List File → List (List ℕ) → Type 0

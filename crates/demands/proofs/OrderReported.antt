@@ -11,7 +11,7 @@ use Rattle.words.specs.Choice.{pick}
 use Rattle.model.specs.Objects.{Objs}
 use Rattle.model.specs.Order.{has, Before, Reach, OnceEach}
 use Rattle.model.proofs.OrderLaws.{has-head, has-cons, needed-first}
-use Rattle.object.specs.RelocationTypes.{rowOf}
+use Rattle.object.specs.RelocationTypes.{Row}
 use Rattle.object.specs.Record.{Record}
 use Rattle.object.specs.declared.relocate.Rela.{Rela}
 use Rattle.sheet.specs.Sheet.{Input, setOf}
@@ -62,28 +62,28 @@ entry-none i true t ws = number-other (reportWord 6 i) ws (λ e. omega arith)
 entry-none i false true ws = number-other (reportWord 7 i) ws (λ e. omega arith)
 entry-none i false false ws = refl
 
-entries-none : (S : Objs) (k : ℕ) (image : List ℕ) (r : Record) (i : ℕ) (es : List Rela) → numbersOf 5 (entryReport S k image r i es) ≡ []
+entries-none : (row : ℕ → Row) (S : Objs) (k : ℕ) (image : List ℕ) (r : Record) (i : ℕ) (es : List Rela) → numbersOf 5 (entryReport row S k image r i es) ≡ []
 unfolding entryReport numbersOf
-entries-none S k image r i [] = refl
-entries-none S k image r i (e ∷ es) =
-    entry-none i (isUndefined S k image r e) (isPassed (rowOf (e .rtype))) (entryReport S k image r (i + 1) es)
-    ∙ entries-none S k image r (i + 1) es
+entries-none row S k image r i [] = refl
+entries-none row S k image r i (e ∷ es) =
+    entry-none i (isUndefined row S k image r e) (isPassed (row (e .rtype))) (entryReport row S k image r (i + 1) es)
+    ∙ entries-none row S k image r (i + 1) es
 
 -- the words of an order whose numbers fit 28 bits
 order-numbers :
-    (S : Objs) (files : List File) (order : List ℕ) → ((k : ℕ) → has k order ≡ true → k < 2 ^ 28)
-    → numbersOf 5 (orderWords S files order) ≡ order
+    (row : ℕ → Row) (S : Objs) (files : List File) (order : List ℕ) → ((k : ℕ) → has k order ≡ true → k < 2 ^ 28)
+    → numbersOf 5 (orderWords row S files order) ≡ order
 unfolding orderWords objectWords
-order-numbers S files [] small = no-zeros 0
-order-numbers S files (k ∷ ks) small =
+order-numbers row S files [] small = no-zeros 0
+order-numbers row S files (k ∷ ks) small =
     let f : File = getD files k noFile in
-    let es : List ℕ = entryReport S k (fileImage f) (fileRecord f) 0 (relasOf (fileImage f) (fileRecord f)) in
-    number-five k (es ++ orderWords S files ks) (small k (has-head k ks))
+    let es : List ℕ = entryReport row S k (fileImage f) (fileRecord f) 0 (relasOf (fileImage f) (fileRecord f)) in
+    number-five k (es ++ orderWords row S files ks) (small k (has-head k ks))
     ∙ ap (λ (l : List ℕ). k ∷ l)
-    (numbers-append 5 es (orderWords S files ks)
-    ∙ (ap (λ (l : List ℕ). l ++ numbersOf 5 (orderWords S files ks))
-    (entries-none S k (fileImage f) (fileRecord f) 0 (relasOf (fileImage f) (fileRecord f)))
-    ∙ order-numbers S files ks (λ j h. small j (has-cons j k ks h))))
+    (numbers-append 5 es (orderWords row S files ks)
+    ∙ (ap (λ (l : List ℕ). l ++ numbersOf 5 (orderWords row S files ks))
+    (entries-none row S k (fileImage f) (fileRecord f) 0 (relasOf (fileImage f) (fileRecord f)))
+    ∙ order-numbers row S files ks (λ j h. small j (has-cons j k ks h))))
 
 append-nil : (l : List ℕ) → l ++ [] ≡ l
 append-nil [] = refl
@@ -107,13 +107,13 @@ order-report setting sheet bytes size policy words arena report e =
     let os : List Input = setOf sheet bytes in
     let p = bound-passed setting sheet bytes size policy words arena report e in
     let c = counts sheet bytes (p .sheet-ok) in
-    let ws : List ℕ = orderWords (objectsIn setting os) (filesOf os) (orderIn os) in
+    let ws : List ℕ = orderWords (setting .row) (objectsIn setting os) (filesOf os) (orderIn os) in
     let is : numbersOf 5 report ≡ orderIn os =
     ap (λ (l : List ℕ). numbersOf 5 l) (p .report-is)
     ∙ (numbers-append 5 ws (replicate (words - length ws) 0)
     ∙ (ap (λ (l : List ℕ). numbersOf 5 ws ++ l) (no-zeros (words - length ws))
     ∙ (append-nil (numbersOf 5 ws)
-    ∙ order-numbers (objectsIn setting os) (filesOf os) (orderIn os) (order-small (filesOf os) (namesOf os) (c .few))))) in
+    ∙ order-numbers (setting .row) (objectsIn setting os) (filesOf os) (orderIn os) (order-small (filesOf os) (namesOf os) (c .few))))) in
     record {
       order = is;
       once = rw is (subst (λ (n : ℕ). OnceEach n (orderIn os)) (c .all) (set-order (filesOf os) (namesOf os)));

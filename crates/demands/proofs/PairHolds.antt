@@ -1,5 +1,5 @@
 -- The pair of sheets is as it is said to be. Assumes nothing.
-use mathlib.Core.Path.{_≡_, refl, sym, subst, _∙_}
+use mathlib.Core.Path.{_≡_, refl, sym, ap, subst, _∙_}
 use mathlib.Core.Bool.{Bool, true, false}
 use mathlib.Core.List.{List, [], _∷_, _++_, List·Memᴰ, List·Memᴰ·head, List·Memᴰ·tail, List·Memᴰ·not-nil}
 use Prim.Native.Nat.{ℕ, zero, suc, _+_, _-_, _≤_, _<_}
@@ -29,7 +29,7 @@ use Rattle.object.specs.HashTable.{walk, walkFrom, mayHold, isHit, isExportedHi
 use Rattle.object.specs.HashTable as hashes
 use Rattle.object.specs.HashCheck.{symbolOk}
 use Rattle.object.specs.Entries.{relaAt, relasFrom, relrsFrom, relrWords}
-use Rattle.object.specs.RelocationTypes.{rowOf}
+use Rattle.object.specs.RelocationTypes.{rowIn, rowUnder, appliedRow, suppliedTypes, mayApply}
 use Rattle.object.specs.Placed.{objectBytes}
 use Rattle.object.specs.Record.{Record, viewOf, indexOk, checkedSymbol}
 use Rattle.sheet.specs.Sheet.{Input, pairOk, libWords, total, sheetOk, cut, libsOf, setOf, arenaOk, duplicateFrom}
@@ -38,11 +38,12 @@ use Rattle.binder.specs.declared.Policy.the-variants.{Lenient}
 use Rattle.binder.specs.declared.Answer.the-variants.{Bound}
 use Rattle.binder.specs.Instance.{File, exportedOf, placesOf, namedWords, relasOf, entryBy, objectAt, multipleFrom, nextOffset, objectFrom}
 use Rattle.binder.specs.Verdict.{verdict, refusalBy, wordsVerdict, entriesVerdict, objectVerdict, orderVerdict}
+use Rattle.binder.specs.declared.Verdict.{Verdict}
 use Rattle.binder.specs.declared.Verdict.the-variants.{Passed}
 use Rattle.binder.specs.Steps.Prepared.{loadFrom}
 use Rattle.binder.specs.Report.{reportWord, isAbsent, undefinedBy, entryReport, objectWords, orderWords}
 use Rattle.binder.specs.SetOrder.{neededObjects, setOrder}
-use Rattle.binder.specs.Bind.{filesOf, namesOf, objectsOf, unless, prepareVerdict, relocateVerdict, outcome, outcomeOf, bindIn, bindSet, bindOf, queryOf, replied, replyOf}
+use Rattle.binder.specs.Bind.{filesOf, namesOf, objectsOf, unless, prepareVerdict, typesVerdict, relocateVerdict, outcome, outcomeOf, bindIn, bindSet, bindOf, queryOf, replied, replyOf}
 use Rattle.demands.specs.LongerSet.{PassesLoading, BoundBy, setObjects}
 use Rattle.demands.specs.PairOfSheets.{wordBytes, hostFile, programFile, libraryFile, setting, sheet, bytes, longerSheet, longerBytes, PairOfSheets}
 use Rattle.demands.proofs.LongerQueryLaw.{asked}
@@ -61,6 +62,7 @@ use Rattle.demands.proofs.PairFiles.{
   b-reads,
 }
 use Rattle.binder.proofs.LoadsSame.{loads-same}
+use Rattle.demands.proofs.TypesHold.{supplied-ok}
 
 -- ---- the sets
 
@@ -123,7 +125,7 @@ unfolding objectFrom objectAt nextOffset
 host-is = rw (host-reads .image-is, host-reads .record-is, host-reads .span-is)
 
 program-is : objectFrom setting (file false programFile) 0x1000 ≡ programObj
-unfolding objectFrom objectAt nextOffset wordBytes tab mem byteOf leAt untilZero placesOf namedWords relrWords relrsFrom relasOf relasFrom relaAt entryBy rowOf
+unfolding objectFrom objectAt nextOffset wordBytes tab mem byteOf leAt untilZero placesOf namedWords relrWords relrsFrom relasOf relasFrom relaAt entryBy rowIn rowUnder appliedRow suppliedTypes mayApply some
 program-is = rw (program-reads .align-is, program-reads .image-is, program-reads .record-is, program-reads .span-is)
 
 a-is : objectFrom setting (file false (libraryFile 97)) 0x3000 ≡ libraryObj 97 0x3000
@@ -217,20 +219,20 @@ T-order = order-two _ (rw (a-reads .record-is)) (rw (b-reads .record-is))
 
 -- ---- refusals 14 to 18: none reads another object
 
-program-verdict : (A : Objs) → objectVerdict A 1 (file false programFile) ≡ Passed
+program-verdict : (A : Objs) → objectVerdict (setting .row) A 1 (file false programFile) ≡ Passed
 unfolding objectVerdict wordsVerdict entriesVerdict verdict refusalBy wordBytes every some tab mem byteOf leAt untilZero namedWords relrWords relrsFrom
-    relasOf relasFrom relaAt rowOf checkedSymbol indexOk symbolOk isTable tableBytes tableName inWritable require below
+    relasOf relasFrom relaAt rowIn rowUnder appliedRow suppliedTypes mayApply checkedSymbol indexOk symbolOk isTable tableBytes tableName inWritable require below
 program-verdict A = rw (program-reads .image-is, program-reads .record-is)
 
-library-verdict : (A : Objs) (k c : ℕ) → Reads false (libraryFile c) 0x1000 (libraryImage c) libraryRecord → objectVerdict A k (file false (libraryFile c)) ≡ Passed
+library-verdict : (A : Objs) (k c : ℕ) → Reads false (libraryFile c) 0x1000 (libraryImage c) libraryRecord → objectVerdict (setting .row) A k (file false (libraryFile c)) ≡ Passed
 unfolding objectVerdict wordsVerdict entriesVerdict namedWords relrWords relrsFrom relasOf relasFrom
 library-verdict A k c reads = rw (reads .image-is, reads .record-is)
 
-S-entries : orderVerdict S files (2 ∷ 1 ∷ []) ≡ Passed
+S-entries : orderVerdict (setting .row) S files (2 ∷ 1 ∷ []) ≡ Passed
 unfolding orderVerdict
 S-entries = rw (library-verdict S 2 97 a-reads, program-verdict S)
 
-T-entries : orderVerdict T longerFiles (2 ∷ 3 ∷ 1 ∷ []) ≡ Passed
+T-entries : orderVerdict (setting .row) T longerFiles (2 ∷ 3 ∷ 1 ∷ []) ≡ Passed
 unfolding orderVerdict
 T-entries = rw (library-verdict T 2 97 a-reads, library-verdict T 3 98 b-reads, program-verdict T)
 
@@ -254,35 +256,44 @@ look = record { a-in-S = refl; a-in-T = refl; b-in-S = refl; b-in-T = refl }
 
 program-words :
     (A : Objs) (t : Bool) → isAbsent (resolve A 1 (byName (97 ∷ []))) ≡ false → isAbsent (resolve A 1 (byName (98 ∷ []))) ≡ t
-    → objectWords A 1 (file false programFile) ≡ 0x50000001 ∷ pick t (0x60000001 ∷ []) []
-unfolding objectWords entryReport undefinedBy wordBytes tab mem byteOf leAt untilZero relasOf relasFrom relaAt rowOf symbolFrom
+    → objectWords (setting .row) A 1 (file false programFile) ≡ 0x50000001 ∷ pick t (0x60000001 ∷ []) []
+unfolding objectWords entryReport undefinedBy wordBytes tab mem byteOf leAt untilZero relasOf relasFrom relaAt rowIn rowUnder appliedRow suppliedTypes mayApply some symbolFrom
 program-words A true a b = rw (program-reads .image-is, program-reads .record-is, a, b)
 program-words A false a b = rw (program-reads .image-is, program-reads .record-is, a, b)
 
 library-words :
     (A : Objs) (k c : ℕ) → Reads false (libraryFile c) 0x1000 (libraryImage c) libraryRecord
-    → objectWords A k (file false (libraryFile c)) ≡ reportWord 5 k ∷ []
+    → objectWords (setting .row) A k (file false (libraryFile c)) ≡ reportWord 5 k ∷ []
 unfolding objectWords entryReport relasOf relasFrom
 library-words A k c reads = rw (reads .image-is, reads .record-is)
 
-S-words : orderWords S files (2 ∷ 1 ∷ []) ≡ 0x50000002 ∷ (0x50000001 ∷ (0x60000001 ∷ []))
+S-words : orderWords (setting .row) S files (2 ∷ 1 ∷ []) ≡ 0x50000002 ∷ (0x50000001 ∷ (0x60000001 ∷ []))
 unfolding orderWords
 S-words = rw (library-words S 2 97 a-reads, program-words S true (rw (look .a-in-S)) (rw (look .b-in-S)))
 
-T-words : orderWords T longerFiles (2 ∷ 3 ∷ 1 ∷ []) ≡ 0x50000002 ∷ (0x50000003 ∷ (0x50000001 ∷ []))
+T-words : orderWords (setting .row) T longerFiles (2 ∷ 3 ∷ 1 ∷ []) ≡ 0x50000002 ∷ (0x50000003 ∷ (0x50000001 ∷ []))
 unfolding orderWords
 T-words = rw (library-words T 2 97 a-reads, library-words T 3 98 b-reads, program-words T false (rw (look .a-in-T)) (rw (look .b-in-T)))
 
 -- ---- bound
 
+types-passed : typesVerdict setting ≡ Passed
+unfolding unless
+types-passed = rw supplied-ok
+
+prepared-typed :
+    (sheet bytes : List ℕ) (size : ℕ) → PassesLoading setting sheet bytes size
+    → prepareVerdict setting (typesVerdict setting) (setOf sheet bytes) size ≡ Passed
+prepared-typed sheet bytes size v = ap (λ (t : Verdict). prepareVerdict setting t (setOf sheet bytes) size) types-passed ∙ v .1
+
 -- a set whose stages are known
 bind-passed :
     (sheet bytes : List ℕ) (size : ℕ) (os : List Input) (order ws : List ℕ) (A : Objs) → setOf sheet bytes ≡ os
     → PassesLoading setting sheet bytes size → objectsOf setting (filesOf os) ≡ A → setOrder (filesOf os) (namesOf os) ≡ order
-    → orderVerdict A (filesOf os) order ≡ Passed → orderWords A (filesOf os) order ≡ ws → leb (length ws) 16 ≡ true
+    → orderVerdict (setting .row) A (filesOf os) order ≡ Passed → orderWords (setting .row) A (filesOf os) order ≡ ws → leb (length ws) 16 ≡ true
     → bindOf setting sheet bytes size Lenient 16 ≡ outcome Bound (tab size (bound A order)) (ws ++ replicate (16 - length ws) 0)
 unfolding bindOf bindSet bindIn relocateVerdict unless outcomeOf
-bind-passed sheet bytes size os order ws A s v o r e w l = rw (v .0, v .1, s, o, r, e, w, l)
+bind-passed sheet bytes size os order ws A s v o r e w l = rw (v .0, prepared-typed sheet bytes size v, s, o, r, e, w, l)
 
 S-bound : BoundBy setting sheet bytes 0x4000 Lenient 16 (tab 0x4000 (bound S (2 ∷ 1 ∷ []))) (0x50000002 ∷ 0x50000001 ∷ 0x60000001 ∷ replicate 13 0)
 unfolding filesOf namesOf

@@ -14,6 +14,7 @@ use Rattle.sheet.proofs.SheetLonger.{sheet-shape}
 use Rattle.binder.specs.Setting.{Setting}
 use Rattle.binder.specs.Instance.{File}
 use Rattle.binder.specs.Verdict.{noFile, loadVerdict}
+use Rattle.binder.specs.declared.Verdict.{Verdict}
 use Rattle.binder.specs.declared.Verdict.the-variants.{Passed}
 use Rattle.binder.specs.Steps.Prepared.{loadFrom}
 use Rattle.binder.specs.SetOrder.{neededObjects, setOrder}
@@ -39,10 +40,14 @@ module _ (sheet bytes : List ℕ) where
       record { sheet-ok = v .0; loads = sym (loads-same setting size (filesOf os)) ∙ c .1 }
 
   -- of the one verdict
-  pub sheet-prepared : (setting : Setting) (size : ℕ) → sheetVerdict setting sheet bytes size ≡ Passed → PassesLoading setting sheet bytes size
-  sheet-prepared setting size v =
+  pub sheet-prepared :
+      (setting : Setting) (types : Verdict) (size : ℕ) → sheetVerdict setting types sheet bytes size ≡ Passed → PassesLoading setting sheet bytes size
+  unfolding prepareVerdict
+  sheet-prepared setting types size v =
       let a = first-passed (unless (sheetOk sheet (length bytes)) 1 0) _ v in
-      (unless-passed (sheetOk sheet (length bytes)) 1 0 (a .0), a .1)
+      let b = first-passed (unless (arenaOk size (setting .address)) 2 0) _ (a .1) in
+      let c = first-passed types _ (b .1) in
+      (unless-passed (sheetOk sheet (length bytes)) 1 0 (a .0), rw (b .0) (c .1))
 
   -- its libraries have a name each, and are at most 62
   pub record Counts : Type 0 where

@@ -35,7 +35,7 @@ use Rattle.object.specs.declared.program_header.Dynamic.{Dynamic}
 use Rattle.object.specs.declared.program_header.Dynamic.the-variants.{Missing, At}
 use Rattle.object.specs.declared.symbol.Symbol.{Symbol}
 use Rattle.object.specs.declared.relocate.Rela.{Rela}
-use Rattle.object.specs.RelocationTypes.{Calculation, Row, noSearch, inScope, ignored, passedOver, turnedAway, copies, writes, rowOf}
+use Rattle.object.specs.RelocationTypes.{Calculation, Row, noSearch, inScope, ignored, passedOver, turnedAway, markedRefuse, copies, writes}
 use Rattle.object.specs.declared.entry_symbol.CheckedSymbol as checked
 use Rattle.sheet.specs.Sheet.{Input, noInput, named, duplicateFrom, duplicateOf}
 use Rattle.binder.specs.Instance.{File, fileImage, fileRecord, namedWords, relasOf, wantedBy}
@@ -137,10 +137,10 @@ object-number host room file =
     after-told (LoadNumber host) (placeRefusal host room file) _ (place-number host room file)
     (from-range host _ (read-range host (objectImage host file) (segmentsOf host file) (dynamicOf file)))
 
--- ---- 14 to 18, and 22
+-- ---- 14 to 18, 22 and 25
 
 abbrev pub EntryNumber : ℕ → Type 0
-EntryNumber n = (14 ≤ n) × (n ≤ 22) × (n ≢ 19) × (n ≢ 20) × (n ≢ 21)
+EntryNumber n = (14 ≤ n) × (n ≤ 25) × (n ≢ 19) × (n ≢ 20) × (n ≢ 21) × (n ≢ 23) × (n ≢ 24)
 
 abbrev EntryRange : ℕ → Type 0
 EntryRange n = 0 < n → EntryNumber n
@@ -194,6 +194,7 @@ unfolding refusalBy
 entry-range S k image r e ignored = λ z. absurd (omega arith)
 entry-range S k image r e passedOver = λ z. absurd (omega arith)
 entry-range S k image r e turnedAway = λ z. omega arith
+entry-range S k image r e markedRefuse = λ z. omega arith
 entry-range S k image r e (writes noSearch f) = field-range ((obj S k) .base) r e f 0
 entry-range S k image r e (writes (inScope searched) f) =
     symbol-range image r (e .symbol) (λ y. fieldRefusal ((obj S k) .base) r e f found) (λ y. field-range ((obj S k) .base) r e f found)
@@ -264,22 +265,22 @@ module _ (P : ℕ → ℕ → Type 0) where
       not-first (yes l) e = l
       not-first (no l) e = absurd (clash (first (omega arith)) e)
 
-  -- 14 to 18 and 22, of object `k`
-  module _ (S : Objs) (k : ℕ) (h : (n : ℕ) → EntryNumber n → P n k) where
+  -- 14 to 18, 22 and 25, of object `k`
+  module _ (row : ℕ → Row) (S : Objs) (k : ℕ) (h : (n : ℕ) → EntryNumber n → P n k) where
     words-meets : (r : Record) (ws : List Word) → Meets P (wordsVerdict k r ws)
     unfolding wordsVerdict
     words-meets r [] = tt
     words-meets r (w ∷ ws) =
         first-meets (verdict (wordRefusal r w) k) _ (verdict-meets _ (wordRefusal r w) k (word-range r w) (h _)) (words-meets r ws)
 
-    entries-meets : (image : List ℕ) (r : Record) (es : List Rela) → Meets P (entriesVerdict S k image r es)
+    entries-meets : (image : List ℕ) (r : Record) (es : List Rela) → Meets P (entriesVerdict row S k image r es)
     unfolding entriesVerdict
     entries-meets image r [] = tt
     entries-meets image r (e ∷ es) =
-        first-meets (verdict (entryRefusal S k image r e) k) _
-        (verdict-meets _ (entryRefusal S k image r e) k (entry-range S k image r e (rowOf (e .rtype))) (h _)) (entries-meets image r es)
+        first-meets (verdict (entryRefusal row S k image r e) k) _
+        (verdict-meets _ (entryRefusal row S k image r e) k (entry-range S k image r e (row (e .rtype))) (h _)) (entries-meets image r es)
 
-    object-meets : (f : File) → Meets P (objectVerdict S k f)
+    object-meets : (f : File) → Meets P (objectVerdict row S k f)
     unfolding objectVerdict
     object-meets f =
         first-meets (wordsVerdict k (fileRecord f) (namedWords (fileImage f) (fileRecord f))) _
@@ -288,26 +289,26 @@ module _ (P : ℕ → ℕ → Type 0) where
 
   -- of the objects of an order
   pub order-meets :
-      (S : Objs) (files : List File) (order : List ℕ) → ((n k : ℕ) → EntryNumber n → has k order ≡ true → P n k)
-      → Meets P (orderVerdict S files order)
+      (row : ℕ → Row) (S : Objs) (files : List File) (order : List ℕ) → ((n k : ℕ) → EntryNumber n → has k order ≡ true → P n k)
+      → Meets P (orderVerdict row S files order)
   unfolding orderVerdict
-  order-meets S files [] h = tt
-  order-meets S files (k ∷ ks) h =
-      first-meets (objectVerdict S k (getD files k noFile)) _
-      (object-meets S k (λ n l. h n k l (has-head k ks)) (getD files k noFile))
-      (order-meets S files ks (λ n j l m. h n j l (has-cons j k ks m)))
+  order-meets row S files [] h = tt
+  order-meets row S files (k ∷ ks) h =
+      first-meets (objectVerdict row S k (getD files k noFile)) _
+      (object-meets row S k (λ n l. h n k l (has-head k ks)) (getD files k noFile))
+      (order-meets row S files ks (λ n j l m. h n j l (has-cons j k ks m)))
 
 -- ---- 19: an object of the order, or none
 
-pub first-undefined : (S : Objs) (files : List File) (order : List ℕ) → firstUndefined S files order ≢ 0 → has (firstUndefined S files order) order ≡ true
+pub first-undefined : (row : ℕ → Row) (S : Objs) (files : List File) (order : List ℕ) → firstUndefined row S files order ≢ 0 → has (firstUndefined row S files order) order ≡ true
 unfolding firstUndefined
-first-undefined S files [] ne = absurd (ne refl)
-first-undefined S files (k ∷ ks) ne =
+first-undefined row S files [] ne = absurd (ne refl)
+first-undefined row S files (k ∷ ks) ne =
     ⊎-elim
-    (λ (t : hasUndefined S k (getD files k noFile) ≡ true). rw t (has-head k ks))
-    (λ (t : hasUndefined S k (getD files k noFile) ≡ false).
-    rw t (has-cons (firstUndefined S files ks) k ks (first-undefined S files ks (rw t at ne))))
-    (decide (hasUndefined S k (getD files k noFile)))
+    (λ (t : hasUndefined row S k (getD files k noFile) ≡ true). rw t (has-head k ks))
+    (λ (t : hasUndefined row S k (getD files k noFile) ≡ false).
+    rw t (has-cons (firstUndefined row S files ks) k ks (first-undefined row S files ks (rw t at ne))))
+    (decide (hasUndefined row S k (getD files k noFile)))
 
 -- ---- 3: an object with a library before it, or none
 

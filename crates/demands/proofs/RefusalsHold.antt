@@ -38,10 +38,12 @@ use Rattle.binder.specs.Bind.{
   outcome,
   outcomeOf,
   bindIn,
+  typesVerdict,
   replied,
   replyOf,
   repliedOf,
 }
+use Rattle.object.specs.RelocationTypes.{Row}
 use Rattle.binder.proofs.OutcomeLaws.{first-passed, unless-passed, objectsIn, orderIn, sheetVerdict, bind-one, query-one}
 use Rattle.binder.proofs.PrepareLaws.{files-length}
 use Rattle.demands.specs.Refusals.{withoutObject, ObjectOf, BindNumber, BindRefusals, QueryNumber, QueryRefusals, Answered, Lengths}
@@ -65,27 +67,28 @@ abbrev Right : (ℕ → Type 0) → ℕ → ℕ → ℕ → Type 0
 Right N count n k = N n × ObjectOf count n k
 
 -- a refusal without an object
-without : (count n : ℕ) → has n withoutObject ≡ true → n ≢ 3 → (14 ≤ n → n ≢ 20 → ⊥) → ObjectOf count n 0
+without : (count n : ℕ) → has n withoutObject ≡ true → n ≢ 3 → (14 ≤ n → n ≢ 20 → n ≢ 24 → ⊥) → ObjectOf count n 0
 without count n e three entry =
     record {
       zero = λ _. refl;
       object = λ f. absurd (clash e f);
       later = λ z. absurd (three z);
-      entry = λ l h. absurd (entry l h);
+      entry = λ l h i. absurd (entry l h i);
     }
 
-not-without : (n : ℕ) → n ≢ 1 → n ≢ 2 → n ≢ 13 → n ≢ 20 → has n withoutObject ≡ false
-not-without n a b c d = rw (ne-eqb n 1 a, ne-eqb n 2 b, ne-eqb n 13 c, ne-eqb n 20 d)
+not-without : (n : ℕ) → n ≢ 1 → n ≢ 2 → n ≢ 13 → n ≢ 20 → n ≢ 24 → has n withoutObject ≡ false
+not-without n a b c d e = rw (ne-eqb n 1 a, ne-eqb n 2 b, ne-eqb n 13 c, ne-eqb n 20 d, ne-eqb n 24 e)
 
 -- a refusal of object `k`
 of-object :
-    (count n k : ℕ) → n ≢ 1 → n ≢ 2 → n ≢ 13 → n ≢ 20 → k < count → (n ≡ 3 → 3 ≤ k) → (14 ≤ n → n ≢ 20 → 1 ≤ k) → ObjectOf count n k
-of-object count n k a b c d small later entry =
+    (count n k : ℕ) → n ≢ 1 → n ≢ 2 → n ≢ 13 → n ≢ 20 → n ≢ 24 → k < count → (n ≡ 3 → 3 ≤ k) → (14 ≤ n → n ≢ 20 → n ≢ 24 → 1 ≤ k)
+    → ObjectOf count n k
+of-object count n k a b c d y small later entry =
     record {
-      zero = λ e. absurd (clash e (not-without n a b c d));
+      zero = λ e. absurd (clash e (not-without n a b c d y));
       object = λ _. omega arith;
       later = λ e. omega (arith, later e);
-      entry = λ l h. omega (arith, entry l h);
+      entry = λ l h i. omega (arith, entry l h i);
     }
 
 host-first : (os : List Input) → HostFirst (filesOf os)
@@ -97,24 +100,26 @@ module _ (setting : Setting) (sheet bytes : List ℕ) (size : ℕ) where
   abbrev os : List Input
   os = setOf sheet bytes
 
-  -- 1 to 12, and 21
+  -- 1 to 12 and 21, and what is met between 2 and 3
   prepare-right :
-      (N : ℕ → Type 0) → ((n : ℕ) → 1 ≤ n → n ≤ 12 → N n) → N 21 → Meets (Right N (length os)) (sheetVerdict setting sheet bytes size)
+      (N : ℕ → Type 0) → ((n : ℕ) → 1 ≤ n → n ≤ 12 → N n) → N 21 → (types : Verdict) → Meets (Right N (length os)) types
+      → Meets (Right N (length os)) (sheetVerdict setting types sheet bytes size)
   unfolding prepareVerdict
-  prepare-right N ok aligned =
+  prepare-right N ok aligned types typed =
       first-meets (Right N (length os)) (unless (sheetOk sheet (length bytes)) 1 0) _
       (unless-meets (Right N (length os)) (sheetOk sheet (length bytes)) 1 0
-      (λ _. (ok 1 (omega arith) (omega arith), without (length os) 1 refl (λ e. omega arith) (λ l h. omega arith))))
+      (λ _. (ok 1 (omega arith) (omega arith), without (length os) 1 refl (λ e. omega arith) (λ l h i. omega arith))))
       (first-meets (Right N (length os)) (unless (arenaOk size (setting .address)) 2 0) _
       (unless-meets (Right N (length os)) (arenaOk size (setting .address)) 2 0
-      (λ _. (ok 2 (omega arith) (omega arith), without (length os) 2 refl (λ e. omega arith) (λ l h. omega arith))))
+      (λ _. (ok 2 (omega arith) (omega arith), without (length os) 2 refl (λ e. omega arith) (λ l h i. omega arith))))
+      (first-meets (Right N (length os)) types _ typed
       (first-meets (Right N (length os)) (unless (eqb (duplicateOf os) 0) 3 (duplicateOf os)) _
       (unless-meets (Right N (length os)) (eqb (duplicateOf os) 0) 3 (duplicateOf os)
       (λ e.
       let t = duplicate-later os (eqb-false (duplicateOf os) 0 e) in (
         ok 3 (omega arith) (omega arith),
-        of-object (length os) 3 (duplicateOf os) (λ e. omega arith) (λ e. omega arith) (λ e. omega arith) (λ e. omega arith) (t .1) (λ _. t .0)
-            (λ l h. absurd (omega arith)),
+        of-object (length os) 3 (duplicateOf os) (λ e. omega arith) (λ e. omega arith) (λ e. omega arith) (λ e. omega arith) (λ e. omega arith) (t .1)
+            (λ _. t .0) (λ l h i. absurd (omega arith)),
       )))
       (load-meets (Right N (length os)) (objectsIn setting os) size 0 (filesOf os) (λ z. host-first os)
       (λ n j q b.
@@ -122,42 +127,42 @@ module _ (setting : Setting) (sheet bytes : List ℕ) (size : ℕ) where
       (λ (r : (4 ≤ n) × (n ≤ 12)). (
         ok n (omega arith) (omega arith),
         of-object (length os) n j (λ e. omega arith) (λ e. omega arith) (λ e. omega arith) (λ e. omega arith)
-            (omega (arith, files-length os)) (λ e. absurd (omega arith)) (λ g i. absurd (omega arith)),
+            (λ e. omega arith) (omega (arith, files-length os)) (λ e. absurd (omega arith)) (λ g i j. absurd (omega arith)),
       ))
       (λ (r : (n ≡ 21) × (1 ≤ j)). (
         rw (r .0) aligned,
         of-object (length os) n j (λ e. omega arith) (λ e. omega arith) (λ e. omega arith) (λ e. omega arith)
-            (omega (arith, files-length os)) (λ e. absurd (omega arith)) (λ g i. r .1),
+            (λ e. omega arith) (omega (arith, files-length os)) (λ e. absurd (omega arith)) (λ g i j. r .1),
       ))
-      q))))
+      q)))))
 
-  -- 14 to 20, and 22
+  -- 14 to 20, 22 and 25
   relocate-right :
-      (N : ℕ → Type 0) → ((n : ℕ) → 14 ≤ n → n ≤ 22 → n ≢ 21 → N n) → sheetOk sheet (length bytes) ≡ true → (policy : Policy) (words : ℕ)
-      → Meets (Right N (length os)) (relocateVerdict (objectsIn setting os) (filesOf os) (orderIn os) policy words)
+      (N : ℕ → Type 0) → ((n : ℕ) → 14 ≤ n → n ≤ 25 → n ≢ 21 → n ≢ 23 → n ≢ 24 → N n) → sheetOk sheet (length bytes) ≡ true → (policy : Policy) (words : ℕ)
+      → Meets (Right N (length os)) (relocateVerdict (setting .row) (objectsIn setting os) (filesOf os) (orderIn os) policy words)
   unfolding relocateVerdict
   relocate-right N ok good policy words =
-      first-meets (Right N (length os)) (orderVerdict (objectsIn setting os) (filesOf os) (orderIn os)) _
-      (order-meets (Right N (length os)) (objectsIn setting os) (filesOf os) (orderIn os)
+      first-meets (Right N (length os)) (orderVerdict (setting .row) (objectsIn setting os) (filesOf os) (orderIn os)) _
+      (order-meets (Right N (length os)) (setting .row) (objectsIn setting os) (filesOf os) (orderIn os)
       (λ n k x m.
       let b : (1 ≤ k) × (k < length (namesOf os) + 2) = order-objects (filesOf os) (namesOf os) k m in
-      (ok n (x .0) (x .1) (x .4), entry-of n k (x .0) (x .3) (b .0) (b .1))))
+      (ok n (x .0) (x .1) (x .4) (x .5) (x .6), entry-of n k (x .0) (x .3) (x .6) (b .0) (b .1))))
       (first-meets (Right N (length os)) (unless (allows policy u) 19 u) _
       (unless-meets (Right N (length os)) (allows policy u) 19 u
       (λ e.
-      let m = first-undefined (objectsIn setting os) (filesOf os) (orderIn os) (undefined policy e) in
+      let m = first-undefined (setting .row) (objectsIn setting os) (filesOf os) (orderIn os) (undefined policy e) in
       let b : (1 ≤ u) × (u < length (namesOf os) + 2) = order-objects (filesOf os) (namesOf os) u m in
-      (ok 19 (omega arith) (omega arith) (λ e. omega arith), entry-of 19 u (omega arith) (λ e. omega arith) (b .0) (b .1))))
-      (unless-meets (Right N (length os)) (leb (length (orderWords (objectsIn setting os) (filesOf os) (orderIn os))) words) 20 0
-      (λ _. (ok 20 (omega arith) (omega arith) (λ e. omega arith), without (length os) 20 refl (λ e. omega arith) (λ l h. omega arith)))))
+      (ok 19 (omega arith) (omega arith) (λ e. omega arith) (λ e. omega arith) (λ e. omega arith), entry-of 19 u (omega arith) (λ e. omega arith) (λ e. omega arith) (b .0) (b .1))))
+      (unless-meets (Right N (length os)) (leb (length (orderWords (setting .row) (objectsIn setting os) (filesOf os) (orderIn os))) words) 20 0
+      (λ _. (ok 20 (omega arith) (omega arith) (λ e. omega arith) (λ e. omega arith) (λ e. omega arith), without (length os) 20 refl (λ e. omega arith) (λ l h i. omega arith)))))
     where
       u : ℕ
-      u = firstUndefined (objectsIn setting os) (filesOf os) (orderIn os)
+      u = firstUndefined (setting .row) (objectsIn setting os) (filesOf os) (orderIn os)
 
-      entry-of : (n k : ℕ) → 14 ≤ n → n ≢ 20 → 1 ≤ k → k < length (namesOf os) + 2 → ObjectOf (length os) n k
-      entry-of n k l ne pos small =
-          of-object (length os) n k (λ e. omega arith) (λ e. omega arith) (λ e. omega arith) ne
-          (omega (arith, counts sheet bytes good)) (λ e. absurd (omega arith)) (λ g i. pos)
+      entry-of : (n k : ℕ) → 14 ≤ n → n ≢ 20 → n ≢ 24 → 1 ≤ k → k < length (namesOf os) + 2 → ObjectOf (length os) n k
+      entry-of n k l ne not-24 pos small =
+          of-object (length os) n k (λ e. omega arith) (λ e. omega arith) (λ e. omega arith) ne not-24
+          (omega (arith, counts sheet bytes good)) (λ e. absurd (omega arith)) (λ g i j. pos)
 
       undefined : (policy : Policy) → allows policy u ≡ false → u ≢ 0
       undefined Strict e = eqb-false u 0 e
@@ -166,21 +171,24 @@ module _ (setting : Setting) (sheet bytes : List ℕ) (size : ℕ) where
   bind-right :
       (policy : Policy) (words : ℕ)
       → Meets (Right BindNumber (length os))
-      (first (sheetVerdict setting sheet bytes size) (relocateVerdict (objectsIn setting os) (filesOf os) (orderIn os) policy words))
+      (first (sheetVerdict setting (typesVerdict setting) sheet bytes size) (relocateVerdict (setting .row) (objectsIn setting os) (filesOf os) (orderIn os) policy words))
   bind-right policy words =
-      first-then (Right BindNumber (length os)) (sheetVerdict setting sheet bytes size) _
-      (prepare-right BindNumber (λ n l h. omega arith) (omega arith))
-      (λ v. relocate-right BindNumber (λ n l h ne. omega arith) (sheet-prepared sheet bytes setting size v .0) policy words)
+      first-then (Right BindNumber (length os)) (sheetVerdict setting (typesVerdict setting) sheet bytes size) _
+      (prepare-right BindNumber (λ n l h. omega arith) (omega arith) (typesVerdict setting)
+      (unless-meets (Right BindNumber (length os)) (setting .typed) 24 0
+      (λ _. (omega arith, without (length os) 24 refl (λ e. omega arith) (λ l h i. i refl)))))
+      (λ v.
+      relocate-right BindNumber (λ n l h ne not-23 not-24. omega arith) (sheet-prepared sheet bytes setting (typesVerdict setting) size v .0) policy words)
 
   query-right :
       (requester : ℕ)
       → Meets (Right QueryNumber (length os))
-      (first (sheetVerdict setting sheet bytes size) (unless (ltb requester (length os)) 13 0))
+      (first (sheetVerdict setting Passed sheet bytes size) (unless (ltb requester (length os)) 13 0))
   query-right requester =
-      first-then (Right QueryNumber (length os)) (sheetVerdict setting sheet bytes size) _
-      (prepare-right QueryNumber (λ n l h. inl (l, omega arith)) (inr refl))
+      first-then (Right QueryNumber (length os)) (sheetVerdict setting Passed sheet bytes size) _
+      (prepare-right QueryNumber (λ n l h. inl (l, omega arith)) (inr refl) Passed tt)
       (λ v. unless-meets (Right QueryNumber (length os)) (ltb requester (length os)) 13 0
-      (λ _. (inl (omega arith, omega arith), without (length os) 13 refl (λ e. omega arith) (λ l h. omega arith))))
+      (λ _. (inl (omega arith, omega arith), without (length os) 13 refl (λ e. omega arith) (λ l h i. omega arith))))
 
 -- ---- what is left
 
@@ -281,14 +289,14 @@ query-length size (Refused i j) x l r arena n e = let is : arena ≡ replicate s
 
 -- 20 was passed
 room :
-    (S : Objs) (files : List File) (order : List ℕ) (policy : Policy) (words : ℕ) (v : Verdict)
-    → first v (relocateVerdict S files order policy words) ≡ Passed → length (orderWords S files order) ≤ words
+    (row : ℕ → Row) (S : Objs) (files : List File) (order : List ℕ) (policy : Policy) (words : ℕ) (v : Verdict)
+    → first v (relocateVerdict row S files order policy words) ≡ Passed → length (orderWords row S files order) ≤ words
 unfolding relocateVerdict
-room S files order policy words v e =
+room row S files order policy words v e =
     let a = first-passed v _ e in
-    let b = first-passed (orderVerdict S files order) _ (a .1) in
-    let c = first-passed (unless (allows policy (firstUndefined S files order)) 19 (firstUndefined S files order)) _ (b .1) in
-    leb-true _ _ (unless-passed (leb (length (orderWords S files order)) words) 20 0 (c .1))
+    let b = first-passed (orderVerdict row S files order) _ (a .1) in
+    let c = first-passed (unless (allows policy (firstUndefined row S files order)) 19 (firstUndefined row S files order)) _ (b .1) in
+    leb-true _ _ (unless-passed (leb (length (orderWords row S files order)) words) 20 0 (c .1))
 
 pub lengths : Lengths
 unfolding bindIn
@@ -296,8 +304,8 @@ lengths =
     record {
       bind = λ setting sheet bytes size policy words x arena report e.
           bind-lengths size words _ _ _ x arena report (length-tab size _)
-          (room (objectsIn setting (setOf sheet bytes)) (filesOf (setOf sheet bytes)) (orderIn (setOf sheet bytes)) policy words
-          (sheetVerdict setting sheet bytes size)) (sym (bind-one setting sheet bytes size policy words) ∙ e);
+          (room (setting .row) (objectsIn setting (setOf sheet bytes)) (filesOf (setOf sheet bytes)) (orderIn (setOf sheet bytes)) policy words
+          (sheetVerdict setting (typesVerdict setting) sheet bytes size)) (sym (bind-one setting sheet bytes size policy words) ∙ e);
       query = λ setting sheet bytes size requester name r arena e.
           query-length size _ _ _ r arena (length-tab size _) (sym (query-one setting sheet bytes size requester name) ∙ e);
     }

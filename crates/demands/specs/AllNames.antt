@@ -117,9 +117,9 @@ pub record AllCases : Type 0 where
   -- "23, after 13": whatever the list
   pub thirteen-first :
       (setting : Setting) (os : List Input) (size requester : ℕ) (list : List ℕ) (slots : ℕ)
-      → prepareVerdict setting os size ≡ Passed → ltb requester (length os) ≡ false
+      → prepareVerdict setting Passed os size ≡ Passed → ltb requester (length os) ≡ false
       → askAllSet setting os size requester list slots ≡ refusedAll size slots 13 0
   pub twenty-three :
       (setting : Setting) (os : List Input) (size requester : ℕ) (list : List ℕ) (slots : ℕ)
-      → prepareVerdict setting os size ≡ Passed → ltb requester (length os) ≡ true → listOk list slots ≡ false
+      → prepareVerdict setting Passed os size ≡ Passed → ltb requester (length os) ≡ true → listOk list slots ≡ false
       → askAllSet setting os size requester list slots ≡ refusedAll size slots 23 0

@@ -10,6 +10,7 @@ use Rattle.model.specs.Objects.{fixed}
 use Rattle.model.specs.Order.{orderOf}
 use Rattle.object.specs.declared.hash_tables.HashTable.{HashTable}
 use Rattle.object.specs.declared.hash_tables.SymbolCount.the-variants.{Known}
+use Rattle.object.specs.RelocationTypes.{appliedRow}
 use Rattle.object.specs.Entries.{relrWords, place, none}
 use Rattle.object.specs.SymbolCount.{countOf}
 use Rattle.object.specs.Record.{Record}
@@ -46,4 +47,4 @@ pub record Cases : Type 0 where
   -- 64 bits is 2^64 - 8
   pub relative :
       (image : List ℕ) (r : Record) (p s : ℕ)
-      → entryOf image r 0x10004000 (record { place = p; rtype = 8; symbol = s; addend = 2 ^ 64 - 8 }) ≡ fixed p 8 0x10003FF8
+      → entryOf appliedRow image r 0x10004000 (record { place = p; rtype = 8; symbol = s; addend = 2 ^ 64 - 8 }) ≡ fixed p 8 0x10003FF8

@@ -5,7 +5,7 @@ use mathlib.Core.List.{List}
 use mathlib.Core.Path.{_≡_}
 use Prim.Native.Nat.{ℕ, _+_, _-_, _^_}
 use Rattle.model.specs.Objects.{fixed, symbol, Objs}
-use Rattle.object.specs.RelocationTypes.{Calculation, Row, ignored, passedOver, turnedAway, copies, writes, word64, rowOf}
+use Rattle.object.specs.RelocationTypes.{Calculation, Row, ignored, passedOver, turnedAway, markedRefuse, copies, writes, word64, appliedRow}
 use Rattle.object.specs.TableBytes.{inWritable}
 use Rattle.object.specs.Record.{Record}
 use Rattle.object.specs.declared.relocate.Rela.{Rela}
@@ -23,13 +23,14 @@ calculationOf (writes search f) = f
 calculationOf ignored = word64 (λ S A B P. 0)
 calculationOf passedOver = word64 (λ S A B P. 0)
 calculationOf turnedAway = word64 (λ S A B P. 0)
+calculationOf markedRefuse = word64 (λ S A B P. 0)
 calculationOf copies = word64 (λ S A B P. 0)
 
 abbrev pub valueAt : ℕ → (S A B P : ℕ) → ℕ
-valueAt rtype = calculationOf (rowOf rtype) .value
+valueAt rtype = calculationOf (appliedRow rtype) .value
 
 abbrev pub fitsAt : ℕ → ℕ → Bool
-fitsAt rtype v = calculationOf (rowOf rtype) .fits v
+fitsAt rtype v = calculationOf (appliedRow rtype) .fits v
 
 pub record FieldCases : Type 0 where
   -- "1 (S + A, 64 bits)", 10 and 11 (S + A); "Sums wrap at 64 bits"; whatever base and place
@@ -42,17 +43,17 @@ pub record FieldCases : Type 0 where
   pub less-place-32 : (B : ℕ) → valueAt 2 0x10003010 8 B 0x10002000 ≡ 0x1018
   -- "symbol 0 gives S = 0 without a search": the entry is fixed; P is base + place; a result of 64 bits has 8 bytes, one of 32 bits 4
   pub zero-64 :
-      (image : List ℕ) (r : Record) → entryOf image r 0x10001000 (entry 0x1000 24 0 0) ≡ fixed 0x1000 8 0xFFFFFFFFEFFFE000
-  pub zero-32 : (image : List ℕ) (r : Record) → entryOf image r 0x10001000 (entry 0x1000 11 0 (2 ^ 64 - 2)) ≡ fixed 0x1000 4 (2 ^ 64 - 2)
+      (image : List ℕ) (r : Record) → entryOf appliedRow image r 0x10001000 (entry 0x1000 24 0 0) ≡ fixed 0x1000 8 0xFFFFFFFFEFFFE000
+  pub zero-32 : (image : List ℕ) (r : Record) → entryOf appliedRow image r 0x10001000 (entry 0x1000 11 0 (2 ^ 64 - 2)) ≡ fixed 0x1000 4 (2 ^ 64 - 2)
   -- "S found as for type 6": any other symbol is searched
   pub searched :
       (image : List ℕ) (r : Record) (base p : ℕ)
-      → entryOf image r base (entry p 6 3 5) ≡ symbol p 8 (wantedBy image r 3) (λ S. S)
+      → entryOf appliedRow image r base (entry p 6 3 5) ≡ symbol p 8 (wantedBy image r 3) (λ S. S)
   pub searched-64 :
       (image : List ℕ) (r : Record) (base p : ℕ)
-      → entryOf image r base (entry p 1 3 5) ≡ symbol p 8 (wantedBy image r 3) (λ S. valueAt 1 S 5 base (base + p))
+      → entryOf appliedRow image r base (entry p 1 3 5) ≡ symbol p 8 (wantedBy image r 3) (λ S. valueAt 1 S 5 base (base + p))
   -- symbol 0 "is not undefined"
-  pub zero-defined : (S : Objs) (k : ℕ) (image : List ℕ) (r : Record) (p a : ℕ) → isUndefined S k image r (entry p 1 0 a) ≡ false
+  pub zero-defined : (S : Objs) (k : ℕ) (image : List ℕ) (r : Record) (p a : ℕ) → isUndefined appliedRow S k image r (entry p 1 0 a) ≡ false
   -- "a 32-bit result must be that sum, read as unsigned for type 10 and as signed for 2 and 11"
   pub unsigned-top : fitsAt 10 0xFFFFFFFF ≡ true
   pub unsigned-over : fitsAt 10 0x100000000 ≡ false
@@ -67,7 +68,7 @@ pub record FieldCases : Type 0 where
   -- "22, after 17"
   pub refusal-17-first :
       (base : ℕ) (r : Record) (e : Rela) (s : ℕ) → inWritable (r .segments) (e .place) 4 ≡ false
-      → fieldRefusal base r e (calculationOf (rowOf 10)) s ≡ 17
+      → fieldRefusal base r e (calculationOf (appliedRow 10)) s ≡ 17
   pub refusal-22 :
       (r : Record) (s : ℕ) → inWritable (r .segments) 0x1000 4 ≡ true
-      → fieldRefusal 0x10001000 r (entry 0x1000 10 0 (2 ^ 64 - 1)) (calculationOf (rowOf 10)) 0 ≡ 22
+      → fieldRefusal 0x10001000 r (entry 0x1000 10 0 (2 ^ 64 - 1)) (calculationOf (appliedRow 10)) 0 ≡ 22

@@ -4,6 +4,7 @@ pub mod OrderReport
 pub mod Cases
 pub mod FieldCases
 pub mod RefusalCases
+pub mod TypeCases
 pub mod Refusals
 pub mod AllNames
 pub mod LargePages

@@ -15,7 +15,7 @@ use Rattle.binder.specs.declared.Policy.{Policy}
 use Rattle.binder.specs.declared.Answer.the-variants.{Bound}
 use Rattle.binder.specs.declared.Reply.the-variants.{Found}
 use Rattle.sheet.specs.Sheet.{sheetOk, setOf}
-use Rattle.binder.specs.Setting.{Setting}
+use Rattle.binder.specs.Setting.{Setting, settingAt}
 use Rattle.binder.specs.declared.Verdict.the-variants.{Passed}
 use Rattle.binder.specs.Bind.{filesOf, objectsOf, prepareVerdict, bindOf, outcome, queryOf, replied}
 
@@ -28,7 +28,8 @@ abbrev pub BoundBy : Setting → List ℕ → List ℕ → ℕ → Policy → �
 BoundBy setting sheet bytes size policy words arena report = bindOf setting sheet bytes size policy words ≡ outcome Bound arena report
 
 -- demand 3: "For every bound set S whose only COPY entries are the program's, and whatever library is added at its end, where that longer
--- set T is bound at the same arena address under the same policy": what T keeps of S, names in both scopes and bytes together
+-- set T is bound at the same arena address under the same policy": what T keeps of S, names in both scopes and bytes together. Document 02, (f):
+-- "Comparing a set with a longer one presumes the same words": one setting has them
 abbrev pub LongerSet : Type 0
 LongerSet =
     (setting : Setting) (policy : Policy)
@@ -45,14 +46,15 @@ LongerSet =
 -- the set meets none of refusals 1 to 12 and 21 in an arena of `size` bytes: only 13 is left to a query
 abbrev pub PassesLoading : Setting → List ℕ → List ℕ → ℕ → Type 0
 PassesLoading setting sheet bytes size =
-    (sheetOk sheet (length bytes) ≡ true) × (prepareVerdict setting (setOf sheet bytes) size ≡ Passed)
+    (sheetOk sheet (length bytes) ≡ true) × (prepareVerdict setting Passed (setOf sheet bytes) size ≡ Passed)
 
 -- demand 3's clause on names, for what `query` answers; document 01: "An answer is what a lookup yields". S and T are asked in arenas of any
--- sizes in which they meet none of refusals 1 to 12 and 21. They need not be bound; a set that is bound can be asked in the arena of that call.
+-- sizes in which they meet none of refusals 1 to 12 and 21. They need not be bound; a set that is bound, under whatever words of
+-- the types, can be asked in the arena of that call.
 pub record LongerQuery : Type 0 where
   pub bound-loaded :
       (setting : Setting) (sheet bytes : List ℕ) (size : ℕ) (policy : Policy) (words : ℕ) (arena report : List ℕ)
-      → BoundBy setting sheet bytes size policy words arena report → PassesLoading setting sheet bytes size
+      → BoundBy setting sheet bytes size policy words arena report → PassesLoading (settingAt (setting .address)) sheet bytes size
   -- "every name that S answers from its program or a library, for any object of S as requester": the answer is of an object other than
   -- 0; a requester that is no object of S is refused
   pub same-answer :

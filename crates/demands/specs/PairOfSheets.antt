@@ -11,7 +11,7 @@ use Rattle.model.specs.Longer.{OnlyProgramCopies, Excepted, Kept}
 use Rattle.binder.specs.declared.Policy.the-variants.{Lenient}
 use Rattle.binder.specs.declared.Reply.{Reply}
 use Rattle.binder.specs.declared.Reply.the-variants.{Found, Absent}
-use Rattle.binder.specs.Setting.{Setting, settingAt}
+use Rattle.binder.specs.Setting.{Setting, suppliedAt}
 use Rattle.binder.specs.Bind.{queryOf, replied}
 use Rattle.demands.specs.LongerSet.{setObjects, BoundBy}
 
@@ -83,9 +83,9 @@ libraryFile c =
 
 -- ---- the sets
 
--- where the arenas are
+-- where the arenas are; the supplied words of the types
 abbrev pub setting : Setting
-setting = settingAt 0x10000000
+setting = suppliedAt 0x10000000
 
 -- S: host, program, and a library with the name "l" that defines a
 abbrev pub sheet : List ℕ

@@ -106,7 +106,7 @@ pub record RecordCases : Type 0 where
 pub record SetCases : Type 0 where
   -- "A query's requester is no object of the set": the first number that is none
   pub requester-past-last :
-      (setting : Setting) (os : List Input) (size : ℕ) (name : List ℕ) → prepareVerdict setting os size ≡ verdicts.Passed
+      (setting : Setting) (os : List Input) (size : ℕ) (name : List ℕ) → prepareVerdict setting verdicts.Passed os size ≡ verdicts.Passed
       → askSet setting os size (length os) name ≡ refusedQuery size 13 0
   -- "from an absolute symbol"; 17 comes before it
   pub absolute-copy :

@@ -25,9 +25,10 @@ use Rattle.binder.specs.Verdict as verdicts
 use Rattle.binder.specs.Verdict.{first, verdict, noFile, loadVerdict, wordRefusal, wordsVerdict, entryRefusal, entriesVerdict, objectVerdict, orderVerdict}
 use Rattle.binder.specs.declared.Verdict.{Verdict}
 use Rattle.binder.specs.declared.Verdict.the-variants.{Passed, Refused}
+use Rattle.object.specs.RelocationTypes.{Row}
 use Rattle.binder.specs.Report.{orderWords, firstUndefined}
 use Rattle.binder.specs.Bind as binding
-use Rattle.binder.specs.Bind.{filesOf, objectsOf, unless, allows, relocateVerdict, Outcome, outcome, outcomeOf, bindOf, replied, repliedOf, replyOf}
+use Rattle.binder.specs.Bind.{filesOf, objectsOf, unless, typesVerdict, allows, relocateVerdict, Outcome, outcome, outcomeOf, bindOf, replied, repliedOf, replyOf}
 use Rattle.binder.specs.declared.ReplyAll as allReplies
 use Rattle.binder.specs.QueryAll as all
 use Rattle.binder.specs.QueryAll.{listOk, repliedAll, repliedAllOf}
@@ -75,43 +76,47 @@ of-words k r [] = passing
 of-words k r (w ∷ ws) =
     either-one (verdict (wordRefusal r w) k) (wordsVerdict k r ws) (of-number (wordRefusal r w) k) (of-words k r ws)
 
-of-entries : (S : Objs) (k : ℕ) (image : List ℕ) (r : Record) (es : List Rela) → Numbered (entriesVerdict S k image r es)
+of-entries : (row : ℕ → Row) (S : Objs) (k : ℕ) (image : List ℕ) (r : Record) (es : List Rela) → Numbered (entriesVerdict row S k image r es)
 unfolding verdicts.entriesVerdict
-of-entries S k image r [] = passing
-of-entries S k image r (e ∷ es) =
-    either-one (verdict (entryRefusal S k image r e) k) (entriesVerdict S k image r es) (of-number (entryRefusal S k image r e) k) (of-entries S k image r es)
+of-entries row S k image r [] = passing
+of-entries row S k image r (e ∷ es) =
+    either-one (verdict (entryRefusal row S k image r e) k) (entriesVerdict row S k image r es) (of-number (entryRefusal row S k image r e) k) (of-entries row S k image r es)
 
-of-object : (S : Objs) (k : ℕ) (f : File) → Numbered (objectVerdict S k f)
+of-object : (row : ℕ → Row) (S : Objs) (k : ℕ) (f : File) → Numbered (objectVerdict row S k f)
 unfolding verdicts.objectVerdict
-of-object S k f =
-    either-one (wordsVerdict k (fileRecord f) (namedWords (fileImage f) (fileRecord f))) (entriesVerdict S k (fileImage f) (fileRecord f) (relasOf (fileImage f) (fileRecord f)))
-    (of-words k (fileRecord f) (namedWords (fileImage f) (fileRecord f))) (of-entries S k (fileImage f) (fileRecord f) (relasOf (fileImage f) (fileRecord f)))
+of-object row S k f =
+    either-one (wordsVerdict k (fileRecord f) (namedWords (fileImage f) (fileRecord f))) (entriesVerdict row S k (fileImage f) (fileRecord f) (relasOf (fileImage f) (fileRecord f)))
+    (of-words k (fileRecord f) (namedWords (fileImage f) (fileRecord f))) (of-entries row S k (fileImage f) (fileRecord f) (relasOf (fileImage f) (fileRecord f)))
 
-of-order : (S : Objs) (files : List File) (ks : List ℕ) → Numbered (orderVerdict S files ks)
+of-order : (row : ℕ → Row) (S : Objs) (files : List File) (ks : List ℕ) → Numbered (orderVerdict row S files ks)
 unfolding verdicts.orderVerdict
-of-order S files [] = passing
-of-order S files (k ∷ ks) =
-    either-one (objectVerdict S k (getD files k noFile)) (orderVerdict S files ks) (of-object S k (getD files k noFile)) (of-order S files ks)
+of-order row S files [] = passing
+of-order row S files (k ∷ ks) =
+    either-one (objectVerdict row S k (getD files k noFile)) (orderVerdict row S files ks) (of-object row S k (getD files k noFile)) (of-order row S files ks)
 
-of-relocate : (S : Objs) (files : List File) (order : List ℕ) (policy : Policy) (words : ℕ) → Numbered (relocateVerdict S files order policy words)
+of-relocate : (row : ℕ → Row) (S : Objs) (files : List File) (order : List ℕ) (policy : Policy) (words : ℕ) → Numbered (relocateVerdict row S files order policy words)
 unfolding binding.relocateVerdict
-of-relocate S files order policy words =
-    let u = firstUndefined S files order in
-    let room = leb (length (orderWords S files order)) words in
-    either-one (orderVerdict S files order) (first (unless (allows policy u) 19 u) (unless room 20 0)) (of-order S files order)
+of-relocate row S files order policy words =
+    let u = firstUndefined row S files order in
+    let room = leb (length (orderWords row S files order)) words in
+    either-one (orderVerdict row S files order) (first (unless (allows policy u) 19 u) (unless room 20 0)) (of-order row S files order)
     (either-one (unless (allows policy u) 19 u) (unless room 20 0) (of-test (allows policy u) 19 u (omega arith)) (of-test room 20 0 (omega arith)))
 
-of-prepare : (setting : Setting) (sheet bytes : List ℕ) (size : ℕ) → Numbered (sheetVerdict setting sheet bytes size)
+of-prepare :
+    (setting : Setting) (types : Verdict) (sheet bytes : List ℕ) (size : ℕ) → Numbered types → Numbered (sheetVerdict setting types sheet bytes size)
 unfolding binding.prepareVerdict
-of-prepare setting sheet bytes size =
+of-prepare setting types sheet bytes size typed =
     let one = sheetOk sheet (length bytes) in
     let two = arenaOk size (setting .address) in
     let duplicate = duplicateOf (setOf sheet bytes) in
     let files : List File = filesOf (setOf sheet bytes) in
     let loaded = loadVerdict (objectsOf setting files) size 0 files in
-    either-one (unless one 1 0) (first (unless two 2 0) (first (unless (eqb duplicate 0) 3 duplicate) loaded)) (of-test one 1 0 (omega arith))
-    (either-one (unless two 2 0) (first (unless (eqb duplicate 0) 3 duplicate) loaded) (of-test two 2 0 (omega arith))
-    (either-one (unless (eqb duplicate 0) 3 duplicate) loaded (of-test (eqb duplicate 0) 3 duplicate (omega arith)) (of-load (objectsOf setting files) size 0 files)))
+    let rest = first (unless (eqb duplicate 0) 3 duplicate) loaded in
+    either-one (unless one 1 0) (first (unless two 2 0) (first types rest)) (of-test one 1 0 (omega arith))
+    (either-one (unless two 2 0) (first types rest) (of-test two 2 0 (omega arith))
+    (either-one types rest typed
+    (either-one (unless (eqb duplicate 0) 3 duplicate) loaded (of-test (eqb duplicate 0) 3 duplicate (omega arith))
+    (of-load (objectsOf setting files) size 0 files))))
 
 -- ---- the answers
 
@@ -146,7 +151,8 @@ bind-tells :
 unfolding binding.bindIn
 bind-tells setting sheet bytes size policy words n k arena report e =
     of-outcome size words _ _ _ arena report n k
-    (either-one (sheetVerdict setting sheet bytes size) _ (of-prepare setting sheet bytes size) (of-relocate _ _ _ policy words))
+    (either-one (sheetVerdict setting (typesVerdict setting) sheet bytes size) _
+    (of-prepare setting (typesVerdict setting) sheet bytes size (of-test (setting .typed) 24 0 (omega arith))) (of-relocate _ _ _ _ policy words))
     (sym (bind-one setting sheet bytes size policy words) ∙ e)
 
 -- ---- 26 and 27
@@ -186,13 +192,14 @@ zero-tells = (
   bind-tells,
   λ setting sheet bytes size requester name n k arena e.
       of-replied size _ (resolve (objectsOf setting (filesOf (setOf sheet bytes))) requester (symbols.byName name)) _ arena n k
-      (either-one (sheetVerdict setting sheet bytes size) (unless (ltb requester (length (setOf sheet bytes))) 13 0) (of-prepare setting sheet bytes size)
+      (either-one (sheetVerdict setting Passed sheet bytes size) (unless (ltb requester (length (setOf sheet bytes))) 13 0)
+      (of-prepare setting Passed sheet bytes size passing)
       (of-test (ltb requester (length (setOf sheet bytes))) 13 0 (omega arith))) (sym (query-one setting sheet bytes size requester name) ∙ e),
   λ setting sheet bytes size requester list slots n k arena words e.
       let asking = unless (ltb requester (length (setOf sheet bytes))) 13 0 in
       let listed = unless (listOk list slots) 23 0 in
       of-replied-all size slots _ _ _ arena words n k
-      (either-one (sheetVerdict setting sheet bytes size) (first asking listed) (of-prepare setting sheet bytes size)
+      (either-one (sheetVerdict setting Passed sheet bytes size) (first asking listed) (of-prepare setting Passed sheet bytes size passing)
       (either-one asking listed (of-test (ltb requester (length (setOf sheet bytes))) 13 0 (omega arith)) (of-test (listOk list slots) 23 0 (omega arith))))
       (sym (query-all-one setting sheet bytes size requester list slots) ∙ e),
   λ setting sheet bytes size policy words starts stops n k arena report start stop e.

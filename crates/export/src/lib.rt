@@ -3,7 +3,8 @@ ghost use mathlib.Core.Path.{_≡_};
 ghost use mathlib.Core.List.{[], _∷_};
 ghost use lib.ListN.{length};
 ghost use Rattle.words.specs.Memory.{mem};
-ghost use Rattle.binder.specs.Setting.{settingAt};
+ghost use Rattle.object.specs.RelocationTypes.{suppliedTypes};
+ghost use Rattle.binder.specs.Setting.{settingOf, settingAt};
 ghost use Rattle.binder.specs.Bind.{bindOf, queryOf};
 ghost use Rattle.binder.specs.QueryAll.{queryAllOf};
 ghost use Rattle.start_stop.specs.StartStop.{startStopOf};
@@ -93,7 +94,15 @@ fn store_reply(answer: &mut [u64], reply: Reply) -> u64
     }
 }
 
-// Binds the set of a sheet and its bytes in the arena at `address`: 0 where it is bound, else the refusal.
+// Fills the slice with the supplied words of the types, then zeros.
+#[no_mangle]
+pub extern "C" fn lugwormpin_types(types: &mut [u32])
+    ensures { λ _. ⌜ now (types .exit) ≡ fitted (length (now (types .entry))) suppliedTypes ⌝ }
+{
+    binder::types::supply(types);
+}
+
+// Binds the set of a sheet and its bytes in the arena at `address`, each type as its word says: 0 where it is bound, else the refusal.
 #[no_mangle]
 pub extern "C" fn lugwormpin_bind(
     sheet: &[u32],
@@ -101,12 +110,13 @@ pub extern "C" fn lugwormpin_bind(
     arena: &mut [u8],
     address: u64,
     strict: u32,
+    types: &[u32],
     report: &mut [u32],
 ) -> u64
-    ensures { λ r. ⌜ called r (now (arena .exit)) (now (report .exit)) ≡ calledOf (bindOf (settingAt address) (now (sheet .entry)) (now (bytes .entry)) (length (now (arena .entry))) (policyOf strict) (length (now (report .entry)))) ⌝ }
+    ensures { λ r. ⌜ called r (now (arena .exit)) (now (report .exit)) ≡ calledOf (bindOf (settingOf address (now (types .entry))) (now (sheet .entry)) (now (bytes .entry)) (length (now (arena .entry))) (policyOf strict) (length (now (report .entry)))) ⌝ }
 {
     let policy = policy_of(strict);
-    let a = binder::bind::bind(sheet, bytes, arena, address, policy, report);
+    let a = binder::bind::bind(sheet, bytes, arena, address, policy, types, report);
     answer_number(a)
 }
 
@@ -194,12 +204,13 @@ pub extern "C" fn lugwormpin_start_stop(
     arena: &mut [u8],
     address: u64,
     strict: u32,
+    types: &[u32],
     report: &mut [u32],
     start: &mut [u64],
     stop: &mut [u64],
     counts: &mut [u64],
 ) -> u64
-    ensures { λ r. ⌜ calledLists r (now (arena .exit)) (now (report .exit)) (now (start .exit)) (now (stop .exit)) (now (counts .exit)) ≡ calledListsOf (length (now (counts .entry))) (startStopOf (settingAt address) (now (sheet .entry)) (now (bytes .entry)) (length (now (arena .entry))) (policyOf strict) (length (now (report .entry))) (length (now (start .entry))) (length (now (stop .entry)))) ⌝ }
+    ensures { λ r. ⌜ calledLists r (now (arena .exit)) (now (report .exit)) (now (start .exit)) (now (stop .exit)) (now (counts .exit)) ≡ calledListsOf (length (now (counts .entry))) (startStopOf (settingOf address (now (types .entry))) (now (sheet .entry)) (now (bytes .entry)) (length (now (arena .entry))) (policyOf strict) (length (now (report .entry))) (length (now (start .entry))) (length (now (stop .entry)))) ⌝ }
 {
     let policy = policy_of(strict);
     let l = start_stop::start_stop::start_stop(
@@ -208,6 +219,7 @@ pub extern "C" fn lugwormpin_start_stop(
         arena,
         address,
         policy,
+        types,
         report,
         start,
         stop,

@@ -1,7 +1,9 @@
 // Relocation entries: port of elf/relocate.rs.
 ghost use mathlib.Core.Path.{_≡_};
 ghost use Prim.Native.Nat.{_+_};
-ghost use Rattle.object.specs.RelocationTypes.{rowOf, notSymbol0, fitsUnsigned32, fitsSigned32};
+ghost use lib.Dec.{eqb};
+ghost use Rattle.words.specs.Choice.{pick};
+ghost use Rattle.object.specs.RelocationTypes.{ignored, passedOver, turnedAway, markedRefuse, appliedRow, mayApply, rowUnder, suppliedWord, notSymbol0, fitsUnsigned32, fitsSigned32};
 ghost use Rattle.object.specs.Entries.{relaAt, relrAt, relrOf};
 ghost use Rattle.object.specs.Steps.Actions.{rowBy, fieldBy, searchedBy};
 
@@ -21,6 +23,7 @@ pub enum Action {
     Symbolic(Field),
     Copy,
     Irelative,
+    Refused,
 }
 
 // What is written by the address of a symbol: the address itself, or S + A (Direct) or S + A - P (Pc), in 64 or 32 bits.
@@ -52,12 +55,11 @@ pub fn rela_at(image: &[u8], table: usize, i: u32) -> Rela
     }
 }
 
-// What the type of an entry asks for. No other function lists types.
-pub fn action_of(rtype: u32) -> Action
-    ensures { λ r. ⌜ rowBy r ≡ rowOf rtype ⌝ }
+// What a type that is applied asks for.
+pub fn applied_of(rtype: u32) -> Action
+    ensures { λ r. ⌜ rowBy r ≡ appliedRow rtype ⌝ }
 {
     match rtype {
-        0 => Action::Ignored,
         1 => Action::Symbolic(Field::Direct64),
         2 => Action::Symbolic(Field::Pc32),
         5 => Action::Copy,
@@ -67,9 +69,75 @@ pub fn action_of(rtype: u32) -> Action
         10 => Action::Symbolic(Field::Direct32),
         11 => Action::Symbolic(Field::Direct32S),
         24 => Action::Symbolic(Field::Pc64),
-        37 => Action::Irelative,
         _ => Action::Passed,
     }
+}
+
+// Whether a type may be applied.
+pub fn may_apply(rtype: u32) -> bool
+    ensures { λ r. ⌜ r ≡ mayApply rtype ⌝ }
+{
+    match rtype {
+        1 => true,
+        2 => true,
+        5 => true,
+        6 => true,
+        7 => true,
+        8 => true,
+        10 => true,
+        11 => true,
+        24 => true,
+        _ => false,
+    }
+}
+
+// What a type that is passed asks for.
+fn passed_of(rtype: u32) -> Action
+    ensures { λ r. ⌜ rowBy r ≡ pick (eqb rtype 0) ignored passedOver ⌝ }
+{
+    if rtype == 0 {
+        return Action::Ignored;
+    }
+    Action::Passed
+}
+
+// What a type that is refused asks for.
+fn refused_of(rtype: u32) -> Action
+    ensures { λ r. ⌜ rowBy r ≡ pick (eqb rtype 37) turnedAway markedRefuse ⌝ }
+{
+    if rtype == 37 {
+        return Action::Irelative;
+    }
+    Action::Refused
+}
+
+// What the type of an entry asks for, by the word of the type. No function but those above lists types.
+pub fn action_of(word: u64, rtype: u32) -> Action
+    ensures { λ r. ⌜ rowBy r ≡ rowUnder word rtype ⌝ }
+{
+    if 63 < rtype {
+        return Action::Passed;
+    }
+    if word == 0x9000_0000 + rtype as u64 {
+        return applied_of(rtype);
+    }
+    if word == 0xa000_0000 + rtype as u64 {
+        return passed_of(rtype);
+    }
+    refused_of(rtype)
+}
+
+// The word of a type in the supplied words.
+pub fn supplied_word(rtype: u32) -> u64
+    ensures { λ r. ⌜ r ≡ suppliedWord rtype ⌝ }
+{
+    if may_apply(rtype) {
+        return 0x9000_0000 + rtype as u64;
+    }
+    if rtype == 37 {
+        return 0xb000_0000 + rtype as u64;
+    }
+    0xa000_0000 + rtype as u64
 }
 
 fn not_zero(index: u32) -> bool

@@ -163,6 +163,7 @@ fn show_action(a: Action) {
         Action::Symbolic(f) => show_field(f),
         Action::Copy => word(b" copy"),
         Action::Irelative => word(b" irelative"),
+        Action::Refused => word(b" refused"),
     }
 }
 
@@ -171,7 +172,8 @@ fn show_rela(e: Rela) {
     small(e.rtype);
     small(e.symbol);
     field(e.addend);
-    show_action(object::relocate::action_of(e.rtype));
+    let w = object::relocate::supplied_word(e.rtype);
+    show_action(object::relocate::action_of(w, e.rtype));
 }
 
 fn show_address(at: usize) {

@@ -16,14 +16,14 @@ use Rattle.sheet.specs.Sheet.{setOf}
 use Rattle.binder.specs.declared.Policy.{Policy}
 use Rattle.binder.specs.declared.Policy.the-variants.{Lenient}
 use Rattle.binder.specs.declared.Answer.the-variants.{Bound, Refused}
-use Rattle.binder.specs.Setting.{Setting, settingAt}
+use Rattle.binder.specs.Setting.{Setting, suppliedAt}
 use Rattle.binder.specs.Verdict.{first, orderVerdict}
 use Rattle.binder.specs.declared.Verdict.{Verdict}
 use Rattle.binder.specs.declared.Verdict as verdicts
 use Rattle.binder.specs.Report.{orderWords, firstUndefined}
 use Rattle.binder.specs.SetOrder.{setOrder}
 use Rattle.binder.specs.Bind as binding
-use Rattle.binder.specs.Bind.{filesOf, namesOf, objectsOf, unless, allows, relocateVerdict, Outcome, outcome, outcomeOf, bindOf}
+use Rattle.binder.specs.Bind.{filesOf, namesOf, objectsOf, unless, typesVerdict, allows, relocateVerdict, Outcome, outcome, outcomeOf, bindOf}
 use Rattle.binder.proofs.OutcomeLaws.{first-passed, unless-passed, sheetVerdict, bind-one}
 use Rattle.program.specs.Program.{arenaBytes, arenaAddress, reportWords, countIn, wordIn, startIn, whole, answerTo, programOf, digits, widthFrom, decimalOf, hexLine, hexLines, refusedText, objectText, refusalLine, linesOf, written, print, AllPrinted}
 use Rattle.program.proofs.PrintLaws.{digits-length, width-most, next-place}
@@ -48,15 +48,15 @@ of-bind setting sheet bytes size policy words =
     let files = filesOf (setOf sheet bytes) in
     let S = objectsOf setting files in
     let order = setOrder files (namesOf (setOf sheet bytes)) in
-    let room = leb (length (orderWords S files order)) words in
-    let last = first (unless (allows policy (firstUndefined S files order)) 19 (firstUndefined S files order)) (unless room 20 0) in
+    let room = leb (length (orderWords (setting .row) S files order)) words in
+    let last = first (unless (allows policy (firstUndefined (setting .row) S files order)) 19 (firstUndefined (setting .row) S files order)) (unless room 20 0) in
     ap (λ (o : Outcome). length (reportIn o)) (bind-one setting sheet bytes size policy words)
-    ∙ of-outcome size words (first (sheetVerdict setting sheet bytes size) (relocateVerdict S files order policy words)) _ (orderWords S files order)
+    ∙ of-outcome size words (first (sheetVerdict setting (typesVerdict setting) sheet bytes size) (relocateVerdict (setting .row) S files order policy words)) _ (orderWords (setting .row) S files order)
     (λ e.
-    let p = first-passed (sheetVerdict setting sheet bytes size) (relocateVerdict S files order policy words) e in
-    let q = first-passed (orderVerdict S files order) last (p .1) in
-    let r = first-passed (unless (allows policy (firstUndefined S files order)) 19 (firstUndefined S files order)) (unless room 20 0) (q .1) in
-    leb-true (length (orderWords S files order)) words (unless-passed room 20 0 (r .1)))
+    let p = first-passed (sheetVerdict setting (typesVerdict setting) sheet bytes size) (relocateVerdict (setting .row) S files order policy words) e in
+    let q = first-passed (orderVerdict (setting .row) S files order) last (p .1) in
+    let r = first-passed (unless (allows policy (firstUndefined (setting .row) S files order)) 19 (firstUndefined (setting .row) S files order)) (unless room 20 0) (q .1) in
+    leb-true (length (orderWords (setting .row) S files order)) words (unless-passed room 20 0 (r .1)))
 
 picked : (t : Bool) (a b : Outcome) (n : ℕ) → length (reportIn a) ≡ n → length (reportIn b) ≡ n → length (reportIn (pick t a b)) ≡ n
 picked true a b n h g = h
@@ -66,7 +66,7 @@ of-program : (input : List ℕ) → length (reportIn (programOf input)) ≡ repo
 unfolding programOf answerTo
 of-program input =
     picked (whole input) _ _ reportWords
-    (of-bind (settingAt arenaAddress) (tab (countIn input) (wordIn input)) (drop (startIn input) input) arenaBytes Lenient reportWords) (length-replicate {A = ℕ} reportWords 0)
+    (of-bind (suppliedAt arenaAddress) (tab (countIn input) (wordIn input)) (drop (startIn input) input) arenaBytes Lenient reportWords) (length-replicate {A = ℕ} reportWords 0)
 
 -- ---- the lines are as long as they may be
 

@@ -11,7 +11,7 @@ use Rattle.words.proofs.Choice.{both-false}
 use Rattle.words.proofs.Slices.{length-patch, take-patch}
 use Rattle.binder.specs.declared.Policy.the-variants.{Lenient}
 use Rattle.binder.specs.declared.Answer.the-variants.{Refused}
-use Rattle.binder.specs.Setting.{settingAt}
+use Rattle.binder.specs.Setting.{suppliedAt}
 use Rattle.binder.specs.Bind.{outcome, bindOf}
 use Rattle.program.specs.Program.{arenaAddress, inputLimit, countIn, wordIn, startIn, answerTo}
 
@@ -26,7 +26,7 @@ module _ (input : List ℕ) (size words : ℕ) where
 
   pub whole-bound :
       startIn input ≤ length input → length input ≤ inputLimit
-      → answerTo input size words ≡ bindOf (settingAt arenaAddress) (tab (countIn input) (wordIn input)) (drop (startIn input) input) size Lenient words
+      → answerTo input size words ≡ bindOf (suppliedAt arenaAddress) (tab (countIn input) (wordIn input)) (drop (startIn input) input) size Lenient words
   unfolding answerTo
   whole-bound h g = rw (le-leb (startIn input) (length input) h, le-leb (length input) inputLimit g)
 

@@ -15,7 +15,7 @@ use Rattle.words.specs.Names.{untilZero}
 use Rattle.binder.specs.declared.Policy.the-variants.{Lenient}
 use Rattle.binder.specs.declared.Answer.{Answer}
 use Rattle.binder.specs.declared.Answer.the-variants.{Bound, Refused}
-use Rattle.binder.specs.Setting.{settingAt}
+use Rattle.binder.specs.Setting.{suppliedAt}
 use Rattle.binder.specs.Bind.{Outcome, outcome, refusedBind, bindOf}
 
 -- ---- the numbers
@@ -52,7 +52,7 @@ whole input = both (leb (startIn input) (length input)) (leb (length input) inpu
 -- what is answered, in an arena of `size` bytes and a report of `words` words; a refusal leaves zeros
 unfoldable pub answerTo : List ℕ → ℕ → ℕ → Outcome
 answerTo input size words =
-    pick (whole input) (bindOf (settingAt arenaAddress) (tab (countIn input) (wordIn input)) (drop (startIn input) input) size Lenient words)
+    pick (whole input) (bindOf (suppliedAt arenaAddress) (tab (countIn input) (wordIn input)) (drop (startIn input) input) size Lenient words)
     (refusedBind size words 1 0)
 
 unfoldable pub programOf : List ℕ → Outcome

@@ -5,7 +5,7 @@ ghost use lib.ListN.{length, drop, replicate};
 ghost use Rattle.words.specs.Memory.{tab, patch};
 ghost use Rattle.binder.specs.declared.Policy.the-variants.{Lenient};
 ghost use Rattle.binder.specs.declared.Answer.the-variants.{Bound, Refused};
-ghost use Rattle.binder.specs.Setting.{settingAt};
+ghost use Rattle.binder.specs.Setting.{suppliedAt};
 ghost use Rattle.binder.specs.Bind.{outcome, bindOf};
 ghost use Rattle.program.specs.Program.{arenaAddress, wordIn, answerTo, programOf, digit, widthFrom, decimalOf, hexLine, hexLines, refusalLine, answerLines, linesOf, written, print};
 use binder::Answer;
@@ -23,13 +23,15 @@ fn read_words(input: &[u8], sheet: &mut [u32], count: usize)
     }
 }
 
-// Binds a sheet of `count` words and the bytes that follow it.
+// Binds a sheet of `count` words and the bytes that follow it, under the supplied words of the types.
 fn bind_sheet(input: &[u8], count: usize, arena: &mut [u8], report: &mut [u32]) -> Answer
     requires { ⌜ (count ≤ 16383) × (4 + 4 * count ≤ length (now input)) ⌝ }
-    ensures { λ r. ⌜ outcome r (now (arena .exit)) (now (report .exit)) ≡ bindOf (settingAt arenaAddress) (tab count (wordIn (now (input .entry)))) (drop (4 + 4 * count) (now (input .entry))) (length (now (arena .entry))) Lenient (length (now (report .entry))) ⌝ }
+    ensures { λ r. ⌜ outcome r (now (arena .exit)) (now (report .exit)) ≡ bindOf (suppliedAt arenaAddress) (tab count (wordIn (now (input .entry)))) (drop (4 + 4 * count) (now (input .entry))) (length (now (arena .entry))) Lenient (length (now (report .entry))) ⌝ }
 {
     let mut sheet = [0u32; 16383];
     read_words(input, &mut sheet, count);
+    let mut types = [0u32; 64];
+    binder::types::supply(&mut types);
     let start = 4 + 4 * count;
     binder::bind::bind(
         &sheet[..count],
@@ -37,6 +39,7 @@ fn bind_sheet(input: &[u8], count: usize, arena: &mut [u8], report: &mut [u32]) 
         arena,
         0x1000_0000,
         Policy::Lenient,
+        &types,
         report,
     )
 }

@@ -1,11 +1,12 @@
 // Replays a list of sets from standard input: binds each, asks its queries, and prints a line for each call: the answer, the words of the
 // report that are not 0, and the hash of the arena's bytes. tests/replay_list.py makes the list and the expected lines.
 //
-// Numbers are little-endian. Input: how many sets there are (2 bytes). A set: policy (1: 0 for strict), address (8), arena length (4),
+// Numbers are little-endian. Input: how many sets there are (2 bytes). A set: policy and an edit of the words of the types (1), address (8), arena length (4),
 // report length (2), length of the set (4), patches (2), queries (1); then the patches, which change zeros into the set as document 01's
 // program reads it, each a place (2), a length (2) and bytes; then the queries, each a requester (4), a length (1) and a name. Before each
 // call the arena holds the input's first bytes, and before `bind` each bit of the report is 1. A set has at most 65,536 bytes, its sheet at
-// most 130 words, its arena at most 262,144 bytes.
+// most 130 words, its arena at most 262,144 bytes. The first byte is 0 for strict or 1 for lenient, plus 4 * t where the word of type t is to pass
+// it over, or 4 * t + 2 where it is to refuse it; the other words are the supplied ones, so that 0 or 1 alone leaves them all.
 ghost use Prim.Native.Nat.{_≤_};
 use binder::Answer;
 use binder::Policy;
@@ -74,7 +75,7 @@ fn show_arena(arena: &[u8]) {
 }
 
 fn policy_of(b: u8) -> Policy {
-    if b == 0 {
+    if b % 2 == 0 {
         return Policy::Strict;
     }
     Policy::Lenient
@@ -86,20 +87,30 @@ fn show_bound(a: Answer, report: &[u32], arena: &[u8]) {
     show_arena(arena);
 }
 
+// The word of one type becomes pass, or refuse.
+fn edit(types: &mut [u32], b: u8) {
+    let t = b / 4;
+    let at = t as usize;
+    if at < types.len() {
+        let kind = 0xa000_0000 + (b / 2 % 2) as u32 * 0x1000_0000;
+        types[at] = kind + t as u32;
+    }
+}
+
 fn bind_set(
     arena: &mut [u8],
     sheet: &[u32],
     bytes: &[u8],
     address: u64,
-    policy: Policy,
+    mark: u8,
     report: &mut [u32],
 ) {
-    let a = binder::bind::bind(sheet, bytes, arena, address, policy, report);
+    let mut types = [0u32; 64];
+    binder::types::supply(&mut types);
+    edit(&mut types, mark);
+    let policy = policy_of(mark);
+    let a = binder::bind::bind(sheet, bytes, arena, address, policy, &types, report);
     show_bound(a, report, arena);
-}
-
-fn policy_at(input: &[u8], at: usize) -> Policy {
-    policy_of(words::bytes::byte_at(input, at, 0))
 }
 
 // How many of 1,024 words are not for the report of the set at `at`.
@@ -113,9 +124,9 @@ fn spare_words(input: &[u8], at: usize) -> usize
 fn bind_at(arena: &mut [u8], sheet: &[u32], bytes: &[u8], input: &[u8], at: usize) {
     let mut report = [0xffff_ffffu32; 1024];
     let from = spare_words(input, at);
-    let policy = policy_at(input, at);
+    let mark = words::bytes::byte_at(input, at, 0);
     let address = words::bytes::u64_off(input, at, 1);
-    bind_set(arena, sheet, bytes, address, policy, &mut report[from..]);
+    bind_set(arena, sheet, bytes, address, mark, &mut report[from..]);
 }
 
 fn ask_name(

@@ -202,6 +202,35 @@ module _ (t : List ℕ) (k : ℕ) (s : Link) where
       × (((j : ℕ) → (j ≡ k → ⊥) → linkAt x j ≡ linkAt t j) × (16 * k + 16 ≤ length t → FilteredBelow t k → FilteredBelow x (k + 1))))
   put-all {x} f e = rw e (refl, (put-get f, (put-other, put-filtered f)))
 
+-- ---- a table with the same words of objects
+
+module _ (t t′ : List ℕ) (row-word : (i : ℕ) → i < 1024 → getD t′ i 0 ≡ getD t i 0) where
+  pub link-same : (k : ℕ) → k < 64 → linkAt t′ k ≡ linkAt t k
+  unfolding linkAt
+  link-same k l =
+      rw (
+        row-word (16 * k + 0) (omega arith),
+        row-word (16 * k + 1) (omega arith),
+        row-word (16 * k + 2) (omega arith),
+        row-word (16 * k + 3) (omega arith),
+        row-word (16 * k + 4) (omega arith),
+        row-word (16 * k + 5) (omega arith),
+        row-word (16 * k + 6) (omega arith),
+        row-word (16 * k + 7) (omega arith),
+        row-word (16 * k + 8) (omega arith),
+        row-word (16 * k + 9) (omega arith),
+      )
+
+  pub filter-same : (k : ℕ) → k < 64 → FilteredAt t k → FilteredAt t′ k
+  filter-same k l before =
+      rw (
+        link-same k l,
+        row-word (16 * k + 10) (omega arith),
+        row-word (16 * k + 11) (omega arith),
+        row-word (16 * k + 12) (omega arith),
+      )
+      before
+
 -- ---- a table with a count and an address put
 
 module _ (t : List ℕ) (count address : ℕ) (long : 1026 ≤ length t) where
@@ -222,30 +251,10 @@ module _ (t : List ℕ) (count address : ℕ) (long : 1026 ≤ length t) where
       getD-set-same (set t 1024 count) 1025 address 0 (omega arith)
 
   link-kept : (k : ℕ) → k < 64 → linkAt with-set k ≡ linkAt t k
-  unfolding linkAt
-  link-kept k l =
-      rw (
-        row-word (16 * k + 0) (omega arith),
-        row-word (16 * k + 1) (omega arith),
-        row-word (16 * k + 2) (omega arith),
-        row-word (16 * k + 3) (omega arith),
-        row-word (16 * k + 4) (omega arith),
-        row-word (16 * k + 5) (omega arith),
-        row-word (16 * k + 6) (omega arith),
-        row-word (16 * k + 7) (omega arith),
-        row-word (16 * k + 8) (omega arith),
-        row-word (16 * k + 9) (omega arith),
-      )
+  link-kept = link-same t with-set row-word
 
   filter-kept : (k : ℕ) → k < 64 → FilteredAt t k → FilteredAt with-set k
-  filter-kept k l before =
-      rw (
-        link-kept k l,
-        row-word (16 * k + 10) (omega arith),
-        row-word (16 * k + 11) (omega arith),
-        row-word (16 * k + 12) (omega arith),
-      )
-      before
+  filter-kept = filter-same t with-set row-word
 
   set-filtered : count ≤ 64 → FilteredBelow t count → Filtered with-set
   set-filtered few before =

@@ -39,7 +39,8 @@ use Rattle.binder.specs.Instance.{File, fileImage, objectFrom, objectAt}
 use Rattle.binder.specs.Verdict.{noFile}
 use Rattle.binder.specs.SetOrder.{setOrder}
 use Rattle.binder.specs.Bind as bind
-use Rattle.binder.specs.Bind.{filesOf, namesOf, objectsOf, outcome, bindSet, bindOf}
+use Rattle.binder.specs.Bind.{filesOf, namesOf, objectsOf, typesVerdict, outcome, bindSet, bindOf}
+use Rattle.binder.specs.Steps.Relocating as relocating
 use Rattle.binder.specs.Steps.Prepared.{Prepared, linkOf}
 use Rattle.binder.specs.Steps.Needed.{Arranged}
 use Rattle.binder.specs.Steps.Finished as finished
@@ -107,7 +108,8 @@ same-array ea ec = rw (ea, ec)
 
 module _
     (setting : Setting) (size : ℕ) (table : List ℕ) (h p : Input) (ls : List Input) (arena a : List ℕ) (r : Verdict) (len : length arena ≡ size)
-    (kept : length a ≡ length arena) (made : Prepared setting (h ∷ (p ∷ ls)) arena a table r) (z : r ≡ Passed)
+    (kept : length a ≡ length arena) (made : Prepared setting (typesVerdict setting) (h ∷ (p ∷ ls)) arena a table r) (z : r ≡ Passed)
+    (typed : (rtype : ℕ) → relocating.rowAt table rtype ≡ setting .row rtype)
   where
     abbrev fs : List File
     fs = map fileOf ls
@@ -116,7 +118,7 @@ module _
     S = objsOf (objectFrom setting) (hostFile h) (fileOf p) fs
 
     set-loaded : LoadedSet setting size table (hostFile h) (fileOf p) fs
-    set-loaded = binds.loaded setting size table h p ls arena a r len kept made z
+    set-loaded = binds.loaded setting size table h p ls arena a r len kept made z typed
 
     count-of : objects.count S ≡ length ls + 2
     count-of =
@@ -138,7 +140,7 @@ module _
     fields-are k l =
         let image : imageAt a (linkAt table k) ≡ fileImage (file k) =
         starts setting size table (hostFile h) (fileOf p) fs set-loaded a (λ _. 0) (kept ∙ len) (made .arena z) k (omega (arith, count-of)) in
-        let bytes = binds.files-are setting size table h p ls arena a r len kept made z k l in
+        let bytes = binds.files-are setting size table h p ls arena a r len kept made z typed k l in
         rw (image, bytes)
 
     module _ (rows : List ℕ) (read : RowsRead (h ∷ (p ∷ ls)) (length ls + 2) a table rows) (a′ : List ℕ) where
@@ -157,7 +159,7 @@ module _
 
     module _ (order : List ℕ) (same : order ≡ setOrder (filesOf (h ∷ (p ∷ ls))) (namesOf (h ∷ (p ∷ ls)))) where
       once : OnceEach (objects.count S) order
-      once = binds.in-order setting size table h p ls arena a r len kept made z order same
+      once = binds.in-order setting size table h p ls arena a r len kept made z typed order same
 
       among-set : (i : ℕ) → i < length order → (1 ≤ getD order i 0) × (getD order i 0 < length ls + 2)
       among-set i l = let x = among (objects.count S) order (omega (arith, count-of)) once i l in omega (arith, x .0, x .1, count-of)
@@ -206,14 +208,14 @@ then-refused setting os size policy words m a report start stop n k e b =
 -- the order is the set's
 pub order-of-set :
     (setting : Setting) (os : List Input) (count : ℕ) (arena a table : List ℕ) (r : Verdict) → 2 ≤ count → length os ≡ count → length a ≡ length arena
-    → Prepared setting os arena a table r → r ≡ Passed → (order : Order) → Arranged os count a table order
+    → Prepared setting (typesVerdict setting) os arena a table r → r ≡ Passed → ((rtype : ℕ) → relocating.rowAt table rtype ≡ setting .row rtype) → (order : Order) → Arranged os count a table order
     → InOrder table (take (order .count) (order .list))
-order-of-set setting [] count arena a table r two many kept made z order o = absurd (omega (arith, many))
-order-of-set setting (h ∷ []) count arena a table r two many kept made z order o = absurd (omega (arith, many))
-order-of-set setting (h ∷ (p ∷ ls)) count arena a table r two many kept made z order o =
+order-of-set setting [] count arena a table r two many kept made z typed order o = absurd (omega (arith, many))
+order-of-set setting (h ∷ []) count arena a table r two many kept made z typed order o = absurd (omega (arith, many))
+order-of-set setting (h ∷ (p ∷ ls)) count arena a table r two many kept made z typed order o =
     let c : count ≡ length ls + 2 = omega (arith, many) in
-    set-in-order setting (length arena) table h p ls arena a r refl kept made z (take (order .count) (order .list))
-    (binds.ordered setting (length arena) table h p ls arena a r refl kept made z order
+    set-in-order setting (length arena) table h p ls arena a r refl kept made z typed (take (order .count) (order .list))
+    (binds.ordered setting (length arena) table h p ls arena a r refl kept made z typed order
     (subst (λ (n : ℕ). Arranged (h ∷ (p ∷ ls)) n a table order) c o))
 
 bound-then :
@@ -229,30 +231,30 @@ bound-then setting os size policy words starts stops a report m passed b =
 -- the lists of what was bound
 pub then-listed :
     (setting : Setting) (os : List Input) (count : ℕ) (arena a table : List ℕ) (r : Verdict) → 2 ≤ count → length os ≡ count → length a ≡ length arena
-    → Prepared setting os arena a table r → r ≡ Passed → (order : Order) → Arranged os count a table order
+    → Prepared setting (typesVerdict setting) os arena a table r → r ≡ Passed → ((rtype : ℕ) → relocating.rowAt table rtype ≡ setting .row rtype) → (order : Order) → Arranged os count a table order
     → (rows : List ℕ) → RowsRead os count a table rows
     → (policy : Policy) (report : List ℕ) → report ≡ replicate (length report) 0
     → (a′ report′ : List ℕ) (m : Verdict) → Relocated os table (take (order .count) (order .list)) a policy report a′ report′ m → m ≡ Passed
     → (start stop : List ℕ) (l : Lists) → ListsMade (callsAt a′ table rows) (take (order .count) (order .list)) a′ start stop l
     → finishedOf l a′ report′ start stop
     ≡ thenList setting os (length start) (length stop) (bindSet setting os (length arena) policy (length report))
-then-listed setting [] count arena a table r two many kept made z order o rows read policy report zeros a′ report′ m g passed start stop l lm =
+then-listed setting [] count arena a table r two many kept made z typed order o rows read policy report zeros a′ report′ m g passed start stop l lm =
     absurd (omega (arith, many))
-then-listed setting (h ∷ []) count arena a table r two many kept made z order o rows read policy report zeros a′ report′ m g passed start stop l lm =
+then-listed setting (h ∷ []) count arena a table r two many kept made z typed order o rows read policy report zeros a′ report′ m g passed start stop l lm =
     absurd (omega (arith, many))
-then-listed setting (h ∷ (p ∷ ls)) count arena a table r two many kept made z order o rows read policy report zeros a′ report′ m g passed start stop l lm =
+then-listed setting (h ∷ (p ∷ ls)) count arena a table r two many kept made z typed order o rows read policy report zeros a′ report′ m g passed start stop l lm =
     lm report′
-    ∙ (lists-are setting (length arena) table h p ls arena a r refl kept made z (take (order .count) (order .list)) same rows
+    ∙ (lists-are setting (length arena) table h p ls arena a r refl kept made z typed (take (order .count) (order .list)) same rows
     (subst (λ (n : ℕ). RowsRead (h ∷ (p ∷ ls)) n a table rows) c read) a′ report′ (length start) (length stop)
     ∙ bound-then setting (h ∷ (p ∷ ls)) (length arena) policy (length report) (length start) (length stop) a′ report′ m passed
-    (bind-is setting (h ∷ (p ∷ ls)) count arena a table r two many kept made z order o policy report zeros a′ report′ m g))
+    (bind-is setting (h ∷ (p ∷ ls)) count arena a table r two many kept made z typed order o policy report zeros a′ report′ m g))
   where
     c : count ≡ length ls + 2
     c = omega (arith, many)
 
     same : take (order .count) (order .list) ≡ setOrder (filesOf (h ∷ (p ∷ ls))) (namesOf (h ∷ (p ∷ ls)))
     same =
-        binds.ordered setting (length arena) table h p ls arena a r refl kept made z order
+        binds.ordered setting (length arena) table h p ls arena a r refl kept made z typed order
         (subst (λ (n : ℕ). Arranged (h ∷ (p ∷ ls)) n a table order) c o)
 
 -- ---- the objects of a sheet

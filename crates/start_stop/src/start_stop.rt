@@ -4,7 +4,7 @@ ghost use mathlib.Core.List.{List};
 ghost use Prim.Native.Nat.{ℕ, _≤_};
 ghost use lib.ListN.{length, replicate, take};
 ghost use Rattle.sheet.specs.Steps.Parts.{inputsIn};
-ghost use Rattle.binder.specs.Setting.{settingAt};
+ghost use Rattle.binder.specs.Setting.{settingOf};
 ghost use Rattle.binder.specs.Bind.{bindSet};
 ghost use Rattle.start_stop.specs.StartStop.{listing, thenList, startStopOf};
 ghost use Rattle.start_stop.specs.Steps.Rows.{callsAt, InOrder};
@@ -58,21 +58,24 @@ fn list_set(
     arena: &mut [u8],
     address: u64,
     policy: Policy,
+    types: &[u32],
     report: &mut [u32],
     start: &mut [u64],
     stop: &mut [u64],
 ) -> Lists
     requires { ⌜ (2 ≤ parts .count) × (parts .count ≤ 64) × (length (inputsIn (now bytes) parts) ≡ parts .count) × (now report ≡ replicate (length (now report)) 0) × (now start ≡ replicate (length (now start)) 0) × (now stop ≡ replicate (length (now stop)) 0) ⌝ }
-    ensures { λ r. ⌜ finishedOf r (now (arena .exit)) (now (report .exit)) (now (start .exit)) (now (stop .exit)) ≡ thenList (settingAt address) (inputsIn (now (bytes .entry)) parts) (length (now (start .entry))) (length (now (stop .entry))) (bindSet (settingAt address) (inputsIn (now (bytes .entry)) parts) (length (now (arena .entry))) policy (length (now (report .entry)))) ⌝ }
+    ensures { λ r. ⌜ finishedOf r (now (arena .exit)) (now (report .exit)) (now (start .exit)) (now (stop .exit)) ≡ thenList (settingOf address (now (types .entry))) (inputsIn (now (bytes .entry)) parts) (length (now (start .entry))) (length (now (stop .entry))) (bindSet (settingOf address (now (types .entry))) (inputsIn (now (bytes .entry)) parts) (length (now (arena .entry))) policy (length (now (report .entry)))) ⌝ }
 {
-    let mut table = [0u64; 1026];
-    let m = binder::prepare::prepare(bytes, parts, arena, address, &mut table);
+    let mut table = [0u64; 1090];
+    let t = binder::types::types_verdict(types);
+    let m = binder::prepare::prepare(bytes, parts, arena, address, t, &mut table);
     if let Verdict::Refused { number, object } = m {
         return Lists::Refused {
             number: number,
             object: object,
         };
     }
+    binder::types::put_types(&mut table, types);
     let mut rows = [0u64; 512];
     crate::rows::read_rows(&mut rows, bytes, parts, arena, &table);
     let order = binder::needs::order_of(bytes, parts, arena, &table);
@@ -116,11 +119,12 @@ pub fn start_stop(
     arena: &mut [u8],
     address: u64,
     policy: Policy,
+    types: &[u32],
     report: &mut [u32],
     start: &mut [u64],
     stop: &mut [u64],
 ) -> Lists
-    ensures { λ r. ⌜ listing r (now (arena .exit)) (now (report .exit)) (now (start .exit)) (now (stop .exit)) ≡ startStopOf (settingAt address) (now (sheet .entry)) (now (bytes .entry)) (length (now (arena .entry))) policy (length (now (report .entry))) (length (now (start .entry))) (length (now (stop .entry))) ⌝ }
+    ensures { λ r. ⌜ listing r (now (arena .exit)) (now (report .exit)) (now (start .exit)) (now (stop .exit)) ≡ startStopOf (settingOf address (now (types .entry))) (now (sheet .entry)) (now (bytes .entry)) (length (now (arena .entry))) policy (length (now (report .entry))) (length (now (start .entry))) (length (now (stop .entry))) ⌝ }
 {
     words::bytes::clear_words(report);
     crate::fill::clear_list(start);
@@ -133,6 +137,6 @@ pub fn start_stop(
         };
         return finish(one, arena, report, start, stop);
     }
-    let l = list_set(bytes, parts, arena, address, policy, report, start, stop);
+    let l = list_set(bytes, parts, arena, address, policy, types, report, start, stop);
     finish(l, arena, report, start, stop)
 }

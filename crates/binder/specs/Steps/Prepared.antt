@@ -77,9 +77,9 @@ pub record LoadedFiles (setting : Setting) (files : List File) (before after lin
   pub table : r ≡ Passed → Linked setting links 0 0 files
   pub filtered : r ≡ Passed → FilteredBelow links (length files)
 
--- what preparing a set leaves
-pub record Prepared (setting : Setting) (os : List Input) (before after links : List ℕ) (r : Verdict) : Type 0 where
-  pub met : r ≡ prepareVerdict setting os (length before)
+-- what preparing a set leaves, where `types` is met between 2 and 3
+pub record Prepared (setting : Setting) (types : Verdict) (os : List Input) (before after links : List ℕ) (r : Verdict) : Type 0 where
+  pub met : r ≡ prepareVerdict setting types os (length before)
   pub arena : r ≡ Passed → mem after ≡ placeFiles setting (filesOf os) 0 (λ _. 0)
   pub table : r ≡ Passed → Linked setting links 0 0 (filesOf os)
   pub filtered : r ≡ Passed → Filtered links

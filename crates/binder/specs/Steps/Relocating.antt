@@ -1,5 +1,5 @@
 -- Relocating the objects of a set, one after another: what the code does, in its own order, over the arena as it is at each step. Document
--- 01, "Relocated bytes and report", "Refused, in checking order" (14 to 18, 22). `Bind` has what it comes to, from the placed bytes alone;
+-- 01, "Relocated bytes and report", "Refused, in checking order" (14 to 18, 22, 25). `Bind` has what it comes to, from the placed bytes alone;
 -- proofs/RelocatedIs joins the two. Assumes nothing.
 use mathlib.Core.Logic.{_⊎_}
 use mathlib.Core.Bool.{Bool, true, false, not}
@@ -14,7 +14,7 @@ use Rattle.words.specs.Hash.{gnuHash, elfHash}
 use Rattle.object.specs.TableBytes.{inWritable}
 use Rattle.object.specs.Symbol.{bindingOf}
 use Rattle.object.specs.ProgramHeader.{loadsOf, dynamicOf}
-use Rattle.object.specs.RelocationTypes.{Calculation, Row, noSearch, inScope, ignored, passedOver, turnedAway, copies, writes, rowOf}
+use Rattle.object.specs.RelocationTypes.{Calculation, Row, noSearch, inScope, ignored, passedOver, turnedAway, markedRefuse, copies, writes, rowUnder}
 use Rattle.object.specs.Entries.{relaAt, relrAt, relrOf}
 use Rattle.object.specs.Record.{Record, checkedSymbol, nameOf, readRefusal, recordAt}
 use Rattle.object.specs.declared.program_header.Segment.{Segment}
@@ -297,6 +297,10 @@ againRefusal image file = pick (leb (length (loadsOf file)) 16) (readRefusal fal
 abbrev pub againRecord : List ℕ → List ℕ → Record
 againRecord image file = recordAt image (loadsOf file) (dynamicOf file)
 
+-- what an entry of a type does, by the words of the types that stand behind the address
+unfoldable pub rowAt : List ℕ → ℕ → Row
+rowAt table rtype = rowUnder (getD table (1026 + rtype) 0) rtype
+
 module _ (table : List ℕ) where
   -- the search for a symbol's name, and COPY's
   abbrev pub soughtFor : Turn → List ℕ → List ℕ → Resolved
@@ -324,6 +328,7 @@ module _ (table : List ℕ) where
   runAction t r i e ignored p a report = left p a report
   runAction t r i e passedOver p a report = withArena a (noteOf (reportSum 7 i) p report)
   runAction t r i e turnedAway p a report = left (refusedBy t 16 p) a report
+  runAction t r i e markedRefuse p a report = left (refusedBy t 25 p) a report
   runAction t r i e (writes noSearch f) p a report = withReport report (fixedOf t (r .segments) e f p a)
   runAction t r i e (writes (inScope searched) f) p a report =
       writeSought t e f i (soughtOf t r e searched f p a (checkedSymbol (imageIn a t) r (e .symbol))) p a report
@@ -334,7 +339,7 @@ module _ (table : List ℕ) where
   runTable t r at first zero j st = st
   runTable t r at first (suc n) j (left p a report) =
       unlessRefused (runTable t r at first n (j + 1))
-      (runAction t r ((first + j) % 2 ^ 32) (relaAt (imageIn a t) at j) (rowOf (relaAt (imageIn a t) at j .rtype)) p a report)
+      (runAction t r ((first + j) % 2 ^ 32) (relaAt (imageIn a t) at j) (rowAt table (relaAt (imageIn a t) at j .rtype)) p a report)
 
   -- ---- an object
 

@@ -13,7 +13,6 @@ use Rattle.object.specs.declared.program_header.Segment.{Segment}
 use Rattle.words.specs.Memory.{mem, patch}
 use Rattle.words.specs.Words.{leAt, byteOf, sum64}
 use Rattle.object.specs.Entries.{relaAt}
-use Rattle.object.specs.RelocationTypes.{rowOf}
 use Rattle.object.specs.Steps.Actions.{rowBy, fieldBy, searchedBy}
 use Rattle.object.specs.declared.relocate.Field.{Field}
 use Rattle.object.specs.declared.relocate.Action.the-variants.{Relative, Symbolic}
@@ -27,7 +26,7 @@ use Rattle.binder.specs.declared.relocate.SymbolEntry.{SymbolEntry}
 use Rattle.binder.specs.declared.relocate.SymbolEntry.the-variants.{Other, Here}
 use Rattle.binder.specs.declared.relocate.Address.{Address}
 use Rattle.binder.specs.declared.relocate.Address.the-variants.{Nowhere, At}
-use Rattle.binder.specs.Steps.Relocating.{left, keeps, imageIn, summed, addBits, runTable}
+use Rattle.binder.specs.Steps.Relocating.{left, keeps, imageIn, summed, addBits, runTable, rowAt}
 
 -- the table bytes of an object at its turn are in the arena `b` as they were in `a`
 pub record TablesKept (t : Turn) (r : Record) (a b : List ℕ) : Type 0 where
@@ -41,9 +40,9 @@ pub record InReach (len : ℕ) (t : Turn) (at n high : ℕ) : Type 0 where
   pub word : 8 ≤ high
   pub inside : high ≤ t .span
 
--- entry `i` of the table at `at` of the part `x` is Relative, its place is in low .. high, and its word was written: `y` is left
+-- entry `i` of the table at `at` of the part `x` has type 8, its place is in low .. high, and its word was written: `y` is left
 pub record RelativeWritten (base at low high i : ℕ) (x y : List ℕ) : Type 0 where
-  pub acts : rowOf (relaAt x at i .rtype) ≡ rowBy Relative
+  pub acts : relaAt x at i .rtype ≡ 8
   pub above : low ≤ relaAt x at i .place
   pub below : relaAt x at i .place + 8 ≤ high
   pub written : y ≡ patch x (relaAt x at i .place) 8 (byteOf (sum64 base (relaAt x at i .addend)))
@@ -56,9 +55,9 @@ RelativesWritten base at low high i (suc m) x y =
 
 -- of the table of `n` entries at `at`, what is left from entry `i` on over the arena `a` is what is left from entry `j` on over `b`, for an
 -- object in which low .. high is writable, and where no refusal was met
-abbrev pub EntriesPassed : Turn → ℕ → ℕ → ℕ → ℕ → ℕ → List ℕ → ℕ → List ℕ → Type 0
-EntriesPassed t at n low high i a j b =
-    (table : List ℕ) (r : Record) (first : ℕ) (p : Progress) (report : List ℕ)
+abbrev pub EntriesPassed : List ℕ → Turn → ℕ → ℕ → ℕ → ℕ → ℕ → List ℕ → ℕ → List ℕ → Type 0
+EntriesPassed table t at n low high i a j b =
+    (r : Record) (first : ℕ) (p : Progress) (report : List ℕ)
     → WritableRange (r .segments) low high
     → (0 < high → p .refusal ≡ 0)
     → (runTable table t r at first (n - j) j (left p b report) ≡ runTable table t r at first (n - i) i (left p a report))
@@ -72,8 +71,8 @@ pub record SymbolsOf (t : Turn) (r : Record) (y : Symbols) (a : List ℕ) : Type
 
 -- the entry that stands at `k` of the arena `a` is Symbolic with a field of eight bytes, its place is in low .. high, and its symbol is searched
 -- and needs no further test
-pub record EntryHere (a : List ℕ) (t : Turn) (y : Symbols) (k low high : ℕ) (field : Field) (place index name addend : ℕ) : Type 0 where
-  pub acts : rowOf (leAt 4 (mem a) (k + 8)) ≡ rowBy (Symbolic field)
+pub record EntryHere (table a : List ℕ) (t : Turn) (y : Symbols) (k low high : ℕ) (field : Field) (place index name addend : ℕ) : Type 0 where
+  pub acts : rowAt table (leAt 4 (mem a) (k + 8)) ≡ rowBy (Symbolic field)
   pub wide : fieldBy field .width ≡ 8
   pub searched : searchedBy field index ≡ true
   pub addend-is : addend ≡ leAt 8 (mem a) (k + 16)
@@ -85,9 +84,9 @@ pub record EntryHere (a : List ℕ) (t : Turn) (y : Symbols) (k low high : ℕ) 
   pub name-is : name ≡ leAt 4 (mem a) (t .offset + y .symbols + 24 * index)
   pub named : name < y .ends
 
-abbrev pub EntryRead : List ℕ → Turn → Symbols → ℕ → ℕ → ℕ → SymbolEntry → Type 0
-EntryRead a t y k low high Other = Unit {0}
-EntryRead a t y k low high (Here field place index name addend) = EntryHere a t y k low high field place index name addend
+abbrev pub EntryRead : List ℕ → List ℕ → Turn → Symbols → ℕ → ℕ → ℕ → SymbolEntry → Type 0
+EntryRead table a t y k low high Other = Unit {0}
+EntryRead table a t y k low high (Here field place index name addend) = EntryHere table a t y k low high field place index name addend
 
 -- what a search found
 abbrev pub addressFound : Resolved → Address

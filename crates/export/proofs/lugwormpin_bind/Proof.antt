@@ -13,7 +13,7 @@ use Rattle.export.proofs.policy_of.Reads as policy-of-reads
 
 returns : tie.Need-returns
 returns c =
-    ap (λ (n : ℕ). called n (c .before .before .before .before .before .bind .last .1 .1 .0) (c .before .before .before .before .before .bind .last .1 .1 .1 .1 .1 .0)) (c .answer-number .ensures)
+    ap (λ (n : ℕ). called n (c .before .before .before .before .before .bind .last .1 .1 .0) (c .before .before .before .before .before .bind .last .1 .1 .1 .1 .1 .1 .0)) (c .answer-number .ensures)
     ∙ rw (c .before .before .before .before .before .before .before .before .policy-of .ensures) at (ap calledOf (c .before .before .before .before .before .bind .ensures))
 
 pub lugwormpin-bind-spec : {M : Type 1} → statement M

@@ -2,9 +2,9 @@
 use mathlib.Core.Bool.{Bool}
 use Prim.Native.Nat.{ℕ}
 use Rattle.words.specs.Words.{sum64, diff64}
-use Rattle.object.specs.RelocationTypes.{Calculation, Row, noSearch, inScope, everySymbol, notSymbol0, ignored, passedOver, turnedAway, copies, writes, word64, unsigned32, signed32}
+use Rattle.object.specs.RelocationTypes.{Calculation, Row, noSearch, inScope, everySymbol, notSymbol0, ignored, passedOver, turnedAway, markedRefuse, copies, writes, word64, unsigned32, signed32}
 use Rattle.object.specs.declared.relocate.Action.{Action}
-use Rattle.object.specs.declared.relocate.Action.the-variants.{Ignored, Passed, Relative, Symbolic, Copy, Irelative}
+use Rattle.object.specs.declared.relocate.Action.the-variants.{Ignored, Passed, Relative, Symbolic, Copy, Irelative, Refused}
 use Rattle.object.specs.declared.relocate.Field.{Field}
 use Rattle.object.specs.declared.relocate.Field.the-variants.{Address, Direct64, Pc64, Pc32, Direct32, Direct32S}
 
@@ -36,3 +36,4 @@ rowBy Relative = writes noSearch relativeWord
 rowBy (Symbolic f) = writes (inScope (searchedBy f)) (fieldBy f)
 rowBy Copy = copies
 rowBy Irelative = turnedAway
+rowBy Refused = markedRefuse

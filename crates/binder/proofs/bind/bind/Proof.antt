@@ -4,7 +4,7 @@ use mathlib.Core.Path.{_≡_, sym, ap, _∙_}
 use native.Mathlib.Omega.{arith}
 use denote.Ref.{now}
 use lib.ListN.{length, replicate}
-use Rattle.binder.specs.Setting.{settingAt}
+use Rattle.binder.specs.Setting.{settingOf}
 use Rattle.binder.specs.Steps.Finished.{finishedOf}
 use Rattle.binder.proofs.PrepareLaws.{many-parts}
 use Rattle.binder.proofs.BindIs.{bind-refused, bind-handed}
@@ -23,16 +23,16 @@ same-length-2 c =
 returns : tie.Need-returns
 unfolding finishedOf
 returns c =
-    let a = c .before .before .before .before .before .before .before .before .before .before .before .before .before .before .before .before .before .before .args in
+    let a = c .before .before .before .before .before .before .before .before .before .before .before .before .before .before .before .before .before .before .before .args in
     let w : length (c .before .before .before .before .before .before .before .before .before .before .before .before .clear-words .last .0) ≡ length (now (a .report)) = c .before .before .before .before .before .before .before .before .before .before .before .before .clear-words .kept .0 in
     rw w at (c .before .before .before .before .finish .ensures)
-    ∙ bind-refused (settingAt (a .address)) (now (a .sheet)) (now (a .bytes)) (length (now (a .arena))) _ (c .before .before .before .before .before .before .before .before .before .parts-of .ensures) (a .policy) (length (now (a .report))) (c .before .before .before .before .before .before .before .if1 .taken)
+    ∙ bind-refused (settingOf (a .address) (now (a .types))) (now (a .sheet)) (now (a .bytes)) (length (now (a .arena))) _ (c .before .before .before .before .before .before .before .before .before .parts-of .ensures) (a .policy) (length (now (a .report))) (c .before .before .before .before .before .before .before .if1 .taken)
 
 bind-set-requires : tie.Need-bind-set-requires
 bind-set-requires c κs = (
   omega (arith, c .before .before .if1 .left),
   c .before .before .before .before .parts-of .ensures .few,
-  many-parts (c .before .before .before .before .parts-of .ensures) (now (c .before .before .before .before .before .before .before .before .before .before .before .before .before .args .bytes)),
+  many-parts (c .before .before .before .before .parts-of .ensures) (now (c .before .before .before .before .before .before .before .before .before .before .before .before .before .before .args .bytes)),
   c .before .before .before .before .before .before .before .clear-words .ensures ∙ ap (λ (n : ℕ). replicate n 0) (sym (c .before .before .before .before .before .before .before .clear-words .kept .0)),
 )
 
@@ -42,15 +42,15 @@ same-length-3 c =
 
 same-length-4 : tie.Need-same-length-4
 same-length-4 c =
-    c .before .before .before .before .finish2 .kept .1 .1 .0 ∙ c .before .before .before .before .before .before .before .before .before .before .before .bind-set .kept .1 .1 .1 .1 .1 .0 ∙ c .before .before .before .before .before .before .before .before .before .before .before .before .before .before .before .before .before .before .before .clear-words .kept .0
+    c .before .before .before .before .finish2 .kept .1 .1 .0 ∙ c .before .before .before .before .before .before .before .before .before .before .before .bind-set .kept .1 .1 .1 .1 .1 .1 .0 ∙ c .before .before .before .before .before .before .before .before .before .before .before .before .before .before .before .before .before .before .before .clear-words .kept .0
 
 returns-2 : tie.Need-returns-2
 returns-2 c =
-    let a = c .before .before .before .before .before .before .before .before .before .before .before .before .before .before .before .before .before .before .before .before .before .before .before .before .before .args in
+    let a = c .before .before .before .before .before .before .before .before .before .before .before .before .before .before .before .before .before .before .before .before .before .before .before .before .before .before .args in
     let w : length (c .before .before .before .before .before .before .before .before .before .before .before .before .before .before .before .before .before .before .before .clear-words .last .0) ≡ length (now (a .report)) = c .before .before .before .before .before .before .before .before .before .before .before .before .before .before .before .before .before .before .before .clear-words .kept .0 in
     c .before .before .before .before .finish2 .ensures
     ∙ (rw w at (c .before .before .before .before .before .before .before .before .before .before .before .bind-set .ensures)
-    ∙ bind-handed (settingAt (a .address)) (now (a .sheet)) (now (a .bytes)) (length (now (a .arena))) _ (c .before .before .before .before .before .before .before .before .before .before .before .before .before .before .before .before .parts-of .ensures) (a .policy) (length (now (a .report))) (omega (arith, c .before .before .before .before .before .before .before .before .before .before .before .before .before .before .if1 .left)))
+    ∙ bind-handed (settingOf (a .address) (now (a .types))) (now (a .sheet)) (now (a .bytes)) (length (now (a .arena))) _ (c .before .before .before .before .before .before .before .before .before .before .before .before .before .before .before .before .parts-of .ensures) (a .policy) (length (now (a .report))) (omega (arith, c .before .before .before .before .before .before .before .before .before .before .before .before .before .before .if1 .left)))
 
 pub bind-spec : {M : Type 1} → statement M
 bind-spec =

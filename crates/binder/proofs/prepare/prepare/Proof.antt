@@ -4,35 +4,46 @@ use native.Mathlib.Omega.{arith}
 use borrow.Author.Tests.{not-true, not-false}
 use denote.Ref.{now}
 use Rattle.sheet.specs.Steps.Parts.{inputsIn}
-use Rattle.binder.proofs.PrepareLaws.{arena-bounds, prepare-two, prepare-three, prepare-loads}
 use Rattle.binder.specs.Setting.{settingAt}
+use Rattle.binder.proofs.PrepareLaws.{arena-bounds, prepare-two, prepare-types, prepare-three, prepare-loads}
 use borrow.Author.Needs.{needs}
 use Rattle.binder.proofs.prepare.prepare.Statement.{statement}
 use Rattle.binder.proofs.prepare.prepare.Tie as tie
 
 returns : tie.Need-returns
 returns c =
-    let a = c .before .before .before .before .before .args in
-    prepare-two (settingAt (a .address)) (inputsIn (now (a .bytes)) (a .parts)) (now (a .arena)) (sym (c .before .arena-ok .ensures) ∙ not-true _ (c .if1 .taken)) _ _
+    prepare-two (settingAt (c .before .before .before .before .before .args .address)) (c .before .before .before .before .before .args .types) (inputsIn (now (c .before .before .before .before .before .args .bytes)) (c .before .before .before .before .before .args .parts)) (now (c .before .before .before .before .before .args .arena))
+    (sym (c .before .arena-ok .ensures) ∙ not-true _ (c .if1 .taken)) _ _
 
 returns-2 : tie.Need-returns-2
 returns-2 c =
-    let a = c .before .before .before .before .before .before .before .args in
-    prepare-three (settingAt (a .address)) (inputsIn (now (a .bytes)) (a .parts)) (now (a .arena))
-    (sym (c .before .before .before .arena-ok .ensures) ∙ not-false _ (c .before .before .if1 .left)) (c .before .duplicate .result) (c .before .duplicate .ensures .0) (c .if2 .taken) _ _
-
-load-all-requires : tie.Need-load-all-requires
-load-all-requires c κs =
-    let a = c .before .before .before .before .before .before .before .before .before .args in
-    let b = arena-bounds _ (a .address) (sym (c .before .before .before .before .before .arena-ok .ensures) ∙ not-false _ (c .before .before .before .before .if1 .left)) in
-    (c .before .before .before .before .before .before .before .before .before .pre .0, c .before .before .before .before .before .before .before .before .before .pre .1, omega (arith, c .before .before .before .before .before .before .before .before .before .pre .2), b .0, b .1)
+    prepare-types (settingAt (c .before .before .before .before .before .before .before .args .address)) (c .before .before .before .before .before .before .before .args .types) (inputsIn (now (c .before .before .before .before .before .before .before .args .bytes)) (c .before .before .before .before .before .before .before .args .parts)) (now (c .before .before .before .before .before .before .before .args .arena))
+    (sym (c .before .before .before .arena-ok .ensures) ∙ not-false _ (c .before .before .if1 .left)) _ _ (c .enum-told2 .given .1) _ _
 
 returns-3 : tie.Need-returns-3
 returns-3 c =
-    let a = c .before .before .before .before .before .before .before .before .before .before .before .before .before .before .before .before .before .before .args in
-    prepare-loads (settingAt (a .address)) (inputsIn (now (a .bytes)) (a .parts)) (now (a .arena))
-    (sym (c .before .before .before .before .before .before .before .before .before .before .before .before .before .before .arena-ok .ensures) ∙ not-false _ (c .before .before .before .before .before .before .before .before .before .before .before .before .before .if1 .left)) (sym (c .before .before .before .before .before .before .before .before .before .before .before .before .duplicate .ensures .0) ∙ c .before .before .before .before .before .before .before .before .before .before .before .if2 .left) _ _ _ _ (c .before .before .before .before .before .before .before .before .load-all .ensures) (omega (arith, c .before .before .before .before .before .before .before .before .before .before .before .before .before .before .before .before .before .before .pre .0, c .before .before .before .before .before .before .before .before .before .before .before .before .before .before .before .before .before .before .pre .1))
-    (c .before .before .put-set .ensures .0 .0 ∙ sym (c .before .before .before .before .before .before .before .before .before .before .before .before .before .before .before .before .before .before .pre .1)) (c .before .before .put-set .ensures .0 .1) (c .before .before .put-set .ensures .1 .0) (λ before. c .before .before .put-set .ensures .1 .1 (λ k l. before k (omega (arith, c .before .before .before .before .before .before .before .before .before .before .before .before .before .before .before .before .before .before .pre .1))))
+    prepare-three (settingAt (c .before .before .before .before .before .before .before .before .before .args .address)) (c .before .before .before .before .before .before .before .before .before .args .types) (inputsIn (now (c .before .before .before .before .before .before .before .before .before .args .bytes)) (c .before .before .before .before .before .before .before .before .before .args .parts)) (now (c .before .before .before .before .before .before .before .before .before .args .arena))
+    (sym (c .before .before .before .before .before .arena-ok .ensures) ∙ not-false _ (c .before .before .before .before .if1 .left)) (c .before .before .enum-told .given .1) (c .before .duplicate .result) (c .before .duplicate .ensures .0) (c .if2 .taken) _ _
+
+load-all-requires : tie.Need-load-all-requires
+load-all-requires c κs =
+    let b = arena-bounds _ (c .before .before .before .before .before .before .before .before .before .before .before .args .address) (sym (c .before .before .before .before .before .before .before .arena-ok .ensures) ∙ not-false _ (c .before .before .before .before .before .before .if1 .left)) in
+    (c .before .before .before .before .before .before .before .before .before .before .before .pre .0, c .before .before .before .before .before .before .before .before .before .before .before .pre .1, omega (arith, c .before .before .before .before .before .before .before .before .before .before .before .pre .2), b .0, b .1)
+
+put-set-requires : tie.Need-put-set-requires
+put-set-requires c κs =
+    (omega (arith, c .before .before .before .before .before .load-all .kept .1 .1 .1 .1 .0, c .before .before .before .before .before .before .before .before .before .before .before .before .before .before .before .before .before .pre .2), c .before .before .before .before .before .before .before .before .before .before .before .before .before .before .before .before .before .pre .0)
+
+same-length-2 : tie.Need-same-length-2
+same-length-2 c =
+    c .before .before .put-set .kept .0 ∙ c .before .before .before .before .before .before .before .before .load-all .kept .1 .1 .1 .1 .0
+
+returns-4 : tie.Need-returns-4
+returns-4 c =
+    prepare-loads (settingAt (c .before .before .before .before .before .before .before .before .before .before .before .before .before .before .before .before .before .before .before .before .args .address)) (c .before .before .before .before .before .before .before .before .before .before .before .before .before .before .before .before .before .before .before .before .args .types) (inputsIn (now (c .before .before .before .before .before .before .before .before .before .before .before .before .before .before .before .before .before .before .before .before .args .bytes)) (c .before .before .before .before .before .before .before .before .before .before .before .before .before .before .before .before .before .before .before .before .args .parts)) (now (c .before .before .before .before .before .before .before .before .before .before .before .before .before .before .before .before .before .before .before .before .args .arena))
+    (sym (c .before .before .before .before .before .before .before .before .before .before .before .before .before .before .before .before .arena-ok .ensures) ∙ not-false _ (c .before .before .before .before .before .before .before .before .before .before .before .before .before .before .before .if1 .left)) (c .before .before .before .before .before .before .before .before .before .before .before .before .before .enum-told .given .1) (sym (c .before .before .before .before .before .before .before .before .before .before .before .before .duplicate .ensures .0) ∙ c .before .before .before .before .before .before .before .before .before .before .before .if2 .left) _ _ _ _ (c .before .before .before .before .before .before .before .before .load-all .ensures) (omega (arith, c .before .before .before .before .before .before .before .before .before .before .before .before .before .before .before .before .before .before .before .before .pre .0, c .before .before .before .before .before .before .before .before .before .before .before .before .before .before .before .before .before .before .before .before .pre .1))
+    (c .before .before .put-set .ensures .0 .0 ∙ sym (c .before .before .before .before .before .before .before .before .before .before .before .before .before .before .before .before .before .before .before .before .pre .1)) (c .before .before .put-set .ensures .0 .1) (c .before .before .put-set .ensures .1 .0)
+    (λ before. c .before .before .put-set .ensures .1 .1 (λ k l. before k (omega (arith, c .before .before .before .before .before .before .before .before .before .before .before .before .before .before .before .before .before .before .before .before .pre .1))))
 
 pub prepare-spec : {M : Type 1} → statement M
 prepare-spec =
@@ -40,11 +51,14 @@ prepare-spec =
     (tie.spec
     (λ c κs. search needs)
     returns
-    (λ c κs. search needs)
+    (λ c. search needs)
     (λ c. search needs)
     returns-2
-    load-all-requires
-    (λ c κs. (omega (arith, c .before .before .before .before .before .load-all .kept .1 .1 .1 .1 .0, c .before .before .before .before .before .before .before .before .before .before .before .before .before .before .before .pre .2), c .before .before .before .before .before .before .before .before .before .before .before .before .before .before .before .pre .0))
+    (λ c κs. search needs)
     (λ c. search needs)
-    (λ c. c .before .before .put-set .kept .0 ∙ c .before .before .before .before .before .before .before .before .load-all .kept .1 .1 .1 .1 .0)
-    returns-3)
+    returns-3
+    load-all-requires
+    put-set-requires
+    (λ c. search needs)
+    same-length-2
+    returns-4)

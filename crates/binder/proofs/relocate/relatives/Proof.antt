@@ -1,6 +1,5 @@
 -- `binder::relocate::relatives` meets its contract. Assumes nothing.
 use borrow.Author.Needs.{needs}
-use borrow.Author.Tests.{not-false}
 use denote.Ref.{now}
 use lib.ListN.{length}
 use native.Mathlib.Omega.{arith}
@@ -29,18 +28,18 @@ loop-holds c =
 
 loop-again : tie.Need-loop-again Inv-loop μ-loop
 loop-again c =
-    let a = c .before .before .before .before .before .before .before .before .before .before .before .before .before .before .before .before .before .before .args in
-    let l = c .before .before .before .before .before .before .before .before .before .before .before .before .before .before .before .before .loop in
+    let a = c .before .before .before .before .before .before .before .before .before .before .before .before .before .before .before .before .before .args in
+    let l = c .before .before .before .before .before .before .before .before .before .before .before .before .before .before .before .loop in
     let s = c .before .before .store-in in (
       s .kept .0 ∙ l .inv .0,
       omega (arith, l .inv .1),
-      omega (arith, c .before .before .before .before .before .before .before .before .before .before .before .before .before .before .before .loop-test .taken),
+      omega (arith, c .before .before .before .before .before .before .before .before .before .before .before .before .before .before .loop-test .taken),
       omega (arith, l .inv .3),
       l .inv .4,
       l .inv .5,
       l .inv .6,
       relatives-next (a .base) (a .at) (a .low) (a .high) (a .start) (l .i) (now (a .part)) (l .part) (s .last .0) (l .inv .1) (l .inv .7)
-          (relative-written (a .base) (a .at) (a .low) (a .high) (l .i) (l .part) (l .inv .3) (c .before .before .before .before .before .before .before .before .before .before .before .before .before .u32-in .ensures) (c .before .before .before .before .before .before .before .before .before .before .before .before .is-relative .ensures (not-false _ (c .before .before .before .before .before .before .before .before .before .before .before .if1 .left))) (c .before .before .before .before .before .before .before .before .before .u64-in .ensures) (omega (arith, c .before .before .before .before .before .before .before .before .if2 .left)) (omega (arith, c .before .before .before .before .before .before .before .if3 .left, l .inv .5)) (c .before .before .before .before .before .u64-in2 .ensures) (c .before .before .before .before .sum-u64 .ensures) (s .ensures)),
+          (relative-written (a .base) (a .at) (a .low) (a .high) (l .i) (l .part) (l .inv .3) (c .before .before .before .before .before .before .before .before .before .before .before .before .u32-in .ensures) (c .before .before .before .before .before .before .before .before .before .before .before .if1 .left) (c .before .before .before .before .before .before .before .before .before .u64-in .ensures) (omega (arith, c .before .before .before .before .before .before .before .before .if2 .left)) (omega (arith, c .before .before .before .before .before .before .before .if3 .left, l .inv .5)) (c .before .before .before .before .before .u64-in2 .ensures) (c .before .before .before .before .sum-u64 .ensures) (s .ensures)),
     )
 
 pub relatives-spec : {M : Type 1} → statement M
@@ -55,21 +54,20 @@ relatives-spec =
     loop-holds
     (λ c. search needs)
     (λ c κs. search needs)
+    (λ c. c .before .before .before .before .loop .inv .0)
+    (λ c. (c .before .before .before .before .loop .inv .1, c .before .before .before .before .loop .inv .2, c .before .before .before .before .loop .inv .7))
     (λ c κs. search needs)
-    (λ c. c .before .before .before .before .before .loop .inv .0)
-    (λ c. (c .before .before .before .before .before .loop .inv .1, c .before .before .before .before .before .loop .inv .2, c .before .before .before .before .before .loop .inv .7))
-    (λ c κs. search needs)
+    (λ c. c .before .before .before .before .before .before .before .loop .inv .0)
+    (λ c. (c .before .before .before .before .before .before .before .loop .inv .1, c .before .before .before .before .before .before .before .loop .inv .2, c .before .before .before .before .before .before .before .loop .inv .7))
     (λ c. c .before .before .before .before .before .before .before .before .loop .inv .0)
     (λ c. (c .before .before .before .before .before .before .before .before .loop .inv .1, c .before .before .before .before .before .before .before .before .loop .inv .2, c .before .before .before .before .before .before .before .before .loop .inv .7))
-    (λ c. c .before .before .before .before .before .before .before .before .before .loop .inv .0)
-    (λ c. (c .before .before .before .before .before .before .before .before .before .loop .inv .1, c .before .before .before .before .before .before .before .before .before .loop .inv .2, c .before .before .before .before .before .before .before .before .before .loop .inv .7))
     (λ c. search needs)
     (λ c κs. search needs)
     (λ c κs. search needs)
     (λ c κs. search needs)
     (λ c. search needs)
     (λ c. search needs)
-    (λ c. counts-down (c .before .before .before .before .before .before .before .before .before .before .before .before .before .before .before .loop-test .taken))
+    (λ c. counts-down (c .before .before .before .before .before .before .before .before .before .before .before .before .before .before .loop-test .taken))
     loop-again
     (λ c. c .before .loop .inv .0)
     (λ c. (c .before .loop .inv .1, c .before .loop .inv .2, c .before .loop .inv .7)))

@@ -5,12 +5,11 @@ use native.Mathlib.Nat.{sub-zero}
 use native.Mathlib.Omega.{arith}
 use denote.Ref.{now}
 use lib.ListN.{length, take}
-use Rattle.object.specs.RelocationTypes.{rowOf}
 use Rattle.object.proofs.Ranges.{range-none}
 use Rattle.object.specs.Record.{heldBy}
 use Rattle.object.specs.Steps.WritableRange.{WritableRange}
 use Rattle.binder.specs.Steps.RunSteps.{SymbolsOf}
-use Rattle.binder.specs.Steps.Relocating.{left, runTable}
+use Rattle.binder.specs.Steps.Relocating.{left, runTable, rowAt}
 use Rattle.binder.proofs.SymbolicLaws.{runs-passed}
 use Rattle.binder.proofs.KeptLaws.{kept-symbols, entry-kept}
 use Rattle.binder.proofs.RunLaws.{entriesLeft, entry-stops, entry-goes, entries-end}
@@ -72,7 +71,7 @@ loop-again c =
       omega (arith, c .before .before .before .before .before .before .before .before .before .before .before .before .before .if1 .left),
       c .range-after .ensures,
       λ h. c .before .if2 .left,
-      kept-symbols (a .t) (heldBy (a .o)) (c .before .before .before .before .before .before .before .before .before .before .before .before .before .before .before .before .before .before .before .before .before .before .before .before .before .symbols-of .result) (g .last .0) (k .last .0) (entry-kept (a .t) (heldBy (a .o)) (now (a .table)) (c .before .before .before .before .before .before .before .before .before .before .wrapping-add-u32 .result) (c .before .before .before .before .before .before .before .before .before .before .before .rela-in .result) (c .before .before .before .before .before .before .before .before .before .before .before .before .before .before .keep .result) (g .last .0) (l .report) (rowOf (c .before .before .before .before .before .before .before .before .before .before .before .rela-in .result .rtype)) (k .result) (k .last .0) (k .last .1 .0) (k .ensures)) (x .1),
+      kept-symbols (a .t) (heldBy (a .o)) (c .before .before .before .before .before .before .before .before .before .before .before .before .before .before .before .before .before .before .before .before .before .before .before .before .before .symbols-of .result) (g .last .0) (k .last .0) (entry-kept (a .t) (heldBy (a .o)) (now (a .table)) (c .before .before .before .before .before .before .before .before .before .before .wrapping-add-u32 .result) (c .before .before .before .before .before .before .before .before .before .before .before .rela-in .result) (c .before .before .before .before .before .before .before .before .before .before .before .before .before .before .keep .result) (g .last .0) (l .report) (rowAt (now (a .table)) (c .before .before .before .before .before .before .before .before .before .before .before .rela-in .result .rtype)) (k .result) (k .last .0) (k .last .1 .0) (k .ensures)) (x .1),
       entry-goes (now (a .table)) (a .t) (heldBy (a .o)) (a .x .at) (a .x .first) (a .x .count) (g .result .next) (c .before .before .before .before .before .before .before .before .before .before .before .before .before .before .keep .result) (g .last .0) (l .report) {b = k .last .0} {noted = k .last .1 .0}
           (omega (arith, c .before .before .before .before .before .before .before .before .before .before .before .before .before .if1 .left)) (c .before .before .before .before .before .before .before .before .before .before .before .rela-in .ensures) refl (c .before .before .before .before .before .before .before .before .before .before .wrapping-add-u32 .ensures) (k .ensures) (x .0) (c .before .if2 .left),
     )

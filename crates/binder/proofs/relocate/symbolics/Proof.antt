@@ -30,11 +30,11 @@ here-in :
     → let a = c .before .before .before .before .before .before .before .before .before .before .before .before .before .before .before .before .args in
     let l = c .before .before .before .before .before .before .before .loop in
     let e = c .before .e .given in
-    EntryHere (l .arena) (a .t) (a .y) (l .k) (a .w .low) (a .w .high) (e .0 .0) (e .0 .1 .0) (e .0 .1 .1 .0) (e .0 .1 .1 .1 .0) (e .0 .1 .1 .1 .1 .0)
+    EntryHere (now (a .table)) (l .arena) (a .t) (a .y) (l .k) (a .w .low) (a .w .high) (e .0 .0) (e .0 .1 .0) (e .0 .1 .1 .0) (e .0 .1 .1 .1 .0) (e .0 .1 .1 .1 .1 .0)
 here-in c =
     let a = c .before .before .before .before .before .before .before .before .before .before .before .before .before .before .before .before .args in
     let l = c .before .before .before .before .before .before .before .loop in
-    subst (EntryRead (l .arena) (a .t) (a .y) (l .k) (a .w .low) (a .w .high)) (c .before .e .given .1) (c .before .before .before .symbol-entry .ensures)
+    subst (EntryRead (now (a .table)) (l .arena) (a .t) (a .y) (l .k) (a .w .low) (a .w .high)) (c .before .e .given .1) (c .before .before .before .symbol-entry .ensures)
 
 returns : tie.Need-returns Inv-loop μ-loop
 returns c =
