@@ -1,7 +1,7 @@
 use Rattle.start_stop.proofs.StartStopIs.{sheet-refused, sheet-listed}
 use Rattle.start_stop.specs.Steps.Listed.{finishedOf}
 use Rattle.binder.proofs.PrepareLaws.{many-parts}
-use Rattle.binder.specs.Setting.{settingAt}
+use Rattle.binder.specs.Setting.{settingOf}
 use lib.ListN.{length, replicate}
 use denote.Ref.{now}
 use native.Mathlib.Omega.{arith}
@@ -57,7 +57,7 @@ returns c =
     let ws : length (c .before .before .before .before .before .before .before .before .before .before .before .before .before .before .before .before .before .before .before .before .before .before .clear-list .last .0) ≡ length (now (a .start)) = c .before .before .before .before .before .before .before .before .before .before .before .before .before .before .before .before .before .before .before .before .before .before .clear-list .kept .0 in
     let wt : length (c .before .before .before .before .before .before .before .before .before .before .before .before .before .before .before .before .before .before .clear-list2 .last .0) ≡ length (now (a .stop)) = c .before .before .before .before .before .before .before .before .before .before .before .before .before .before .before .before .before .before .clear-list2 .kept .0 in
     rw (wr, ws, wt) at (c .before .before .before .before .before .before .before .before .finish .ensures)
-    ∙ sheet-refused (settingAt (a .address)) (now (a .sheet)) (now (a .bytes)) (length (now (a .arena))) _ (c .before .before .before .before .before .before .before .before .before .before .before .before .before .before .before .parts-of .ensures) (a .policy) (length (now (a .report))) (length (now (a .start))) (length (now (a .stop))) (c .before .before .before .before .before .before .before .before .before .before .before .before .before .if1 .taken)
+    ∙ sheet-refused (settingOf (a .address) (now (a .types))) (now (a .sheet)) (now (a .bytes)) (length (now (a .arena))) _ (c .before .before .before .before .before .before .before .before .before .before .before .before .before .before .before .parts-of .ensures) (a .policy) (length (now (a .report))) (length (now (a .start))) (length (now (a .stop))) (c .before .before .before .before .before .before .before .before .before .before .before .before .before .if1 .taken)
 
 list-set-requires : tie.Need-list-set-requires
 list-set-requires c κs =
@@ -73,15 +73,15 @@ same-length-5 c =
 
 same-length-6 : tie.Need-same-length-6
 same-length-6 c =
-    c .before .before .before .before .before .before .before .before .finish2 .kept .1 .1 .0 ∙ c .before .before .before .before .before .before .before .before .before .before .before .before .before .before .before .before .before .before .before .before .before .list-set .kept .1 .1 .1 .1 .1 .0 ∙ c .before .before .before .before .before .before .before .before .before .before .before .before .before .before .before .before .before .before .before .before .before .before .before .before .before .before .before .before .before .before .before .before .before .before .before .before .before .before .before .clear-words .kept .0
+    c .before .before .before .before .before .before .before .before .finish2 .kept .1 .1 .0 ∙ c .before .before .before .before .before .before .before .before .before .before .before .before .before .before .before .before .before .before .before .before .before .list-set .kept .1 .1 .1 .1 .1 .1 .0 ∙ c .before .before .before .before .before .before .before .before .before .before .before .before .before .before .before .before .before .before .before .before .before .before .before .before .before .before .before .before .before .before .before .before .before .before .before .before .before .before .before .clear-words .kept .0
 
 same-length-7 : tie.Need-same-length-7
 same-length-7 c =
-    c .before .before .before .before .before .before .before .before .finish2 .kept .1 .1 .1 .0 ∙ c .before .before .before .before .before .before .before .before .before .before .before .before .before .before .before .before .before .before .before .before .before .list-set .kept .1 .1 .1 .1 .1 .1 .0 ∙ c .before .before .before .before .before .before .before .before .before .before .before .before .before .before .before .before .before .before .before .before .before .before .before .before .before .before .before .before .before .before .before .before .before .before .before .clear-list .kept .0
+    c .before .before .before .before .before .before .before .before .finish2 .kept .1 .1 .1 .0 ∙ c .before .before .before .before .before .before .before .before .before .before .before .before .before .before .before .before .before .before .before .before .before .list-set .kept .1 .1 .1 .1 .1 .1 .1 .0 ∙ c .before .before .before .before .before .before .before .before .before .before .before .before .before .before .before .before .before .before .before .before .before .before .before .before .before .before .before .before .before .before .before .before .before .before .before .clear-list .kept .0
 
 same-length-8 : tie.Need-same-length-8
 same-length-8 c =
-    c .before .before .before .before .before .before .before .before .finish2 .kept .1 .1 .1 .1 .0 ∙ c .before .before .before .before .before .before .before .before .before .before .before .before .before .before .before .before .before .before .before .before .before .list-set .kept .1 .1 .1 .1 .1 .1 .1 .0 ∙ c .before .before .before .before .before .before .before .before .before .before .before .before .before .before .before .before .before .before .before .before .before .before .before .before .before .before .before .before .before .before .before .clear-list2 .kept .0
+    c .before .before .before .before .before .before .before .before .finish2 .kept .1 .1 .1 .1 .0 ∙ c .before .before .before .before .before .before .before .before .before .before .before .before .before .before .before .before .before .before .before .before .before .list-set .kept .1 .1 .1 .1 .1 .1 .1 .1 .0 ∙ c .before .before .before .before .before .before .before .before .before .before .before .before .before .before .before .before .before .before .before .before .before .before .before .before .before .before .before .before .before .before .before .clear-list2 .kept .0
 
 returns-2 : tie.Need-returns-2
 returns-2 c =
@@ -91,7 +91,7 @@ returns-2 c =
     let wt : length (c .before .before .before .before .before .before .before .before .before .before .before .before .before .before .before .before .before .before .before .before .before .before .before .before .before .before .before .before .before .before .before .clear-list2 .last .0) ≡ length (now (a .stop)) = c .before .before .before .before .before .before .before .before .before .before .before .before .before .before .before .before .before .before .before .before .before .before .before .before .before .before .before .before .before .before .before .clear-list2 .kept .0 in
     c .before .before .before .before .before .before .before .before .finish2 .ensures
     ∙ (rw (wr, ws, wt) at (c .before .before .before .before .before .before .before .before .before .before .before .before .before .before .before .before .before .before .before .before .before .list-set .ensures)
-    ∙ sheet-listed (settingAt (a .address)) (now (a .sheet)) (now (a .bytes)) (length (now (a .arena))) _ (c .before .before .before .before .before .before .before .before .before .before .before .before .before .before .before .before .before .before .before .before .before .before .before .before .before .before .before .before .parts-of .ensures) (a .policy) (length (now (a .report))) (length (now (a .start))) (length (now (a .stop))) (omega (arith, c .before .before .before .before .before .before .before .before .before .before .before .before .before .before .before .before .before .before .before .before .before .before .before .before .before .before .if1 .left)))
+    ∙ sheet-listed (settingOf (a .address) (now (a .types))) (now (a .sheet)) (now (a .bytes)) (length (now (a .arena))) _ (c .before .before .before .before .before .before .before .before .before .before .before .before .before .before .before .before .before .before .before .before .before .before .before .before .before .before .before .before .parts-of .ensures) (a .policy) (length (now (a .report))) (length (now (a .start))) (length (now (a .stop))) (omega (arith, c .before .before .before .before .before .before .before .before .before .before .before .before .before .before .before .before .before .before .before .before .before .before .before .before .before .before .if1 .left)))
 
 pub start-stop-spec : {M : Type 1} → statement M
 start-stop-spec =
