@@ -140,8 +140,8 @@ uint64_t lugwormpin_query_all(const uint32_t *sheet, size_t sheet_len, const uin
  *
  * Returns 0 where the set is bound and listed, else the refusal; then arena, report, start, stop and counts are all 0. */
 uint64_t lugwormpin_start_stop(const uint32_t *sheet, size_t sheet_len, const uint8_t *bytes, size_t bytes_len, uint8_t *arena, size_t arena_len,
-                               uint64_t address, uint32_t strict, const uint32_t *types, size_t types_len, uint32_t *report, size_t report_len, uint64_t *start, size_t start_len,
-                               uint64_t *stop, size_t stop_len, uint64_t *counts, size_t counts_len);
+                               uint64_t address, uint32_t strict, const uint32_t *types, size_t types_len, uint32_t *report, size_t report_len,
+                               uint64_t *start, size_t start_len, uint64_t *stop, size_t stop_len, uint64_t *counts, size_t counts_len);
 
 #ifdef __cplusplus
 }
