@@ -137,6 +137,16 @@ pub fn start_stop(
         };
         return finish(one, arena, report, start, stop);
     }
-    let l = list_set(bytes, parts, arena, address, policy, types, report, start, stop);
+    let l = list_set(
+        bytes,
+        parts,
+        arena,
+        address,
+        policy,
+        types,
+        report,
+        start,
+        stop,
+    );
     finish(l, arena, report, start, stop)
 }

@@ -52,7 +52,7 @@ same-length-4 c =
 returns : tie.Need-returns
 unfolding finishedOf
 returns c =
-    let a = c .before .before .before .before .before .before .before .before .before .before .before .before .before .before .before .before .before .before .before .before .before .before .before .before .before .before .before .before .before .before .before .before .before .before .args in
+    let a = c .before .before .before .before .before .before .before .before .before .before .before .before .before .before .before .before .before .before .before .before .before .before .before .before .before .before .before .before .before .before .before .before .before .before .before .args in
     let wr : length (c .before .before .before .before .before .before .before .before .before .before .before .before .before .before .before .before .before .before .before .before .before .before .before .before .before .before .clear-words .last .0) ≡ length (now (a .report)) = c .before .before .before .before .before .before .before .before .before .before .before .before .before .before .before .before .before .before .before .before .before .before .before .before .before .before .clear-words .kept .0 in
     let ws : length (c .before .before .before .before .before .before .before .before .before .before .before .before .before .before .before .before .before .before .before .before .before .before .clear-list .last .0) ≡ length (now (a .start)) = c .before .before .before .before .before .before .before .before .before .before .before .before .before .before .before .before .before .before .before .before .before .before .clear-list .kept .0 in
     let wt : length (c .before .before .before .before .before .before .before .before .before .before .before .before .before .before .before .before .before .before .clear-list2 .last .0) ≡ length (now (a .stop)) = c .before .before .before .before .before .before .before .before .before .before .before .before .before .before .before .before .before .before .clear-list2 .kept .0 in
@@ -61,7 +61,7 @@ returns c =
 
 list-set-requires : tie.Need-list-set-requires
 list-set-requires c κs =
-    let a = c .before .before .before .before .before .before .before .before .before .before .before .before .before .before .before .before .before .before .before .before .before .before .before .before .before .args in
+    let a = c .before .before .before .before .before .before .before .before .before .before .before .before .before .before .before .before .before .before .before .before .before .before .before .before .before .before .args in
     (omega (arith, c .before .before .before .before .if1 .left), c .before .before .before .before .before .before .parts-of .ensures .few, many-parts (c .before .before .before .before .before .before .parts-of .ensures) (now (a .bytes)), c .before .before .before .before .before .before .before .before .before .before .before .before .before .before .before .before .before .clear-words .ensures ∙ ap (λ (n : ℕ). replicate n 0) (sym (c .before .before .before .before .before .before .before .before .before .before .before .before .before .before .before .before .before .clear-words .kept .0)), c .before .before .before .before .before .before .before .before .before .before .before .before .before .clear-list .ensures ∙ ap (λ (n : ℕ). replicate n 0) (sym (c .before .before .before .before .before .before .before .before .before .before .before .before .before .clear-list .kept .0)), c .before .before .before .before .before .before .before .before .before .clear-list2 .ensures ∙ ap (λ (n : ℕ). replicate n 0) (sym (c .before .before .before .before .before .before .before .before .before .clear-list2 .kept .0)))
 
 finish-requires-2 : tie.Need-finish-requires-2
@@ -85,7 +85,7 @@ same-length-8 c =
 
 returns-2 : tie.Need-returns-2
 returns-2 c =
-    let a = c .before .before .before .before .before .before .before .before .before .before .before .before .before .before .before .before .before .before .before .before .before .before .before .before .before .before .before .before .before .before .before .before .before .before .before .before .before .before .before .before .before .before .before .before .before .before .before .args in
+    let a = c .before .before .before .before .before .before .before .before .before .before .before .before .before .before .before .before .before .before .before .before .before .before .before .before .before .before .before .before .before .before .before .before .before .before .before .before .before .before .before .before .before .before .before .before .before .before .before .before .args in
     let wr : length (c .before .before .before .before .before .before .before .before .before .before .before .before .before .before .before .before .before .before .before .before .before .before .before .before .before .before .before .before .before .before .before .before .before .before .before .before .before .before .before .clear-words .last .0) ≡ length (now (a .report)) = c .before .before .before .before .before .before .before .before .before .before .before .before .before .before .before .before .before .before .before .before .before .before .before .before .before .before .before .before .before .before .before .before .before .before .before .before .before .before .before .clear-words .kept .0 in
     let ws : length (c .before .before .before .before .before .before .before .before .before .before .before .before .before .before .before .before .before .before .before .before .before .before .before .before .before .before .before .before .before .before .before .before .before .before .before .clear-list .last .0) ≡ length (now (a .start)) = c .before .before .before .before .before .before .before .before .before .before .before .before .before .before .before .before .before .before .before .before .before .before .before .before .before .before .before .before .before .before .before .before .before .before .before .clear-list .kept .0 in
     let wt : length (c .before .before .before .before .before .before .before .before .before .before .before .before .before .before .before .before .before .before .before .before .before .before .before .before .before .before .before .before .before .before .before .clear-list2 .last .0) ≡ length (now (a .stop)) = c .before .before .before .before .before .before .before .before .before .before .before .before .before .before .before .before .before .before .before .before .before .before .before .before .before .before .before .before .before .before .before .clear-list2 .kept .0 in
