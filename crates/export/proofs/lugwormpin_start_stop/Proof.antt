@@ -38,7 +38,7 @@ same-length-5 c = search needs
 returns : tie.Need-returns
 returns c =
     rw (c .before .before .store-counts .ensures .0, c .before .before .store-counts .ensures .1)
-    (ap (calledListsOf (length (now (c .before .before .before .before .before .before .before .before .before .before .before .before .before .before .before .before .before .before .before .before .before .before .before .before .before .args .counts)))) (rw (c .before .before .before .before .before .before .before .before .before .before .before .before .before .before .before .before .before .policy-of .ensures) at (c .before .before .before .before .before .before .before .before .before .before .before .before .start-stop .ensures)))
+    (ap (calledListsOf (length (now (c .before .before .before .before .before .before .before .before .before .before .before .before .before .before .before .before .before .before .before .before .before .before .before .before .before .before .args .counts)))) (rw (c .before .before .before .before .before .before .before .before .before .before .before .before .before .before .before .before .before .policy-of .ensures) at (c .before .before .before .before .before .before .before .before .before .before .before .before .start-stop .ensures)))
 
 pub lugwormpin-start-stop-spec : {M : Type 1} → statement M
 lugwormpin-start-stop-spec =
