@@ -6,7 +6,7 @@
  * - answer every call that keeps to "What the caller owes"; what they answer is proved, for any contents of the slices, refused calls too
  *   (crates/export/src/lib.rt, crates/export/specs/Calls.antt);
  * - keep no pointer, allocate nothing, have no global state, and may run in several threads at once over different memory;
- * - use about 54 KiB of stack (lugwormpin_bind), 59 KiB (lugwormpin_bind_ordered) or 45 KiB (lugwormpin_query, lugwormpin_query_all), whatever the set:
+ * - use about 54 KiB of stack (lugwormpin_bind), 59 KiB (lugwormpin_bind_ordered), 61 KiB (lugwormpin_start_stop) or 45 KiB (lugwormpin_query, lugwormpin_query_all), whatever the set:
  *   the sum of the compiled frames;
  * - end on every input, but a file can be made so that a call takes seconds (docs/BENCHMARKS.md): bound the size of files of unknown origin,
  *   or the time of the call.
@@ -66,10 +66,13 @@ extern "C" {
  *   19  not 0     the call is strict and an entry is undefined: the first such object in binding order
  *   20  0         the report is too short
  *   22  not 0     after 17: a result of 32 bits (types 2, 10 and 11) does not fit
+ *   26  not 0     lugwormpin_start_stop only, after 20: the words of an array of functions that is listed (DT_INIT_ARRAY, DT_FINI_ARRAY; of the
+ *                 program DT_PREINIT_ARRAY) are not all inside the object: the first such object in binding order
+ *   27  0         lugwormpin_start_stop only, after 26: a list is too short
  *
  * The first refusal in this order is answered: 4 to 12 and 21 object by object, 14 to 18, 22 and 25 entry by entry in binding order, which is the
- * order that is handed in where one is. lugwormpin_bind answers all but 13, 23 and 35, lugwormpin_bind_ordered all but 13 and 23, lugwormpin_query 1 to
- * 13 and 21, lugwormpin_query_all these and 23. */
+ * order that is handed in where one is. lugwormpin_bind answers all but 13, 23, 26, 27 and 35, lugwormpin_bind_ordered these and 35,
+ * lugwormpin_start_stop these and 26 and 27 but not 35, lugwormpin_query 1 to 13 and 21, lugwormpin_query_all these and 23. */
 #define LUGWORMPIN_NUMBER(answer) ((uint32_t)(answer))
 #define LUGWORMPIN_OBJECT(answer) ((uint32_t)((answer) >> 32))
 
@@ -137,6 +140,22 @@ uint64_t lugwormpin_query(const uint32_t *sheet, size_t sheet_len, const uint8_t
 uint64_t lugwormpin_query_all(const uint32_t *sheet, size_t sheet_len, const uint8_t *bytes, size_t bytes_len, uint8_t *arena, size_t arena_len,
                               uint64_t address, uint32_t requester, const uint8_t *names, size_t names_len, uint64_t *addresses,
                               size_t addresses_len);
+
+/* Binds a set, and lists what to call to start it and to stop it.
+ *
+ * sheet to report_len  as of lugwormpin_bind; arena and report are written as by it
+ * start, start_len     written: the addresses to call once the image is mapped at `address`, in this order: the program's preinit array; then of each
+ *                      object in binding order, the program last, DT_INIT and its init array. The rest 0
+ * stop, stop_len       written: the addresses to call at the end: of each object backwards, its fini array from last to first and DT_FINI. The rest 0
+ * counts, counts_len   written: how many words each list has, of start and of stop; then zeros. Words that do not fit are dropped
+ *
+ * A DT_INIT or DT_FINI of 0 is none. Words of arrays are listed as they stand after relocation, 0 and -1 too, which programs such as
+ * examples/start_stop.c do not call. The host gives none, and no library's preinit array is listed.
+ *
+ * Returns 0 where the set is bound and listed, else the refusal; then arena, report, start, stop and counts are all 0. */
+uint64_t lugwormpin_start_stop(const uint32_t *sheet, size_t sheet_len, const uint8_t *bytes, size_t bytes_len, uint8_t *arena, size_t arena_len,
+                               uint64_t address, uint32_t strict, const uint32_t *types, size_t types_len, uint32_t *report, size_t report_len,
+                               uint64_t *start, size_t start_len, uint64_t *stop, size_t stop_len, uint64_t *counts, size_t counts_len);
 
 #ifdef __cplusplus
 }

@@ -71,6 +71,21 @@ static void ordered(size_t order_len, uint32_t first, uint32_t second, uint32_t 
     printf("\n");
 }
 
+static void list(uint32_t strict, size_t start_len, size_t stop_len, size_t counts_len)
+{
+    uint64_t start[4], stop[4], counts[4];
+    memset(arena, 0xff, sizeof arena);
+    memset(report, 0xff, sizeof report);
+    memset(start, 0xff, sizeof start);
+    memset(stop, 0xff, sizeof stop);
+    memset(counts, 0xff, sizeof counts);
+    uint64_t r = lugwormpin_start_stop(input + 1, words, bytes, bytes_len, arena, sizeof arena, 0x10000000, strict, types, types_len, report, 6, start, start_len, stop,
+                                       stop_len, counts, counts_len);
+    printf("start_stop: %" PRIu32 " %" PRIu32 ", start %" PRIx64 " %" PRIx64 ", stop %" PRIx64 " %" PRIx64 ", counts %" PRIx64 " %" PRIx64 " %" PRIx64
+           ", arena %s\n", LUGWORMPIN_NUMBER(r), LUGWORMPIN_OBJECT(r), start[0], start[1], stop[0], stop[1], counts[0], counts[1], counts[2],
+           zeros(arena, sizeof arena) ? "zeros" : "bound");
+}
+
 int main(int argc, char **argv)
 {
     FILE *file = argc == 2 ? fopen(argv[1], "rb") : NULL;
@@ -104,6 +119,9 @@ int main(int argc, char **argv)
     ordered(3, 1, 2, 3);
     ordered(2, 2, 3, 1);
     ordered(0, 2, 3, 1);
+    list(0, 1, 2, 2);
+    list(0, 0, 0, 3);
+    list(1, 2, 2, 1);
     /* the words of the types: 63 of them, type 6 refused, type 6 passed over */
     types_len = 63;
     bind(0, 4);
@@ -119,5 +137,6 @@ int main(int argc, char **argv)
     ask(1, "a_call", 4);
     ask_all(1, "a_call", 7, 1);
     bind(0, 6);
+    list(0, 2, 1, 2);
     return 0;
 }

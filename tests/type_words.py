@@ -71,6 +71,19 @@ CASES = {
 }
 
 
+def random_words(rng):
+    """The supplied words, edited, and some of them damaged."""
+    types = list(SUPPLIED)
+    for t in rng.sample(range(64), rng.choice((0, 1, 2, 6))) + rng.sample((0, 1, 5, 6, 7, 8, 37), rng.choice((0, 1, 2))):
+        types[t] = rng.choice((PASS, REFUSE) + (APPLY,) * (t in MAY_APPLY)) << 28 | t
+    if rng.random() < 0.05:
+        t = rng.randrange(64)
+        types[t] = rng.choice((types[t] ^ 1 << rng.randrange(32), APPLY << 28 | t, 0))
+    if rng.random() < 0.02:
+        types = types[: rng.randrange(64)]
+    return types
+
+
 def slice_of(kind, values):
     return (kind * max(1, len(values)))(*values), len(values)
 
@@ -133,14 +146,7 @@ def main():
     rng = random.Random(options.seed)
     for k in range(options.sets):
         data = random_set(rng, data=0.3)
-        types = list(SUPPLIED)
-        for t in rng.sample(range(64), rng.choice((0, 1, 2, 6))) + rng.sample((0, 1, 5, 6, 7, 8, 37), rng.choice((0, 1, 2))):
-            types[t] = rng.choice((PASS, REFUSE) + (APPLY,) * (t in MAY_APPLY)) << 28 | t
-        if rng.random() < 0.05:
-            t = rng.randrange(64)
-            types[t] = rng.choice((types[t] ^ 1 << rng.randrange(32), APPLY << 28 | t, 0))
-        if rng.random() < 0.02:
-            types = types[: rng.randrange(64)]
+        types = random_words(rng)
         room, strict = rng.choice((1024, 64, 3)), rng.random() < 0.3
         compare(f"set {k}", data, types, strict, ADDRESS, room, said(data, types, strict, ADDRESS, room))
     print("answers: " + ", ".join(f"{'bound' if n is None else n} {c}" for n, c in sorted(counts.items(), key=lambda x: x[0] or 0)))

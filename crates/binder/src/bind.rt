@@ -60,7 +60,7 @@ fn end(p: Progress, policy: Policy) -> Verdict
 }
 
 // Refusals 14 to 20, 22 and 25 of the objects that the table of parts names, which are loaded: they are relocated in any order of them.
-pub(crate) fn bind_in(
+pub fn bind_in(
     bytes: &[u8],
     parts: Parts,
     arena: &mut [u8],

@@ -79,7 +79,7 @@ fn fill_needs(needs: &mut [u8], bytes: &[u8], parts: Parts, arena: &[u8], table:
 }
 
 // The order of the objects that the table of parts names, which are loaded.
-pub(crate) fn order_of(bytes: &[u8], parts: Parts, arena: &[u8], table: &[u64]) -> Order
+pub fn order_of(bytes: &[u8], parts: Parts, arena: &[u8], table: &[u64]) -> Order
     requires { ⌜ (2 ≤ parts .count) × (parts .count ≤ 64) ⌝ }
     ensures { λ r. ⌜ Arranged (inputsIn (now (bytes .entry)) parts) (parts .count) (now (arena .entry)) (now (table .entry)) r ⌝ }
 {

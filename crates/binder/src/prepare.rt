@@ -111,7 +111,7 @@ fn load_all(
 
 // Refusals 2 to 12 and 21 of the objects that the table of parts names, and `types` between 2 and 3; what passes is loaded, whatever the arena holds before, and its links,
 // its count and the arena's address are in the table.
-pub(crate) fn prepare(
+pub fn prepare(
     bytes: &[u8],
     parts: Parts,
     arena: &mut [u8],

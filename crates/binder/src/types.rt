@@ -47,7 +47,7 @@ fn types_ok(types: &[u32]) -> bool
 }
 
 // Refusal 24.
-pub(crate) fn types_verdict(types: &[u32]) -> Verdict
+pub fn types_verdict(types: &[u32]) -> Verdict
     ensures { λ r. ⌜ r ≡ unless (typesOk (now (types .entry))) 24 0 ⌝ }
 {
     if types_ok(types) {
@@ -88,7 +88,7 @@ fn wide(word: u32) -> u64
     word as u64
 }
 
-pub(crate) fn put_types(table: &mut [u64], types: &[u32])
+pub fn put_types(table: &mut [u64], types: &[u32])
     requires { ⌜ (1090 ≤ length (now table)) × (length (now types) ≡ 64) ⌝ }
     ensures { λ _. ⌜ now (table .exit) ≡ patch (now (table .entry)) 1026 64 (mem (now (types .entry))) ⌝ }
 {

@@ -19,3 +19,4 @@ pub mod WalksEndLaw
 pub mod ProgramCopies
 pub mod OrdersAlike
 pub mod OwnOrdersHold
+pub mod StartStopCalls

@@ -12,3 +12,4 @@ pub mod PairOfSheets
 pub mod ObjectRuns
 pub mod WalksEnd
 pub mod OwnOrders
+pub mod StartStopCall

@@ -1,4 +1,4 @@
--- No refusal of `bind`, `bind_ordered` or `query` has the number 0. Assumes nothing.
+-- No refusal of `bind`, `bind_ordered`, `query`, `query_all` or `start_stop` has the number 0. Assumes nothing.
 use mathlib.Core.Path.{_≡_, refl, sym, _∙_}
 use mathlib.Core.Bool.{Bool, true, false}
 use mathlib.Core.List.{List, [], _∷_}
@@ -28,7 +28,7 @@ use Rattle.binder.specs.declared.Verdict.the-variants.{Passed, Refused}
 use Rattle.object.specs.RelocationTypes.{Row}
 use Rattle.binder.specs.Report.{orderWords, firstUndefined}
 use Rattle.binder.specs.Bind as binding
-use Rattle.binder.specs.Bind.{filesOf, namesOf, objectsOf, unless, prepareVerdict, typesVerdict, allows, relocateVerdict, outcome, refusedBind, outcomeOf, replied, repliedOf, replyOf}
+use Rattle.binder.specs.Bind.{filesOf, namesOf, objectsOf, unless, prepareVerdict, typesVerdict, allows, relocateVerdict, Outcome, outcome, refusedBind, outcomeOf, bindOf, replied, repliedOf, replyOf}
 use Rattle.binder.specs.declared.ReplyAll as allReplies
 use Rattle.binder.specs.QueryAll as all
 use Rattle.binder.specs.QueryAll.{listOk, repliedAll, repliedAllOf}
@@ -36,6 +36,9 @@ use Rattle.binder.specs.OwnOrder as ordering
 use Rattle.binder.specs.OwnOrder.{mayTake, bindOrderedSet, bindOrderedOf}
 use Rattle.binder.proofs.OutcomeLaws.{refused-not, sheetVerdict, bind-one, query-one}
 use Rattle.binder.proofs.QueryAllIs.{query-all-one}
+use Rattle.start_stop.specs.declared.Lists as lists
+use Rattle.start_stop.specs.StartStop as functions
+use Rattle.start_stop.specs.StartStop.{Calls, arraysOk, arraysVerdict, listsVerdict, listing, listingOf, thenList}
 use Rattle.export.specs.Calls.{ZeroTells}
 
 abbrev Numbered : Verdict → Type 0
@@ -170,15 +173,51 @@ unfolding all.repliedAllOf
 of-replied-all size slots Passed a ws arena words n k h e = let z : _≡_ {A = ℕ} 0 1 = cc in absurd (omega arith)
 of-replied-all size slots (Refused m j) a ws arena words n k h e = h n k cc
 
-pub zero-tells : ZeroTells
+bind-tells :
+    (setting : Setting) (sheet bytes : List ℕ) (size : ℕ) (policy : Policy) (words n k : ℕ) (arena report : List ℕ)
+    → bindOf setting sheet bytes size policy words ≡ outcome (answers.the-variants.Refused n k) arena report → 0 < n
 unfolding binding.bindIn
+bind-tells setting sheet bytes size policy words n k arena report e =
+    of-outcome size words _ _ _ arena report n k
+    (either-one (sheetVerdict setting (typesVerdict setting) sheet bytes size) _
+    (of-prepare setting (typesVerdict setting) sheet bytes size (of-test (setting .typed) 24 0 (omega arith))) (of-relocate _ _ _ _ policy words))
+    (sym (bind-one setting sheet bytes size policy words) ∙ e)
+
+-- ---- 26 and 27
+
+of-arrays : (calls : ℕ → Calls) (ks : List ℕ) → Numbered (arraysVerdict calls ks)
+unfolding functions.arraysVerdict
+of-arrays calls [] = passing
+of-arrays calls (k ∷ ks) =
+    either-one (unless (arraysOk k (calls k)) 26 k) (arraysVerdict calls ks) (of-test (arraysOk k (calls k)) 26 k (omega arith)) (of-arrays calls ks)
+
+of-lists : (calls : ℕ → Calls) (order : List ℕ) (starts stops : ℕ) → Numbered (listsVerdict calls order starts stops)
+unfolding functions.listsVerdict
+of-lists calls order starts stops =
+    either-one (arraysVerdict calls order) (unless _ 27 0) (of-arrays calls order) (of-test _ 27 0 (omega arith))
+
+of-listing :
+    (starts stops : ℕ) (v : Verdict) (a r s t arena report start stop : List ℕ) (n k : ℕ) → Numbered v
+    → listingOf starts stops v a r s t ≡ listing (lists.the-variants.Refused n k) arena report start stop → 0 < n
+unfolding functions.listingOf
+of-listing starts stops Passed a r s t arena report start stop n k h e = let z : _≡_ {A = ℕ} 0 1 = cc in absurd (omega arith)
+of-listing starts stops (Refused m j) a r s t arena report start stop n k h e = h n k cc
+
+of-then :
+    (setting : Setting) (sheet bytes : List ℕ) (size : ℕ) (policy : Policy) (words starts stops n k : ℕ) (arena report start stop : List ℕ) (o : Outcome)
+    → bindOf setting sheet bytes size policy words ≡ o
+    → thenList setting (setOf sheet bytes) starts stops o ≡ listing (lists.the-variants.Refused n k) arena report start stop → 0 < n
+unfolding functions.thenList functions.listBy
+of-then setting sheet bytes size policy words starts stops n k arena report start stop (outcome (answers.the-variants.Refused m j) a r) q e =
+    let same : m ≡ n = cc in
+    omega (arith, bind-tells setting sheet bytes size policy words m j a r q, same)
+of-then setting sheet bytes size policy words starts stops n k arena report start stop (outcome answers.the-variants.Bound a r) q e =
+    of-listing starts stops _ a r _ _ arena report start stop n k (of-lists _ _ starts stops) e
+
+pub zero-tells : ZeroTells
+unfolding binding.bindIn functions.startStopOf
 zero-tells = (
-  λ setting sheet bytes size policy words n k arena report e.
-      of-outcome size words _ _ _ arena report n k
-      (either-one (sheetVerdict setting (typesVerdict setting) sheet bytes size) _
-      (of-prepare setting (typesVerdict setting) sheet bytes size (of-test (setting .typed) 24 0 (omega arith)))
-      (of-relocate _ _ _ _ policy words))
-      (sym (bind-one setting sheet bytes size policy words) ∙ e),
+  bind-tells,
   of-ordered,
   λ setting sheet bytes size requester name n k arena e.
       of-replied size _ (resolve (objectsOf setting (filesOf (setOf sheet bytes))) requester (symbols.byName name)) _ arena n k
@@ -192,4 +231,6 @@ zero-tells = (
       (either-one (sheetVerdict setting Passed sheet bytes size) (first asking listed) (of-prepare setting Passed sheet bytes size passing)
       (either-one asking listed (of-test (ltb requester (length (setOf sheet bytes))) 13 0 (omega arith)) (of-test (listOk list slots) 23 0 (omega arith))))
       (sym (query-all-one setting sheet bytes size requester list slots) ∙ e),
+  λ setting sheet bytes size policy words starts stops n k arena report start stop e.
+      of-then setting sheet bytes size policy words starts stops n k arena report start stop _ refl e,
 )

@@ -1,4 +1,4 @@
--- What the functions for C answer, as numbers: `bindOf`, `bindOrderedOf`, `queryOf` and `queryAllOf` say what is answered, and this file how it is written. Document 01,
+-- What the functions for C answer, as numbers: `bindOf`, `bindOrderedOf`, `queryOf`, `queryAllOf` and `startStopOf` say what is answered, and this file how it is written. Document 01,
 -- "Where an answer is an enum, a definition gives this paper's number and values for each of its cases". Assumes nothing.
 use mathlib.Core.List.{List, [], _∷_}
 use mathlib.Core.Path.{_≡_}
@@ -18,6 +18,9 @@ use Rattle.binder.specs.Setting.{Setting}
 use Rattle.binder.specs.QueryAll.{RepliedAll, repliedAll, queryAllOf}
 use Rattle.binder.specs.Bind.{Outcome, outcome, bindOf, Replied, replied, queryOf}
 use Rattle.binder.specs.OwnOrder.{bindOrderedOf}
+use Rattle.start_stop.specs.declared.Lists.{Lists}
+use Rattle.start_stop.specs.declared.Lists as lists
+use Rattle.start_stop.specs.StartStop.{Listing, listing, startStopOf}
 
 -- a refusal: its number in the low 32 bits, its object in the high 32
 abbrev pub packed : ℕ → ℕ → ℕ
@@ -76,9 +79,29 @@ replyAllNumber (allReplies.the-variants.Refused number object) = packed number o
 abbrev pub askedAllOf : RepliedAll → Asked
 askedAllOf (repliedAll reply arena words) = asked (replyAllNumber reply) arena words
 
+-- ---- start_stop
+
+-- 0 for bound and listed
+abbrev pub listsNumber : Lists → ℕ
+listsNumber (lists.the-variants.Listed start stop) = 0
+listsNumber (lists.the-variants.Refused number object) = packed number object
+
+-- how many words each list has; zeros after a refusal
+abbrev pub listsCounts : Lists → List ℕ
+listsCounts (lists.the-variants.Listed start stop) = start ∷ stop ∷ []
+listsCounts (lists.the-variants.Refused number object) = 0 ∷ 0 ∷ []
+
+-- the number, the arena, the report, the lists and their counts that a call leaves
+pub data CalledLists : Type 0 where
+  calledLists : (number : ℕ) (arena report start stop counts : List ℕ) → CalledLists
+
+abbrev pub calledListsOf : ℕ → Listing → CalledLists
+calledListsOf size (listing answer arena report start stop) =
+    calledLists (listsNumber answer) arena report start stop (fitted size (listsCounts answer))
+
 -- ---- 0 tells
 
--- no refusal has the number 0, so the number 0 says that the set is bound, or the question answered
+-- no refusal has the number 0, so the number 0 says that the set is bound, the question answered, or the functions listed
 abbrev pub ZeroTells : Type 0
 ZeroTells =
     ((setting : Setting) (sheet bytes : List ℕ) (size : ℕ) (policy : Policy) (words number object : ℕ) (arena report : List ℕ)
@@ -89,3 +112,6 @@ ZeroTells =
     → queryOf setting sheet bytes size requester name ≡ replied (replies.the-variants.Refused number object) arena → 0 < number)
     × ((setting : Setting) (sheet bytes : List ℕ) (size requester : ℕ) (list : List ℕ) (slots number object : ℕ) (arena words : List ℕ)
     → queryAllOf setting sheet bytes size requester list slots ≡ repliedAll (allReplies.the-variants.Refused number object) arena words → 0 < number)
+    × ((setting : Setting) (sheet bytes : List ℕ) (size : ℕ) (policy : Policy) (words starts stops number object : ℕ) (arena report start stop : List ℕ)
+    → startStopOf setting sheet bytes size policy words starts stops ≡ listing (lists.the-variants.Refused number object) arena report start stop
+    → 0 < number)

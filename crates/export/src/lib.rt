@@ -8,11 +8,13 @@ ghost use Rattle.binder.specs.Setting.{settingOf, settingAt};
 ghost use Rattle.binder.specs.Bind.{bindOf, queryOf};
 ghost use Rattle.binder.specs.QueryAll.{queryAllOf};
 ghost use Rattle.binder.specs.OwnOrder.{bindOrderedOf};
-ghost use Rattle.export.specs.Calls.{packed, policyOf, answerNumber, replyNumber, replyWords, fitted, called, calledOf, asked, askedOf, replyAllNumber, askedAllOf};
+ghost use Rattle.start_stop.specs.StartStop.{startStopOf};
+ghost use Rattle.export.specs.Calls.{packed, policyOf, answerNumber, replyNumber, replyWords, fitted, called, calledOf, asked, askedOf, replyAllNumber, askedAllOf, listsNumber, listsCounts, calledLists, calledListsOf};
 use binder::Answer;
 use binder::Policy;
 use binder::Reply;
 use binder::ReplyAll;
+use start_stop::Lists;
 
 // A refusal as one number: the low half is its number, the high half its object.
 fn pack(number: u32, object: u32) -> u64
@@ -197,4 +199,59 @@ pub extern "C" fn lugwormpin_query_all(
         addresses,
     );
     reply_all_number(reply)
+}
+
+fn store_pair(counts: &mut [u64], start: u64, stop: u64)
+    ensures { λ _. ⌜ now (counts .exit) ≡ fitted (length (now (counts .entry))) (start ∷ stop ∷ []) ⌝ }
+{
+    let words = [start, stop];
+    store_words(counts, &words);
+}
+
+// The counts of the lists, and the refusal.
+fn store_counts(counts: &mut [u64], lists: Lists) -> u64
+    ensures { λ r. ⌜ r ≡ listsNumber lists ⌝ }
+    ensures { λ _. ⌜ now (counts .exit) ≡ fitted (length (now (counts .entry))) (listsCounts lists) ⌝ }
+{
+    match lists {
+        Lists::Listed { start, stop } => {
+            store_pair(counts, start as u64, stop as u64);
+            0
+        }
+        Lists::Refused { number, object } => {
+            store_pair(counts, 0, 0);
+            pack(number, object)
+        }
+    }
+}
+
+// Binds a set as `lugwormpin_bind` does, and lists what to call to start it and to stop it: 0 where it is bound, else the refusal.
+#[no_mangle]
+pub extern "C" fn lugwormpin_start_stop(
+    sheet: &[u32],
+    bytes: &[u8],
+    arena: &mut [u8],
+    address: u64,
+    strict: u32,
+    types: &[u32],
+    report: &mut [u32],
+    start: &mut [u64],
+    stop: &mut [u64],
+    counts: &mut [u64],
+) -> u64
+    ensures { λ r. ⌜ calledLists r (now (arena .exit)) (now (report .exit)) (now (start .exit)) (now (stop .exit)) (now (counts .exit)) ≡ calledListsOf (length (now (counts .entry))) (startStopOf (settingOf address (now (types .entry))) (now (sheet .entry)) (now (bytes .entry)) (length (now (arena .entry))) (policyOf strict) (length (now (report .entry))) (length (now (start .entry))) (length (now (stop .entry)))) ⌝ }
+{
+    let policy = policy_of(strict);
+    let l = start_stop::start_stop::start_stop(
+        sheet,
+        bytes,
+        arena,
+        address,
+        policy,
+        types,
+        report,
+        start,
+        stop,
+    );
+    store_counts(counts, l)
 }

@@ -29,11 +29,35 @@ RELAENT = 9
 abbrev pub SYMENT : ℕ
 SYMENT = 11
 
+abbrev pub INIT : ℕ
+INIT = 12
+
+abbrev pub FINI : ℕ
+FINI = 13
+
 abbrev pub PLTREL : ℕ
 PLTREL = 20
 
 abbrev pub JMPREL : ℕ
 JMPREL = 23
+
+abbrev pub INIT-ARRAY : ℕ
+INIT-ARRAY = 25
+
+abbrev pub FINI-ARRAY : ℕ
+FINI-ARRAY = 26
+
+abbrev pub INIT-ARRAYSZ : ℕ
+INIT-ARRAYSZ = 27
+
+abbrev pub FINI-ARRAYSZ : ℕ
+FINI-ARRAYSZ = 28
+
+abbrev pub PREINIT-ARRAY : ℕ
+PREINIT-ARRAY = 32
+
+abbrev pub PREINIT-ARRAYSZ : ℕ
+PREINIT-ARRAYSZ = 33
 
 abbrev pub RELRSZ : ℕ
 RELRSZ = 35

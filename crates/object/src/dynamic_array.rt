@@ -23,9 +23,25 @@ pub(crate) const DT_RELAENT: u64 = 9;
 
 pub(crate) const DT_SYMENT: u64 = 11;
 
+pub const DT_INIT: u64 = 12;
+
+pub const DT_FINI: u64 = 13;
+
 pub(crate) const DT_PLTREL: u64 = 20;
 
 pub(crate) const DT_JMPREL: u64 = 23;
+
+pub const DT_INIT_ARRAY: u64 = 25;
+
+pub const DT_FINI_ARRAY: u64 = 26;
+
+pub const DT_INIT_ARRAYSZ: u64 = 27;
+
+pub const DT_FINI_ARRAYSZ: u64 = 28;
+
+pub const DT_PREINIT_ARRAY: u64 = 32;
+
+pub const DT_PREINIT_ARRAYSZ: u64 = 33;
 
 pub(crate) const DT_RELRSZ: u64 = 35;
 
@@ -89,7 +105,7 @@ fn put(slots: &mut Slots, tag: u64, place: usize)
 }
 
 // What the entries of a tag give.
-pub(crate) fn field_in(image: &[u8], slots: &Slots, tag: u64) -> Field
+pub fn field_in(image: &[u8], slots: &Slots, tag: u64) -> Field
     ensures { λ r. ⌜ r ≡ fieldIn (now (image .entry)) (now (slots .entry)) tag ⌝ }
 {
     let k = slot_of(tag);
@@ -125,7 +141,7 @@ fn with_need(o: Needs, tag: u64, v: usize) -> Needs
 }
 
 // The array at `at`: its entries up to the first of tag 0, or to the end of the image.
-pub(crate) fn read_array(image: &[u8], at: usize) -> DynamicArray
+pub fn read_array(image: &[u8], at: usize) -> DynamicArray
     ensures { λ r. ⌜ ArrayAt (now (image .entry)) at r ⌝ }
 {
     let mut slots = [0usize; 38];

@@ -107,7 +107,7 @@ fn fields_refusal(image: &[u8], slots: &Slots, ended: bool) -> u32
 }
 
 // How many entries a table has, of `unit` bytes each.
-fn entry_count(pointer: Field, size: Field, unit: usize) -> usize
+pub fn entry_count(pointer: Field, size: Field, unit: usize) -> usize
     requires { ⌜ 1 ≤ unit ⌝ }
     ensures { λ r. ⌜ (r ≡ entryCount pointer size unit) × (r * unit < 2 ^ 64) ⌝ }
 {

@@ -1,0 +1,2 @@
+pub mod StartStop
+pub mod Steps
