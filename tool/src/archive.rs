@@ -16,6 +16,9 @@ extern "C" {
     fn lugwormpin_bind_ordered(sheet: *const u32, sheet_len: usize, bytes: *const u8, bytes_len: usize, arena: *mut u8, arena_len: usize,
                                address: u64, strict: u32, types: *const u32, types_len: usize, report: *mut u32, report_len: usize,
                                order: *const u32, order_len: usize) -> u64;
+    fn lugwormpin_start_stop(sheet: *const u32, sheet_len: usize, bytes: *const u8, bytes_len: usize, arena: *mut u8, arena_len: usize,
+                             address: u64, strict: u32, types: *const u32, types_len: usize, report: *mut u32, report_len: usize,
+                             start: *mut u64, start_len: usize, stop: *mut u64, stop_len: usize, counts: *mut u64, counts_len: usize) -> u64;
     fn lugwormpin_query(sheet: *const u32, sheet_len: usize, bytes: *const u8, bytes_len: usize, arena: *mut u8, arena_len: usize,
                         address: u64, requester: u32, name: *const u8, name_len: usize, answer: *mut u64, answer_len: usize) -> u64;
     fn lugwormpin_query_all(sheet: *const u32, sheet_len: usize, bytes: *const u8, bytes_len: usize, arena: *mut u8, arena_len: usize,
@@ -50,6 +53,23 @@ pub fn bind_ordered(s: Slices, strict: bool, types: &[u32], report: &mut [u32], 
     unsafe {
         lugwormpin_bind_ordered(s.sheet.as_ptr(), s.sheet.len(), s.bytes.as_ptr(), s.bytes.len(), s.arena.as_mut_ptr(), s.arena.len(), s.address,
                                 strict.into(), types.as_ptr(), types.len(), report.as_mut_ptr(), report.len(), order.as_ptr(), order.len())
+    }
+}
+
+/// The lists that `start_stop` writes: what to call, and how many of each there are.
+pub struct Lists<'a> {
+    pub start: &'a mut [u64],
+    pub stop: &'a mut [u64],
+    pub counts: &'a mut [u64; 2],
+}
+
+#[rustfmt::skip]
+pub fn start_stop(s: Slices, strict: bool, types: &[u32], report: &mut [u32], l: Lists) -> u64 {
+    // SAFETY: the head of this file.
+    unsafe {
+        lugwormpin_start_stop(s.sheet.as_ptr(), s.sheet.len(), s.bytes.as_ptr(), s.bytes.len(), s.arena.as_mut_ptr(), s.arena.len(), s.address,
+                              strict.into(), types.as_ptr(), types.len(), report.as_mut_ptr(), report.len(),
+                              l.start.as_mut_ptr(), l.start.len(), l.stop.as_mut_ptr(), l.stop.len(), l.counts.as_mut_ptr(), l.counts.len())
     }
 }
 

@@ -83,6 +83,7 @@ const OPTIONS: &[Spec] = &[
     Spec { long: "strict", short: None, value: None, of: &[Bind], help: "refuse a set with an entry that nobody defines (refusal 19)" },
     Spec { long: "types", short: None, value: Some("FILE"), of: &[Bind], help: "what is done with entries of each relocation type, in lines such as `1 refuse` and `37 pass`; types without a line are as `lugwormpin types` prints them" },
     Spec { long: "order", short: None, value: Some("LIST"), of: &[Bind], help: "bind in this order and no other: object numbers or library names with commas between, each library once, then the program (1)" },
+    Spec { long: "start-stop", short: None, value: None, of: &[Bind], help: "also tell what to call to start the modules, and to stop them, in order" },
     Spec { long: "report", short: None, value: Some("FILE"), of: &[Bind], help: "write the report there too, in document 01's words" },
     Spec { long: "requester", short: None, value: Some("OBJECT"), of: &[Query], help: "the object that asks, by number or library name (default 1, the program); its own protected names come first" },
     Spec { long: "names", short: None, value: Some("FILE"), of: &[Query], help: "more names, one a line; - is standard input" },
@@ -127,6 +128,7 @@ pub struct Options {
     pub names: Vec<Vec<u8>>,
     pub names_file: Option<PathBuf>,
     pub strict: bool,
+    pub start_stop: bool,
     pub dot: bool,
     pub json: bool,
 }
@@ -342,6 +344,9 @@ impl Given {
         if command == Query && names.is_empty() && !self.has("names") {
             return Err(command.usage("no names: give them after `--`"));
         }
+        if self.has("order") && self.has("start-stop") {
+            return Err(command.usage("--order and --start-stop: only one of them can be given"));
+        }
         let address = self.number("address", "0x10000000, or a decimal number")?;
         if address.is_none() && matches!(command, Bind | Query) {
             return Err(command.usage("--address is missing: where the image will be mapped, such as 0x10000000"));
@@ -363,6 +368,7 @@ impl Given {
             names,
             names_file: self.file("names"),
             strict: self.has("strict"),
+            start_stop: self.has("start-stop"),
             dot: self.has("dot"),
             json: self.has("json"),
         })))

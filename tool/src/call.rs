@@ -1,5 +1,5 @@
 //! The calls, over a set.
-use crate::archive::{self, Slices};
+use crate::archive::{self, Lists, Slices};
 use crate::{elf, Set, Types};
 
 /// The most bytes of an arena.
@@ -80,6 +80,15 @@ impl Bound {
     }
 }
 
+/// Functions to call, by address, in the order in which to call them.
+#[derive(Clone, Debug, PartialEq, Eq)]
+pub struct StartStop {
+    /// Before anything else of the image is called.
+    pub start: Vec<u64>,
+    /// After everything else.
+    pub stop: Vec<u64>,
+}
+
 /// Where a name is.
 #[derive(Clone, Copy, Debug, PartialEq, Eq)]
 pub struct Found {
@@ -149,6 +158,19 @@ impl<'a> Call<'a> {
         let (slices, types) = (self.slices(&mut image), self.types.words());
         Refusal::check(archive::bind_ordered(slices, self.strict(), types, &mut report, order))?;
         Ok(Bound { image, report: used(report) })
+    }
+
+    /// Binds the set as [`Call::bind`] does, and lists what to call to start and to stop it.
+    pub fn start_stop(&self) -> Result<(Bound, StartStop), Refusal> {
+        let (mut image, mut report) = (self.room(), vec![0; self.report]);
+        let (starts, stops) = elf::lists_needed(&elf::modules(self.set));
+        let (mut start, mut stop, mut counts) = (vec![0; starts], vec![0; stops], [0; 2]);
+        let lists = Lists { start: &mut start, stop: &mut stop, counts: &mut counts };
+        let (slices, types) = (self.slices(&mut image), self.types.words());
+        Refusal::check(archive::start_stop(slices, self.strict(), types, &mut report, lists))?;
+        start.truncate(counts[0] as usize);
+        stop.truncate(counts[1] as usize);
+        Ok((Bound { image, report: used(report) }, StartStop { start, stop }))
     }
 
     /// Where a name is, as the object `requester` finds it; None where no object has it.
@@ -243,6 +265,14 @@ mod tests {
         for order in [&[][..], &[1], &[2, 1, 3], &[2, 2, 1], &[2, 3, 1, 0]] {
             assert_eq!(call.bind_ordered(order), Err(Refusal { number: 35, object: 0 }), "{order:?}");
         }
+    }
+
+    #[test]
+    fn nothing_to_start() {
+        let set = set(&Set::MINIMAL_HOST);
+        let call = Call::new(&set, 0);
+        let (bound, lists) = call.start_stop().unwrap();
+        assert_eq!((Ok(bound), lists), (call.bind(), StartStop { start: vec![], stop: vec![] }));
     }
 
     #[test]

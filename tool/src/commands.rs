@@ -59,11 +59,12 @@ fn bind(options: &Options, subject: &Subject) -> Result<Said, Failure> {
     let call = &view.call;
     subject.say_binding();
     let answer = match own_order(options, subject)? {
-        Some(order) => call.bind_ordered(&order),
-        None => call.bind(),
+        Some(order) => call.bind_ordered(&order).map(|bound| (bound, None)),
+        None if options.start_stop => call.start_stop().map(|(bound, lists)| (bound, Some(lists))),
+        None => call.bind().map(|bound| (bound, None)),
     };
-    let bound = match answer {
-        Ok(bound) => bound,
+    let (bound, lists) = match answer {
+        Ok(answer) => answer,
         Err(refusal) => return Ok(refused::said(options, &view, refusal)),
     };
     subject.progress.say(|| format!("writing {}: {} bytes", show::path(image), decimal(bound.image.len() as u64)));
@@ -79,7 +80,14 @@ fn bind(options: &Options, subject: &Subject) -> Result<Said, Failure> {
 
     let (undefined, passed) = listed(&view, &bound);
     let unlisted = unlisted_needs(&view);
-    let words = || bound_text(&view, &bound, image, &undefined, &passed, &unlisted);
+    let words = || {
+        let mut text = bound_text(&view, &bound, image, &undefined, &passed, &unlisted);
+        if let Some(lists) = &lists {
+            text.push_str(&calls_text(&view, "to start", &lists.start));
+            text.push_str(&calls_text(&view, "to stop", &lists.stop));
+        }
+        text
+    };
     let value = || {
         fields! {
             "command": "bind",
@@ -95,10 +103,34 @@ fn bind(options: &Options, subject: &Subject) -> Result<Said, Failure> {
             "undefined": undefined.iter().map(Listed::json).collect::<Json>(),
             "passed": passed.iter().map(Listed::json).collect::<Json>(),
             "needs_not_in_set": unlisted.iter().map(Unlisted::json).collect::<Json>(),
+            "start": lists.as_ref().map(|lists| calls_json(&view, &lists.start)),
+            "stop": lists.as_ref().map(|lists| calls_json(&view, &lists.stop)),
             "report": bound.report.iter().map(|word| format!("{word:08x}")).collect::<Json>(),
         }
     };
     Ok(Said::new(options.json, words, value))
+}
+
+/// The object that has an address.
+fn holder(view: &View, address: u64) -> Option<usize> {
+    (0..view.places.len()).find(|k| (view.base(*k)..view.end(*k)).contains(&address))
+}
+
+fn calls_text(view: &View, what: &str, list: &[u64]) -> String {
+    if list.is_empty() {
+        return format!("\n{what}: nothing to call\n");
+    }
+    let rows: Vec<Vec<String>> =
+        list.iter().map(|a| vec![hex(*a), holder(view, *a).map_or("-".into(), |k| view.object(k))]).collect();
+    format!(
+        "\n{what}: {}, in this order\n{}",
+        counted(list.len(), "call", "calls"),
+        table(&["address", "object"], &rows)
+    )
+}
+
+fn calls_json(view: &View, list: &[u64]) -> Json {
+    list.iter().map(|a| fields! { "address": hex(*a), "object": holder(view, *a) }).collect()
 }
 
 fn object_json(view: &View, object: usize) -> Json {

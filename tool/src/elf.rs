@@ -113,6 +113,9 @@ pub struct Module<'a> {
     rela_count: u64,
     plt: &'a [u8],
     plt_count: u64,
+    preinit_size: u64,
+    init_size: u64,
+    fini_size: u64,
     /// Whether the dynamic array was read to its end.
     complete: bool,
 }
@@ -192,6 +195,9 @@ impl<'a> Module<'a> {
                 8 => rela_size = value,
                 14 => self.soname = Some(value),
                 23 => plt = Some(value),
+                27 => self.init_size = value,
+                28 => self.fini_size = value,
+                33 => self.preinit_size = value,
                 0x6fff_fef5 => gnu = Some(value),
                 _ => {}
             }
@@ -370,6 +376,19 @@ pub fn report_needed(modules: &[Module]) -> usize {
         bounded(m.rela_count) + bounded(m.plt_count)
     });
     objects.len() + entries.sum::<u64>() as usize
+}
+
+/// Addresses that the lists of what to call to start and to stop have at most: DT_INIT or DT_FINI of each object, and the words of arrays.
+pub fn lists_needed(modules: &[Module]) -> (usize, usize) {
+    let (mut start, mut stop) = (0, 0);
+    for module in modules {
+        // an array lies in the span, so a size that is larger is refused
+        let most = module.span() / 8 + 1;
+        let words = |size: u64| if module.complete { most.min(size / 8) } else { most };
+        start += 1 + words(module.preinit_size) + words(module.init_size);
+        stop += 1 + words(module.fini_size);
+    }
+    (start as usize, stop as usize)
 }
 
 /// The image that document 01 wants of a host: the segments of a module, placed as those of the other objects are, in whole pages from address

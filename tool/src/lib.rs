@@ -24,6 +24,6 @@ pub mod elf;
 mod set;
 mod types;
 
-pub use call::{Bound, Call, Found, Policy, Refusal, Word, ARENA_LIMIT};
+pub use call::{Bound, Call, Found, Policy, Refusal, StartStop, Word, ARENA_LIMIT};
 pub use set::{Fault, Set, SetError, LIBRARY_LIMIT, NAME_LIMIT, PART_LIMIT};
 pub use types::{Mark, Types, TYPES};
