@@ -61,10 +61,10 @@ abbrev pub allows : Policy → ℕ → Bool
 allows Strict undefined = eqb undefined 0
 allows Lenient undefined = true
 
--- 14 to 20 of a set's objects in an order
+-- 14 to 20 and 28 of a set's objects in an order
 unfoldable pub relocateVerdict : Objs → List File → List ℕ → Policy → ℕ → Verdict
 relocateVerdict S files order policy words =
-    first (orderVerdict S files order)
+    first (orderVerdict S files [] order)
     (first (unless (allows policy (firstUndefined S files order)) 19 (firstUndefined S files order))
     (unless (leb (length (orderWords S files order)) words) 20 0))
 

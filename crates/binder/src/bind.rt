@@ -11,6 +11,7 @@ ghost use Rattle.binder.specs.Steps.Finished.{endsBy, Relocated, BoundSe
 use crate::Answer;
 use crate::Policy;
 use crate::Verdict;
+use crate::crossing::Crossing;
 use crate::order::Order;
 use crate::report::Progress;
 use sheet::sheet::Parts;
@@ -59,6 +60,44 @@ fn end(p: Progress, policy: Policy) -> Verdict
     Verdict::Passed
 }
 
+// Refusal 28 at the first entry whose copy crosses an earlier one, or what is met before it, at that entry too.
+fn crossed(
+    bytes: &[u8],
+    parts: Parts,
+    arena: &mut [u8],
+    report: &mut [u32],
+    table: &[u64],
+    order: Order,
+    m: Crossing,
+) -> Verdict
+{
+    let list = order.list;
+    let front = Order {
+        list: list,
+        count: m.index,
+    };
+    let p = crate::relocate::run_order(bytes, parts, arena, report, table, front);
+    if p.refusal != 0 {
+        return Verdict::Refused {
+            number: p.refusal,
+            object: p.object,
+        };
+    }
+    let k = list[m.index];
+    let file = sheet::sheet::file_of(bytes, parts, k as usize);
+    let q = crate::relocate::run_until(arena, report, p, table, k, file, m.entry + 1);
+    if q.refusal != 0 {
+        return Verdict::Refused {
+            number: q.refusal,
+            object: q.object,
+        };
+    }
+    Verdict::Refused {
+        number: 28,
+        object: k,
+    }
+}
+
 // Refusals 14 to 20 of the objects that the table of parts names, which are loaded: they are relocated in any order of them.
 fn bind_in(
     bytes: &[u8],
@@ -72,6 +111,10 @@ fn bind_in(
     requires { ⌜ (order .count ≤ 64) × Filtered (now table) ⌝ }
     ensures { λ r. ⌜ Relocated (inputsIn (now (bytes .entry)) parts) (now (table .entry)) (take (order .count) (order .list)) (now (arena .entry)) policy (now (report .entry)) (now (arena .exit)) (now (report .exit)) r ⌝ }
 {
+    let m = crate::crossing::crossing_in(bytes, parts, arena, table, order);
+    if m.hit {
+        return crossed(bytes, parts, arena, report, table, order, m);
+    }
     let p = crate::relocate::run_order(bytes, parts, arena, report, table, order);
     end(p, policy)
 }

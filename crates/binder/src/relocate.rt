@@ -51,7 +51,7 @@ fn relative(arena: &mut [u8], p: Progress, t: Turn, b: Bounds, e: Rela) -> Progr
 }
 
 // The symbol of an entry, or refusal 14 or 15.
-fn symbol_of(arena: &[u8], t: Turn, o: ObjectData, index: u32) -> CheckedSymbol
+pub(crate) fn symbol_of(arena: &[u8], t: Turn, o: ObjectData, index: u32) -> CheckedSymbol
     ensures { λ r. ⌜ r ≡ checkedSymbol (imageIn (now (arena .entry)) t) (heldBy o) index ⌝ }
 {
     object::entry_symbol::checked_symbol(crate::turn::image_of(arena, t), o, index)
@@ -68,7 +68,7 @@ fn search(arena: &[u8], table: &[u64], t: Turn, strings: usize, name: u32) -> Re
 }
 
 // COPY's search.
-fn search_copy(arena: &[u8], table: &[u64], t: Turn, strings: usize, name: u32) -> Resolved
+pub(crate) fn search_copy(arena: &[u8], table: &[u64], t: Turn, strings: usize, name: u32) -> Resolved
     requires { ⌜ Filtered (now table) ⌝ }
     ensures { λ r. ⌜ r ≡ soughtForCopy (now (table .entry)) (now (arena .entry)) (nameAt (imageIn (now (arena .entry)) t) (strings + name)) ⌝ }
 {
@@ -243,7 +243,7 @@ fn run_action(
     }
 }
 
-fn rela_in(arena: &[u8], t: Turn, table: usize, i: u32) -> Rela
+pub(crate) fn rela_in(arena: &[u8], t: Turn, table: usize, i: u32) -> Rela
     ensures { λ r. ⌜ r ≡ relaAt (imageIn (now (arena .entry)) t) table i ⌝ }
 {
     object::relocate::rela_at(crate::turn::image_of(arena, t), table, i)
@@ -663,6 +663,44 @@ fn run_at(
     }
     let o = r.object;
     run_object(arena, report, p, table, t, o)
+}
+
+// Object `k`, whose file is given, as far as its first `entries` entries of RELA and PLT; its word of the report is left out.
+pub(crate) fn run_until(
+    arena: &mut [u8],
+    report: &mut [u32],
+    p: Progress,
+    table: &[u64],
+    k: u32,
+    file: &[u8],
+    entries: usize,
+) -> Progress
+    requires { ⌜ Filtered (now table) ⌝ }
+{
+    let t = crate::turn::turn_of(table, k);
+    let o = crate::crossing::record_again(arena, t, file);
+    let number = crate::relr::run_relrs(arena, t, o);
+    if number != 0 {
+        return crate::report::refused(p, t, number);
+    }
+    let relas = crate::relr::cut_to_32(o.relas);
+    let front = words::bytes::smaller(relas as usize, entries);
+    let rela = Entries {
+        at: o.rela,
+        first: 0,
+        count: front as u32,
+    };
+    let z = crate::report::keep(p, 0, 0);
+    let q = run_table(arena, report, z, table, t, o, rela);
+    if q.refusal != 0 {
+        return q;
+    }
+    let plt = Entries {
+        at: o.plt,
+        first: relas,
+        count: (entries - front) as u32,
+    };
+    run_table(arena, report, q, table, t, o, plt)
 }
 
 // ---- the objects

@@ -1,0 +1,384 @@
+// COPY entries whose places cross, refusal 28: the first entry of an order whose copy crosses an earlier one. Copies do not depend on what
+// relocation writes, so they are looked at before it, over the placed bytes.
+ghost use mathlib.Core.Path.{_≡_};
+ghost use Prim.Native.Nat.{_+_, _*_, _≤_, _<_};
+ghost use lib.ListN.{length};
+ghost use Rattle.scope.specs.Steps.Links.{Filtered};
+use crate::order::Order;
+use crate::turn::Turn;
+use object::dynamic_fields::ObjectData;
+use object::entry_symbol::CheckedSymbol;
+use object::program_header::Loads;
+use object::relocate::Action;
+use object::relocate::Rela;
+use scope::scope::Resolved;
+use sheet::sheet::Parts;
+
+// `size` bytes from the arena offset `source` to the arena offset `to`; 0 bytes are no copy.
+pub struct Copy {
+    pub to: usize,
+    pub source: usize,
+    pub size: usize,
+}
+
+// ---- the marks of a window: 2 for a byte that is a copy's destination, 1 for one of a source, else 0
+
+// Whether the marks `low` to `high` are all below `m`.
+fn marks_below(marks: &[u8], low: usize, high: usize, m: u8) -> bool {
+    let mut i = low;
+    while i < high {
+        if m <= marks[i] {
+            return false;
+        }
+        i += 1;
+    }
+    true
+}
+
+// The marks `low` to `high` become `m`.
+fn set_marks(marks: &mut [u8], low: usize, high: usize, m: u8) {
+    let mut i = low;
+    while i < high {
+        marks[i] = m;
+        i += 1;
+    }
+}
+
+// Where the arena offset `at` is in the window from `w` on: 0 before it, 32,768 after it.
+fn in_window(w: usize, at: usize) -> usize {
+    words::bytes::smaller(words::bytes::monus(at, w), 32768)
+}
+
+// Whether the copy crosses none of those that are marked, in the window.
+fn apart_in(marks: &[u8], w: usize, c: Copy) -> bool {
+    if !marks_below(marks, in_window(w, c.to), in_window(w, c.to + c.size), 1) {
+        return false;
+    }
+    marks_below(marks, in_window(w, c.source), in_window(w, c.source + c.size), 2)
+}
+
+fn mark_copy(marks: &mut [u8], w: usize, c: Copy) {
+    set_marks(marks, in_window(w, c.to), in_window(w, c.to + c.size), 2);
+    set_marks(marks, in_window(w, c.source), in_window(w, c.source + c.size), 1);
+}
+
+// ---- an object
+
+fn no_copy() -> Copy {
+    Copy {
+        to: 0,
+        source: 0,
+        size: 0,
+    }
+}
+
+// The record of an object that was loaded, read again from its placed bytes.
+pub(crate) fn record_again(arena: &[u8], t: Turn, file: &[u8]) -> ObjectData {
+    let l = object::program_header::read_loads(file);
+    let d = object::program_header::dynamic_at(file);
+    let image = crate::turn::image_of(arena, t);
+    if 16 < l.count {
+        let few = Loads {
+            list: l.list,
+            count: 0,
+        };
+        let r = object::dynamic_fields::read_object(image, few, d, false);
+        return r.object;
+    }
+    let r = object::dynamic_fields::read_object(image, l, d, false);
+    r.object
+}
+
+// Entry `i` of RELA and PLT.
+fn entry_at(arena: &[u8], t: Turn, o: ObjectData, i: usize) -> Rela {
+    let relas = crate::relr::cut_to_32(o.relas);
+    if i < relas as usize {
+        return crate::relocate::rela_in(arena, t, o.rela, i as u32);
+    }
+    crate::relocate::rela_in(arena, t, o.plt, (i - relas as usize) as u32)
+}
+
+// The copy that an entry makes; none, where refusal 14, 15 or 18 meets the entry.
+fn copy_of(arena: &[u8], table: &[u64], t: Turn, o: ObjectData, e: Rela) -> Copy {
+    let a = object::relocate::action_of(e.rtype);
+    let Action::Copy = a else {
+        return no_copy();
+    };
+    let c = crate::relocate::symbol_of(arena, t, o, e.symbol);
+    let CheckedSymbol::Checked(y) = c else {
+        return no_copy();
+    };
+    let s = crate::relocate::search_copy(arena, table, t, o.strings, y.name);
+    let Resolved::Found {
+        object,
+        definition,
+        address: _,
+    } = s
+    else {
+        return no_copy();
+    };
+    let n = words::bytes::smaller(y.size as usize, definition.size as usize);
+    let link = scope::links::link_at(table, object);
+    if !crate::copy::copy_fits(arena.len(), t, e.place, link, definition, n) {
+        return no_copy();
+    }
+    Copy {
+        to: t.offset + e.place,
+        source: link.offset + definition.value as usize,
+        size: n,
+    }
+}
+
+// How far a walk over copies came: how many it has seen, the lowest offset behind the window that is a destination, and whether the entry with
+// that number crosses an earlier one in the window.
+pub struct Scan {
+    pub seen: usize,
+    pub next: usize,
+    pub hit: bool,
+    pub entry: usize,
+}
+
+// The lowest offset behind the window from `w` on that is a destination, with the copy's.
+fn next_after(w: usize, next: usize, c: Copy) -> usize {
+    let end = w + 32768;
+    if c.to + c.size <= end {
+        return next;
+    }
+    words::bytes::smaller(next, words::bytes::larger(c.to, end))
+}
+
+// The copies of an object's entries, after `seen` others: each is compared with the marks and marked.
+fn scan_object(
+    arena: &[u8],
+    table: &[u64],
+    t: Turn,
+    o: ObjectData,
+    marks: &mut [u8],
+    w: usize,
+    s: Scan,
+) -> Scan {
+    let n = crate::relr::cut_to_32(o.relas) as usize + crate::relr::cut_to_32(o.plts) as usize;
+    let mut seen = s.seen;
+    let mut next = s.next;
+    let mut i = 0;
+    while i < n {
+        let c = copy_of(arena, table, t, o, entry_at(arena, t, o, i));
+        if c.size != 0 {
+            if !apart_in(marks, w, c) {
+                return Scan {
+                    seen: seen,
+                    next: next,
+                    hit: true,
+                    entry: i,
+                };
+            }
+            mark_copy(marks, w, c);
+            next = next_after(w, next, c);
+            seen += 1;
+        }
+        i += 1;
+    }
+    Scan {
+        seen: seen,
+        next: next,
+        hit: false,
+        entry: n,
+    }
+}
+
+fn scan_at(
+    arena: &[u8],
+    table: &[u64],
+    k: u32,
+    file: &[u8],
+    marks: &mut [u8],
+    w: usize,
+    s: Scan,
+) -> Scan {
+    let t = crate::turn::turn_of(table, k);
+    let o = record_again(arena, t, file);
+    scan_object(arena, table, t, o, marks, w, s)
+}
+
+// ---- an order
+
+// The first entry whose copy crosses an earlier one, if any: its object's place in the order, its number, and how many copies stand before it.
+// `next` is the lowest offset behind the window that is a destination of these.
+pub struct Crossing {
+    pub seen: usize,
+    pub next: usize,
+    pub hit: bool,
+    pub index: usize,
+    pub entry: usize,
+}
+
+// The first that crosses an earlier one in the window from `w` on.
+fn scan_order(
+    bytes: &[u8],
+    parts: Parts,
+    arena: &[u8],
+    table: &[u64],
+    order: Order,
+    marks: &mut [u8],
+    w: usize,
+) -> Crossing {
+    let list = order.list;
+    let n = order.count;
+    words::bytes::clear(marks);
+    let mut s = Scan {
+        seen: 0,
+        next: arena.len(),
+        hit: false,
+        entry: 0,
+    };
+    let mut i = 0;
+    while i < n {
+        let k = list[i];
+        let file = sheet::sheet::file_of(bytes, parts, k as usize);
+        s = scan_at(arena, table, k, file, marks, w, s);
+        if s.hit {
+            return Crossing {
+                seen: s.seen,
+                next: s.next,
+                hit: true,
+                index: i,
+                entry: s.entry,
+            };
+        }
+        i += 1;
+    }
+    Crossing {
+        seen: s.seen,
+        next: s.next,
+        hit: false,
+        index: n,
+        entry: 0,
+    }
+}
+
+// The first that crosses an earlier one: window by window.
+fn first_crossing(
+    bytes: &[u8],
+    parts: Parts,
+    arena: &[u8],
+    table: &[u64],
+    order: Order,
+) -> Crossing {
+    let mut marks = [0u8; 32768];
+    let mut m = scan_order(bytes, parts, arena, table, order, &mut marks, 0);
+    let mut w = m.next;
+    while w < arena.len() {
+        let q = scan_order(bytes, parts, arena, table, order, &mut marks, w);
+        w = q.next;
+        if q.hit {
+            if q.seen < m.seen {
+                m = q;
+            }
+        }
+    }
+    m
+}
+
+// ---- what needs no search
+
+// Where the places of COPY entries have come to, as far as they ascend.
+pub struct Edge {
+    pub ascends: bool,
+    pub edge: usize,
+}
+
+// Whether the places of COPY entries of a table ascend from `edge` on, by the sizes of their own symbols.
+fn ascends(image: &[u8], at: usize, n: u32, symbols: usize, edge: usize) -> Edge {
+    let no = Edge {
+        ascends: false,
+        edge: 0,
+    };
+    if image.len() < at {
+        return no;
+    }
+    if (image.len() - at) / 24 < n as usize {
+        return no;
+    }
+    let mut high = edge;
+    let mut k = at;
+    let mut i = 0u32;
+    while i < n {
+        if words::bytes::u32_in(image, k + 8) == 5 {
+            let place = words::bytes::u64_in(image, k) as usize;
+            if place < high {
+                return no;
+            }
+            let y = object::symbol::symbol_at(image, symbols, words::bytes::u32_in(image, k + 12));
+            let size = y.size as usize;
+            if 0xffff_ffff_ffff_ffff - place < size {
+                return no;
+            }
+            high = place + size;
+        }
+        k += 24;
+        i += 1;
+    }
+    Edge {
+        ascends: true,
+        edge: high,
+    }
+}
+
+// Both tables of an object.
+fn object_ascends(arena: &[u8], t: Turn, file: &[u8], edge: usize) -> bool {
+    let o = record_again(arena, t, file);
+    let image = crate::turn::image_of(arena, t);
+    let e = ascends(image, o.rela, crate::relr::cut_to_32(o.relas), o.symbols, edge);
+    if !e.ascends {
+        return false;
+    }
+    let f = ascends(image, o.plt, crate::relr::cut_to_32(o.plts), o.symbols, e.edge);
+    f.ascends
+}
+
+// Whether no object but the program copies, and the program's places ascend: then none crosses another.
+fn plainly_apart(
+    bytes: &[u8],
+    parts: Parts,
+    arena: &[u8],
+    table: &[u64],
+    order: Order,
+) -> bool {
+    let list = order.list;
+    let n = order.count;
+    let mut i = 0;
+    while i < n {
+        let k = list[i];
+        let file = sheet::sheet::file_of(bytes, parts, k as usize);
+        let t = crate::turn::turn_of(table, k);
+        let mut edge = 0xffff_ffff_ffff_ffff;
+        if k == 1 {
+            edge = 0;
+        }
+        if !object_ascends(arena, t, file, edge) {
+            return false;
+        }
+        i += 1;
+    }
+    true
+}
+
+// The first entry of the order whose copy crosses an earlier one, if there is one.
+pub(crate) fn crossing_in(
+    bytes: &[u8],
+    parts: Parts,
+    arena: &[u8],
+    table: &[u64],
+    order: Order,
+) -> Crossing {
+    if plainly_apart(bytes, parts, arena, table, order) {
+        return Crossing {
+            seen: 0,
+            next: 0,
+            hit: false,
+            index: 0,
+            entry: 0,
+        };
+    }
+    first_crossing(bytes, parts, arena, table, order)
+}
