@@ -15,7 +15,8 @@ use Rattle.model.proofs.OrderLaws.{decide}
 use Rattle.object.specs.Record.{Record}
 use Rattle.binder.specs.Instance.{File, fileImage, fileRecord, placesOf, namedWords, relasOf, entryOf, objectAt}
 use Rattle.binder.specs.Setting.{Setting}
-use Rattle.binder.specs.Verdict.{first, entriesVerdict, objectVerdict}
+use Rattle.binder.specs.Verdict.{first}
+use Rattle.binder.specs.Steps.PlainVerdict.{plainEntries, plainObject}
 use Rattle.binder.specs.declared.Verdict.{Verdict}
 use Rattle.binder.specs.Report.{reportWord, entryReport, objectWords, hasUndefined}
 use Rattle.binder.specs.Steps.Relocating.{left, Noted, noted, Summed, summed, refusedBy, keeps, reportSum, noteOf, runRelrs, turnOf, imageIn, againRefusal, runTables, thenTables, runObject, runAt}
@@ -100,18 +101,18 @@ module _ (setting : Setting) (size : ℕ) (table : List ℕ) (h pr : File) (fs :
 
     after-relr :
         (z : ℕ) (b : List ℕ) (q : Noted) → RelrEnded setting size table h pr fs k z a b → NotedGoing (ws ++ (reportWord 5 k ∷ [])) u n q
-        → KeptAs 0 0 q → Ran size n (objectVerdict S k f) Turned (thenTables table t r (summed z b) q)
-    unfolding objectVerdict
+        → KeptAs 0 0 q → Ran size n (plainObject S k f) Turned (thenTables table t r (summed z b) q)
+    unfolding plainObject
     after-relr z b (noted p′ report′) w g′ none =
         subst
         (λ (v : Verdict).
-        Ran size n (first v (entriesVerdict S k image r (relasOf image r))) Turned
+        Ran size n (first v (plainEntries S k image r (relasOf image r))) Turned
         (thenTables table t r (summed z b) (noted p′ report′)))
         (w .verdict-is)
         (⊎-elim
         (λ (c : eqb z 0 ≡ true).
         rw (c, verdict-none z k (eqb-true z 0 c))
-        (ran-weaker size n (entriesVerdict S k image r (relasOf image r))
+        (ran-weaker size n (plainEntries S k image r (relasOf image r))
         (Entered setting size table h pr fs L k lo hi n a (ws ++ (reportWord 5 k ∷ [])) u (addWords (obj S k) (placesOf (namedWords image r)) (mem a))
         0 (relasOf image r))
         Turned entered-turned (runTables table t r (left p′ b report′))
@@ -124,20 +125,20 @@ module _ (setting : Setting) (size : ℕ) (table : List ℕ) (h pr : File) (fs :
           kept = none-kept setting size table h pr fs L k lo hi n a p′ (none .0);
         })))
         (λ (c : eqb z 0 ≡ false).
-        rw (c, first-met z k (entriesVerdict S k image r (relasOf image r)) (eqb-false z 0 c))
+        rw (c, first-met z k (plainEntries S k image r (relasOf image r)) (eqb-false z 0 c))
         (ran-refused size n z k Turned (refusedBy t z p′) b report′ (eqb-false z 0 c) refl refl (w .length-is)
         (going-length (ws ++ (reportWord 5 k ∷ [])) u n p′ report′ g′)))
         (decide (eqb z 0)))
 
     pub object-ran :
-        5 * 2 ^ 28 + k < 2 ^ 32 → Ran size n (objectVerdict S k f) Turned (runObject table t r p a report)
+        5 * 2 ^ 28 + k < 2 ^ 32 → Ran size n (plainObject S k f) Turned (runObject table t r p a report)
     unfolding runObject
     object-ran small =
         go (runRelrs t r a) refl
       where
         go :
             (x : Summed) → x ≡ runRelrs t r a
-            → Ran size n (objectVerdict S k f) Turned (thenTables table t r x (noteOf (reportSum 5 k) (keeps 0 0 p) report))
+            → Ran size n (plainObject S k f) Turned (thenTables table t r x (noteOf (reportSum 5 k) (keeps 0 0 p) report))
         go (summed z b) e =
             after-relr z b (noteOf (reportSum 5 k) (keeps 0 0 p) report) (relr-is setting size table h pr fs L k lo hi a s z b e)
             (word-going ws u n (keeps 0 0 p) report (keeps-going ws u n 0 0 p report g) 5 k small) (note-kept (reportSum 5 k) (keeps 0 0 p) report)
@@ -145,7 +146,7 @@ module _ (setting : Setting) (size : ℕ) (table : List ℕ) (h pr : File) (fs :
     -- with the record that is read again
     pub turn-ran :
         5 * 2 ^ 28 + k < 2 ^ 32 → PlacedAt setting size table h pr fs a k
-        → Ran size n (objectVerdict S k f) Turned (runAt table k (f .bytes) p a report)
+        → Ran size n (plainObject S k f) Turned (runAt table k (f .bytes) p a report)
     unfolding runAt
     turn-ran small placed =
         let x = again setting size table h pr fs L a k lo hi placed in

@@ -20,7 +20,8 @@ use Rattle.model.proofs.Orders.{times-tail}
 use Rattle.sheet.specs.Sheet.{Input, noInput}
 use Rattle.binder.specs.Instance.{File}
 use Rattle.binder.specs.Setting.{Setting}
-use Rattle.binder.specs.Verdict.{verdict, noFile, objectVerdict, orderVerdict}
+use Rattle.binder.specs.Verdict.{verdict, noFile}
+use Rattle.binder.specs.Steps.PlainVerdict.{plainObject, plainOrder}
 use Rattle.binder.specs.declared.Verdict.the-variants.{Passed}
 use Rattle.binder.specs.Report.{objectWords, orderWords, hasUndefined, firstUndefined}
 use Rattle.binder.specs.Steps.Relocating.{left, started, runAt, runOrder}
@@ -91,9 +92,9 @@ module _ (setting : Setting) (size : ℕ) (table : List ℕ) (h pr : File) (fs :
 
   -- what is left of an order whose objects were all relocated, or one was refused
   pub record Ended (order : List ℕ) (n : ℕ) (p′ : Progress) (a′ report′ : List ℕ) : Type 0 where
-    pub verdict-is : verdict (p′ .refusal) (p′ .object) ≡ orderVerdict S fl order
+    pub verdict-is : verdict (p′ .refusal) (p′ .object) ≡ plainOrder S fl order
     pub bound-is :
-        orderVerdict S fl order ≡ Passed
+        plainOrder S fl order ≡ Passed
         → (mem a′ ≡ bound S order) × (length a′ ≡ size) × Going (orderWords S fl order) (firstUndefined S fl order) n p′ report′
     pub lengths : (length a′ ≡ size) × (length report′ ≡ n)
 
@@ -110,13 +111,13 @@ module _ (setting : Setting) (size : ℕ) (table : List ℕ) (h pr : File) (fs :
     one-turn :
         (k : ℕ) (ks : List ℕ) → Turns (count S) (k ∷ ks) → (ws : List ℕ) (u : ℕ) (m : Mem) (p : Progress) (a report : List ℕ)
         → Before (k ∷ ks) ws u m p a report
-        → Ran size n (objectVerdict S k (getD fl k noFile))
+        → Ran size n (plainObject S k (getD fl k noFile))
         (Before ks (ws ++ objectWords S k (getD fl k noFile)) (earlier u (pick (hasUndefined S k (getD fl k noFile)) k 0)) (relocate S k m))
         (runAt table k (getD os k noInput .file) p a report)
     one-turn k ks o ws u m p a report b =
         let at = o .among k (omega (arith, head-in k ks)) in
         rw (inputs k (at .1))
-        (ran-weaker size n (objectVerdict S k (getD fl k noFile))
+        (ran-weaker size n (plainObject S k (getD fl k noFile))
         (Turned setting size table h pr fs L k (at .0) (at .1) n ws u p a report (b .going) (b .steady))
         (Before ks (ws ++ objectWords S k (getD fl k noFile)) (earlier u (pick (hasUndefined S k (getD fl k noFile)) k 0)) (relocate S k m))
         (λ p′ a′ report′ d.
@@ -140,9 +141,9 @@ module _ (setting : Setting) (size : ℕ) (table : List ℕ) (h pr : File) (fs :
     order-ran :
         (ks : List ℕ) → Turns (count S) ks → (ws : List ℕ) (u : ℕ) (m : Mem) (p : Progress) (a report : List ℕ)
         → Before ks ws u m p a report
-        → Ran size n (orderVerdict S fl ks) (Before [] (ws ++ orderWords S fl ks) (earlier u (firstUndefined S fl ks)) (run S ks m))
+        → Ran size n (plainOrder S fl ks) (Before [] (ws ++ orderWords S fl ks) (earlier u (firstUndefined S fl ks)) (run S ks m))
         (runOrder table os ks (left p a report))
-    unfolding orderVerdict orderWords firstUndefined run runOrder
+    unfolding plainOrder orderWords firstUndefined run runOrder
     order-ran [] o ws u m p a report b =
         ran-passed size n Passed (Before [] (ws ++ []) (earlier u 0) m) p a report refl (b .going .refusal) (b .steady .size-is)
         (going-length ws u n p report (b .going))
@@ -151,7 +152,7 @@ module _ (setting : Setting) (size : ℕ) (table : List ℕ) (h pr : File) (fs :
         let x : List ℕ = objectWords S k (getD fl k noFile) in
         let y : Bool = hasUndefined S k (getD fl k noFile) in
         let at = o .among k (omega (arith, head-in k ks)) in
-        ran-then size n (objectVerdict S k (getD fl k noFile)) (orderVerdict S fl ks)
+        ran-then size n (plainObject S k (getD fl k noFile)) (plainOrder S fl ks)
         (Before ks (ws ++ x) (earlier u (pick y k 0)) (relocate S k m))
         (Before [] (ws ++ (x ++ orderWords S fl ks)) (earlier u (pick y k (firstUndefined S fl ks))) (run S ks (relocate S k m)))
         (runOrder table os ks)
@@ -182,7 +183,7 @@ module _ (setting : Setting) (size : ℕ) (table : List ℕ) (h pr : File) (fs :
         report-is = zeros ∙ fill-none n;
       } in
       let ran = subst
-      (Ran size n (orderVerdict S fl order)
+      (Ran size n (plainOrder S fl order)
       (Before L small os inputs n [] (orderWords S fl order) (earlier 0 (firstUndefined S fl order)) (run S order (placed S))))
       (sym e)
       (order-ran L small os inputs n order turns [] 0 (placed S) started a report

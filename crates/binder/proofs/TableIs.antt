@@ -16,7 +16,8 @@ use Rattle.object.specs.Record.{Record}
 use Rattle.object.specs.declared.relocate.Rela.{Rela}
 use Rattle.binder.specs.Instance.{File, fileImage, fileRecord, relasOf, entryOf}
 use Rattle.binder.specs.Setting.{Setting}
-use Rattle.binder.specs.Verdict.{first, verdict, entryRefusal, entriesVerdict}
+use Rattle.binder.specs.Verdict.{first, verdict, entryRefusal}
+use Rattle.binder.specs.Steps.PlainVerdict.{plainEntries}
 use Rattle.binder.specs.declared.Verdict.the-variants.{Passed}
 use Rattle.binder.specs.Report.{reportWord, isUndefined, isPassed, entryReport}
 use Rattle.binder.specs.Steps.Relocating.{left, imageIn, cutTo32, turnOf, runAction, runTable, runTables}
@@ -62,12 +63,12 @@ entryWord S k image r i e =
     pick (isUndefined S k image r e) (reportWord 6 i ∷ []) (pick (isPassed (rowOf (e .rtype))) (reportWord 7 i ∷ []) [])
 
 module _ (S : Objs) (k : ℕ) (image : List ℕ) (r : Record) where
-  verdicts-append : (xs ys : List Rela) → entriesVerdict S k image r (xs ++ ys) ≡ first (entriesVerdict S k image r xs) (entriesVerdict S k image r ys)
-  unfolding entriesVerdict
+  verdicts-append : (xs ys : List Rela) → plainEntries S k image r (xs ++ ys) ≡ first (plainEntries S k image r xs) (plainEntries S k image r ys)
+  unfolding plainEntries
   verdicts-append [] ys = refl
   verdicts-append (x ∷ xs) ys =
       ap (first (verdict (entryRefusal S k image r x) k)) (verdicts-append xs ys)
-      ∙ sym (first-assoc (verdict (entryRefusal S k image r x) k) (entriesVerdict S k image r xs) (entriesVerdict S k image r ys))
+      ∙ sym (first-assoc (verdict (entryRefusal S k image r x) k) (plainEntries S k image r xs) (plainEntries S k image r ys))
 
   words-append :
       (i j : ℕ) (xs ys : List Rela) → j ≡ i + length xs → entryReport S k image r i (xs ++ ys) ≡ entryReport S k image r i xs ++ entryReport S k image r j ys
@@ -162,19 +163,19 @@ module _ (setting : Setting) (size : ℕ) (table : List ℕ) (h pr : File) (fs :
 
     pub table-ran :
         (c i j : ℕ) → i ≡ start + j → j + c ≤ c′ → (ws : List ℕ) (u : ℕ) (m : Mem) (p : Progress) (a report : List ℕ) → Does ws u m p a report
-        → Ran size n (entriesVerdict S k image r (relasFrom image at j c)) (Entered ws u m i (relasFrom image at j c))
+        → Ran size n (plainEntries S k image r (relasFrom image at j c)) (Entered ws u m i (relasFrom image at j c))
         (runTable table t r at start c j (left p a report))
-    unfolding runTable relasFrom entriesVerdict entryReport some effects
+    unfolding runTable relasFrom plainEntries entryReport some effects
     table-ran zero i j e b ws u m p a report d =
         plain setting size table h pr fs L k lo hi n a₀ ws u m p a report d Passed m a refl (d .written) (d .memory)
     table-ran (suc c) i j e b ws u m p a report d =
-        ran-then size n (verdict (entryRefusal S k image r (relaAt image at j)) k) (entriesVerdict S k image r (relasFrom image at (j + 1) c))
+        ran-then size n (verdict (entryRefusal S k image r (relaAt image at j)) k) (plainEntries S k image r (relasFrom image at (j + 1) c))
         (Does (ws ++ entryWord S k image r i (relaAt image at j)) (earlier u (pick (isUndefined S k image r (relaAt image at j)) k 0))
         (effect S k (entryOf image r ((obj S k) .base) (relaAt image at j)) m))
         (Entered ws u m i (relaAt image at j ∷ relasFrom image at (j + 1) c))
         (runTable table t r at start c (j + 1))
         (λ p′ a′ report′ d′.
-        ran-weaker size n (entriesVerdict S k image r (relasFrom image at (j + 1) c))
+        ran-weaker size n (plainEntries S k image r (relasFrom image at (j + 1) c))
         (Entered (ws ++ entryWord S k image r i (relaAt image at j)) (earlier u (pick (isUndefined S k image r (relaAt image at j)) k 0))
         (effect S k (entryOf image r ((obj S k) .base) (relaAt image at j)) m) (i + 1) (relasFrom image at (j + 1) c))
         (Entered ws u m i (relaAt image at j ∷ relasFrom image at (j + 1) c))
@@ -193,7 +194,7 @@ module _ (setting : Setting) (size : ℕ) (table : List ℕ) (h pr : File) (fs :
 
   pub tables-ran :
       (ws : List ℕ) (u : ℕ) (m : Mem) (p : Progress) (a report : List ℕ) → Does ws u m p a report
-      → Ran size n (entriesVerdict S k image r (relasOf image r)) (Entered ws u m 0 (relasOf image r))
+      → Ran size n (plainEntries S k image r (relasOf image r)) (Entered ws u m 0 (relasOf image r))
       (runTables table t r (left p a report))
   unfolding relasOf runTables
   tables-ran ws u m p a report d =
@@ -202,10 +203,10 @@ module _ (setting : Setting) (size : ℕ) (table : List ℕ) (h pr : File) (fs :
       let xs : List Rela = relasFrom image (r .rela) 0 (r .relas) in
       let ys : List Rela = relasFrom image (r .plt) 0 (r .plts) in
       rw (cut-is (r .relas) (few .0), cut-is (r .plts) (few .1), verdicts-append S k image r xs ys)
-      (ran-then size n (entriesVerdict S k image r xs) (entriesVerdict S k image r ys) (Entered ws u m 0 xs) (Entered ws u m 0 (xs ++ ys))
+      (ran-then size n (plainEntries S k image r xs) (plainEntries S k image r ys) (Entered ws u m 0 xs) (Entered ws u m 0 (xs ++ ys))
       (runTable table t r (r .plt) (r .relas) (r .plts) 0)
       (λ p′ a′ report′ d′.
-      ran-weaker size n (entriesVerdict S k image r ys)
+      ran-weaker size n (plainEntries S k image r ys)
       (Entered (ws ++ entryReport S k image r 0 xs) (earlier u (pick (some (isUndefined S k image r) xs) k 0))
       (effects S k (map (entryOf image r ((obj S k) .base)) xs) m) (r .relas) ys)
       (Entered ws u m 0 (xs ++ ys))

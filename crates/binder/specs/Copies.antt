@@ -13,13 +13,8 @@ use Rattle.object.specs.Symbol.{symbolAt}
 use Rattle.object.specs.RelocationTypes.{Row, ignored, passedOver, turnedAway, copies, writes, rowOf}
 use Rattle.object.specs.Record.{Record}
 use Rattle.object.specs.declared.relocate.Rela.{Rela}
+use Rattle.binder.specs.declared.crossing.Copy.{Copy}
 use Rattle.binder.specs.Instance.{File, fileImage, fileRecord, relasOf, wantedBy}
-
--- `size` bytes from the arena offset `source` to the arena offset `to`
-pub record Copy : Type 0 where
-  pub to : ℕ
-  pub source : ℕ
-  pub size : ℕ
 
 -- `n` bytes at `at` and `m` bytes at `other` have a byte in common
 unfoldable pub meets : ℕ → ℕ → ℕ → ℕ → Bool

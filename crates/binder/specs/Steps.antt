@@ -8,3 +8,5 @@ pub mod Relocating
 pub mod RunSteps
 pub mod Needed
 pub mod Finished
+pub mod PlainVerdict
+pub mod Crossing

@@ -24,7 +24,8 @@ use Rattle.object.specs.declared.entry_symbol.CheckedSymbol as checked
 use Rattle.binder.specs.declared.Verdict.{Verdict}
 use Rattle.binder.specs.declared.Verdict.the-variants.{Passed, Refused}
 use Rattle.binder.specs.Instance.{File, fileImage, fileRecord, namedWords, relasOf, wantedBy}
-use Rattle.binder.specs.Copies.{Copy, crossesOne, entryCopy, objectCopies}
+use Rattle.binder.specs.declared.crossing.Copy.{Copy}
+use Rattle.binder.specs.Copies.{crossesOne, entryCopy, objectCopies}
 
 -- the first refusal of two
 abbrev pub first : Verdict → Verdict → Verdict

@@ -1,13 +1,13 @@
 // The public call that binds a set.
 ghost use mathlib.Core.Path.{_≡_};
-ghost use Prim.Native.Nat.{_≤_};
+ghost use Prim.Native.Nat.{_≤_, _<_};
 ghost use lib.Dec.{eqb};
 ghost use lib.ListN.{length, replicate, take};
 ghost use Rattle.sheet.specs.Steps.Parts.{inputsIn};
 ghost use Rattle.binder.specs.Setting.{settingAt};
 ghost use Rattle.binder.specs.Bind.{outcome, bindOf, allows};
 ghost use Rattle.scope.specs.Steps.Links.{Filtered};
-ghost use Rattle.binder.specs.Steps.Finished.{endsBy, Relocated, BoundSet, finishedOf};
+ghost use Rattle.binder.specs.Steps.Finished.{endsBy, UntilReadable, Crossed, RelocatedOr, BoundSet, finishedOf};
 use crate::Answer;
 use crate::Policy;
 use crate::Verdict;
@@ -70,11 +70,14 @@ fn crossed(
     order: Order,
     m: Crossing,
 ) -> Verdict
+    requires { ⌜ (order .count ≤ 64) × (m .index < order .count) × Filtered (now table) ⌝ }
+    ensures { λ r. ⌜ (UntilReadable (inputsIn (now (bytes .entry)) parts) (now (table .entry)) (take (order .count) (order .list)) (m .index) (now (arena .entry)) (now (report .entry)) → Crossed (inputsIn (now (bytes .entry)) parts) (now (table .entry)) (take (order .count) (order .list)) (m .index) (m .entry) (now (arena .entry)) (now (report .entry)) r) ⌝ }
 {
     let list = order.list;
+    let i = m.index;
     let front = Order {
         list: list,
-        count: m.index,
+        count: i,
     };
     let p = crate::relocate::run_order(bytes, parts, arena, report, table, front);
     if p.refusal != 0 {
@@ -83,7 +86,7 @@ fn crossed(
             object: p.object,
         };
     }
-    let k = list[m.index];
+    let k = list[i];
     let file = sheet::sheet::file_of(bytes, parts, k as usize);
     let q = crate::relocate::run_until(arena, report, p, table, k, file, m.entry + 1);
     if q.refusal != 0 {
@@ -109,7 +112,7 @@ fn bind_in(
     order: Order,
 ) -> Verdict
     requires { ⌜ (order .count ≤ 64) × Filtered (now table) ⌝ }
-    ensures { λ r. ⌜ Relocated (inputsIn (now (bytes .entry)) parts) (now (table .entry)) (take (order .count) (order .list)) (now (arena .entry)) policy (now (report .entry)) (now (arena .exit)) (now (report .exit)) r ⌝ }
+    ensures { λ r. ⌜ RelocatedOr (inputsIn (now (bytes .entry)) parts) (now (table .entry)) (take (order .count) (order .list)) (now (arena .entry)) policy (now (report .entry)) (now (arena .exit)) (now (report .exit)) r ⌝ }
 {
     let m = crate::crossing::crossing_in(bytes, parts, arena, table, order);
     if m.hit {

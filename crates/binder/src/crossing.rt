@@ -1,9 +1,17 @@
 // COPY entries whose places cross, refusal 28: the first entry of an order whose copy crosses an earlier one. Copies do not depend on what
 // relocation writes, so they are looked at before it, over the placed bytes.
 ghost use mathlib.Core.Path.{_≡_};
-ghost use Prim.Native.Nat.{_+_, _*_, _≤_, _<_};
-ghost use lib.ListN.{length};
+ghost use mathlib.Core.Bool.{true, false};
+ghost use Prim.Native.Nat.{_+_, _-_, _*_, _^_, _≤_, _<_, min, max};
+ghost use lib.Dec.{leb};
+ghost use lib.ListN.{length, getD, take};
+ghost use Rattle.words.specs.Choice.{pick};
+ghost use Rattle.object.specs.Entries.{relasFrom};
+ghost use Rattle.object.specs.Record.{heldBy};
+ghost use Rattle.sheet.specs.Steps.Parts.{inputsIn};
 ghost use Rattle.scope.specs.Steps.Links.{Filtered};
+ghost use Rattle.binder.specs.Steps.Relocating.{imageIn, againRefusal, againRecord, turnOf};
+ghost use Rattle.binder.specs.Steps.Crossing.{noCopy, seenOf, entriesOf, noRela, window, MarksBelow, MarksSet, ApartIn, CopyMarked, Small, WalksOn, Readable, Passed, FirstCrossing, earlierOf, Ascend, Ascends, edgeOf, PlainlyApart, CrossingIn};
 use crate::order::Order;
 use crate::turn::Turn;
 use object::dynamic_fields::ObjectData;
@@ -24,7 +32,10 @@ pub struct Copy {
 // ---- the marks of a window: 2 for a byte that is a copy's destination, 1 for one of a source, else 0
 
 // Whether the marks `low` to `high` are all below `m`.
-fn marks_below(marks: &[u8], low: usize, high: usize, m: u8) -> bool {
+fn marks_below(marks: &[u8], low: usize, high: usize, m: u8) -> bool
+    requires { ⌜ high ≤ length (now marks) ⌝ }
+    ensures { λ r. ⌜ MarksBelow (now (marks .entry)) low high m r ⌝ }
+{
     let mut i = low;
     while i < high {
         if m <= marks[i] {
@@ -36,7 +47,10 @@ fn marks_below(marks: &[u8], low: usize, high: usize, m: u8) -> bool {
 }
 
 // The marks `low` to `high` become `m`.
-fn set_marks(marks: &mut [u8], low: usize, high: usize, m: u8) {
+fn set_marks(marks: &mut [u8], low: usize, high: usize, m: u8)
+    requires { ⌜ high ≤ length (now marks) ⌝ }
+    ensures { λ _. ⌜ MarksSet (now (marks .entry)) (now (marks .exit)) low high m ⌝ }
+{
     let mut i = low;
     while i < high {
         marks[i] = m;
@@ -45,26 +59,36 @@ fn set_marks(marks: &mut [u8], low: usize, high: usize, m: u8) {
 }
 
 // Where the arena offset `at` is in the window from `w` on: 0 before it, 32,768 after it.
-fn in_window(w: usize, at: usize) -> usize {
+fn in_window(w: usize, at: usize) -> usize
+    ensures { λ r. ⌜ r ≡ min (at - w) window ⌝ }
+{
     words::bytes::smaller(words::bytes::monus(at, w), 32768)
 }
 
 // Whether the copy crosses none of those that are marked, in the window.
-fn apart_in(marks: &[u8], w: usize, c: Copy) -> bool {
+fn apart_in(marks: &[u8], w: usize, c: Copy) -> bool
+    requires { ⌜ (length (now marks) ≡ window) × Small c ⌝ }
+    ensures { λ r. ⌜ ApartIn (now (marks .entry)) w c r ⌝ }
+{
     if !marks_below(marks, in_window(w, c.to), in_window(w, c.to + c.size), 1) {
         return false;
     }
     marks_below(marks, in_window(w, c.source), in_window(w, c.source + c.size), 2)
 }
 
-fn mark_copy(marks: &mut [u8], w: usize, c: Copy) {
+fn mark_copy(marks: &mut [u8], w: usize, c: Copy)
+    requires { ⌜ (length (now marks) ≡ window) × Small c ⌝ }
+    ensures { λ _. ⌜ CopyMarked (now (marks .entry)) (now (marks .exit)) w c ⌝ }
+{
     set_marks(marks, in_window(w, c.to), in_window(w, c.to + c.size), 2);
     set_marks(marks, in_window(w, c.source), in_window(w, c.source + c.size), 1);
 }
 
 // ---- an object
 
-fn no_copy() -> Copy {
+fn no_copy() -> Copy
+    ensures { λ r. ⌜ r ≡ noCopy ⌝ }
+{
     Copy {
         to: 0,
         source: 0,
@@ -73,13 +97,16 @@ fn no_copy() -> Copy {
 }
 
 // The record of an object that was loaded, read again from its placed bytes.
-pub(crate) fn record_again(arena: &[u8], t: Turn, file: &[u8]) -> ObjectData {
+pub(crate) fn record_again(arena: &[u8], t: Turn, file: &[u8]) -> ObjectData
+    ensures { λ r. ⌜ (againRefusal (imageIn (now (arena .entry)) t) (now (file .entry)) ≡ 0 → heldBy r ≡ againRecord (imageIn (now (arena .entry)) t) (now (file .entry))) ⌝ }
+{
     let l = object::program_header::read_loads(file);
     let d = object::program_header::dynamic_at(file);
     let image = crate::turn::image_of(arena, t);
     if 16 < l.count {
+        let list = l.list;
         let few = Loads {
-            list: l.list,
+            list: list,
             count: 0,
         };
         let r = object::dynamic_fields::read_object(image, few, d, false);
@@ -90,7 +117,10 @@ pub(crate) fn record_again(arena: &[u8], t: Turn, file: &[u8]) -> ObjectData {
 }
 
 // Entry `i` of RELA and PLT.
-fn entry_at(arena: &[u8], t: Turn, o: ObjectData, i: usize) -> Rela {
+fn entry_at(arena: &[u8], t: Turn, o: ObjectData, i: usize) -> Rela
+    requires { ⌜ i < length (entriesOf (imageIn (now arena) t) (heldBy o)) ⌝ }
+    ensures { λ r. ⌜ r ≡ getD (entriesOf (imageIn (now (arena .entry)) t) (heldBy o)) i noRela ⌝ }
+{
     let relas = crate::relr::cut_to_32(o.relas);
     if i < relas as usize {
         return crate::relocate::rela_in(arena, t, o.rela, i as u32);
@@ -99,7 +129,10 @@ fn entry_at(arena: &[u8], t: Turn, o: ObjectData, i: usize) -> Rela {
 }
 
 // The copy that an entry makes; none, where refusal 14, 15 or 18 meets the entry.
-fn copy_of(arena: &[u8], table: &[u64], t: Turn, o: ObjectData, e: Rela) -> Copy {
+fn copy_of(arena: &[u8], table: &[u64], t: Turn, o: ObjectData, e: Rela) -> Copy
+    requires { ⌜ Filtered (now table) ⌝ }
+    ensures { λ r. ⌜ r ≡ seenOf (now (table .entry)) (now (arena .entry)) t (heldBy o) e ⌝ }
+{
     let a = object::relocate::action_of(e.rtype);
     let Action::Copy = a else {
         return no_copy();
@@ -139,12 +172,14 @@ pub struct Scan {
 }
 
 // The lowest offset behind the window from `w` on that is a destination, with the copy's.
-fn next_after(w: usize, next: usize, c: Copy) -> usize {
-    let end = w + 32768;
-    if c.to + c.size <= end {
+fn next_after(w: usize, next: usize, c: Copy) -> usize
+    requires { ⌜ Small c ⌝ }
+    ensures { λ r. ⌜ r ≡ pick (leb (c .to + c .size - w) window) next (min next (max (c .to) (w + window))) ⌝ }
+{
+    if words::bytes::monus(c.to + c.size, w) <= 32768 {
         return next;
     }
-    words::bytes::smaller(next, words::bytes::larger(c.to, end))
+    words::bytes::smaller(next, words::bytes::larger(c.to, w + 32768))
 }
 
 // The copies of an object's entries, after `seen` others: each is compared with the marks and marked.
@@ -156,14 +191,19 @@ fn scan_object(
     marks: &mut [u8],
     w: usize,
     s: Scan,
-) -> Scan {
+) -> Scan
+    requires { ⌜ Filtered (now table) × (length (now marks) ≡ window) ⌝ }
+    ensures { λ r. ⌜ WalksOn (length (now (arena .entry))) w s (now (marks .entry)) (seenOf (now (table .entry)) (now (arena .entry)) t (heldBy o)) (entriesOf (imageIn (now (arena .entry)) t) (heldBy o)) (now (marks .exit)) r ⌝ }
+{
     let n = crate::relr::cut_to_32(o.relas) as usize + crate::relr::cut_to_32(o.plts) as usize;
     let mut seen = s.seen;
     let mut next = s.next;
     let mut i = 0;
     while i < n {
         let c = copy_of(arena, table, t, o, entry_at(arena, t, o, i));
-        if c.size != 0 {
+        if c.size == 0 {
+            i += 1;
+        } else {
             if !apart_in(marks, w, c) {
                 return Scan {
                     seen: seen,
@@ -175,8 +215,8 @@ fn scan_object(
             mark_copy(marks, w, c);
             next = next_after(w, next, c);
             seen += 1;
+            i += 1;
         }
-        i += 1;
     }
     Scan {
         seen: seen,
@@ -194,7 +234,10 @@ fn scan_at(
     marks: &mut [u8],
     w: usize,
     s: Scan,
-) -> Scan {
+) -> Scan
+    requires { ⌜ Filtered (now table) × (length (now marks) ≡ window) ⌝ }
+    ensures { λ r. ⌜ (againRefusal (imageIn (now (arena .entry)) (turnOf (now (table .entry)) k)) (now (file .entry)) ≡ 0 → WalksOn (length (now (arena .entry))) w s (now (marks .entry)) (seenOf (now (table .entry)) (now (arena .entry)) (turnOf (now (table .entry)) k) (againRecord (imageIn (now (arena .entry)) (turnOf (now (table .entry)) k)) (now (file .entry)))) (entriesOf (imageIn (now (arena .entry)) (turnOf (now (table .entry)) k)) (againRecord (imageIn (now (arena .entry)) (turnOf (now (table .entry)) k)) (now (file .entry)))) (now (marks .exit)) r) ⌝ }
+{
     let t = crate::turn::turn_of(table, k);
     let o = record_again(arena, t, file);
     scan_object(arena, table, t, o, marks, w, s)
@@ -221,7 +264,10 @@ fn scan_order(
     order: Order,
     marks: &mut [u8],
     w: usize,
-) -> Crossing {
+) -> Crossing
+    requires { ⌜ (order .count ≤ 64) × Filtered (now table) × (length (now marks) ≡ window) ⌝ }
+    ensures { λ r. ⌜ (Readable (now (table .entry)) (inputsIn (now (bytes .entry)) parts) (now (arena .entry)) (take (order .count) (order .list)) → Passed (now (table .entry)) (inputsIn (now (bytes .entry)) parts) (now (arena .entry)) (take (order .count) (order .list)) w r) ⌝ }
+{
     let list = order.list;
     let n = order.count;
     words::bytes::clear(marks);
@@ -256,6 +302,19 @@ fn scan_order(
     }
 }
 
+// What was met first.
+fn earlier_of(m: Crossing, q: Crossing) -> Crossing
+    ensures { λ r. ⌜ r ≡ earlierOf m q ⌝ }
+{
+    if !q.hit {
+        return m;
+    }
+    if m.seen <= q.seen {
+        return m;
+    }
+    q
+}
+
 // The first that crosses an earlier one: window by window.
 fn first_crossing(
     bytes: &[u8],
@@ -263,18 +322,17 @@ fn first_crossing(
     arena: &[u8],
     table: &[u64],
     order: Order,
-) -> Crossing {
+) -> Crossing
+    requires { ⌜ (order .count ≤ 64) × Filtered (now table) ⌝ }
+    ensures { λ r. ⌜ (Readable (now (table .entry)) (inputsIn (now (bytes .entry)) parts) (now (arena .entry)) (take (order .count) (order .list)) → FirstCrossing (now (table .entry)) (inputsIn (now (bytes .entry)) parts) (now (arena .entry)) (take (order .count) (order .list)) r) ⌝ }
+{
     let mut marks = [0u8; 32768];
     let mut m = scan_order(bytes, parts, arena, table, order, &mut marks, 0);
     let mut w = m.next;
     while w < arena.len() {
         let q = scan_order(bytes, parts, arena, table, order, &mut marks, w);
         w = q.next;
-        if q.hit {
-            if q.seen < m.seen {
-                m = q;
-            }
-        }
+        m = earlier_of(m, q);
     }
     m
 }
@@ -288,7 +346,9 @@ pub struct Edge {
 }
 
 // Whether the places of COPY entries of a table ascend from `edge` on, by the sizes of their own symbols.
-fn ascends(image: &[u8], at: usize, n: u32, symbols: usize, edge: usize) -> Edge {
+fn ascends(image: &[u8], at: usize, n: u32, symbols: usize, edge: usize) -> Edge
+    ensures { λ r. ⌜ (r .ascends ≡ true → Ascend (now (image .entry)) symbols edge (relasFrom (now (image .entry)) at 0 n) (r .edge)) ⌝ }
+{
     let no = Edge {
         ascends: false,
         edge: 0,
@@ -303,7 +363,10 @@ fn ascends(image: &[u8], at: usize, n: u32, symbols: usize, edge: usize) -> Edge
     let mut k = at;
     let mut i = 0u32;
     while i < n {
-        if words::bytes::u32_in(image, k + 8) == 5 {
+        if words::bytes::u32_in(image, k + 8) != 5 {
+            k += 24;
+            i += 1;
+        } else {
             let place = words::bytes::u64_in(image, k) as usize;
             if place < high {
                 return no;
@@ -314,9 +377,9 @@ fn ascends(image: &[u8], at: usize, n: u32, symbols: usize, edge: usize) -> Edge
                 return no;
             }
             high = place + size;
+            k += 24;
+            i += 1;
         }
-        k += 24;
-        i += 1;
     }
     Edge {
         ascends: true,
@@ -325,7 +388,9 @@ fn ascends(image: &[u8], at: usize, n: u32, symbols: usize, edge: usize) -> Edge
 }
 
 // Both tables of an object.
-fn object_ascends(arena: &[u8], t: Turn, file: &[u8], edge: usize) -> bool {
+fn object_ascends(arena: &[u8], t: Turn, file: &[u8], edge: usize) -> bool
+    ensures { λ r. ⌜ (againRefusal (imageIn (now (arena .entry)) t) (now (file .entry)) ≡ 0 → r ≡ true → Ascends (imageIn (now (arena .entry)) t) (againRecord (imageIn (now (arena .entry)) t) (now (file .entry))) edge) ⌝ }
+{
     let o = record_again(arena, t, file);
     let image = crate::turn::image_of(arena, t);
     let e = ascends(image, o.rela, crate::relr::cut_to_32(o.relas), o.symbols, edge);
@@ -336,6 +401,16 @@ fn object_ascends(arena: &[u8], t: Turn, file: &[u8], edge: usize) -> bool {
     f.ascends
 }
 
+// From where the places of object `k` are to ascend: of the program's from 0 on, of any other's from where none stands.
+fn edge_of(k: u32) -> usize
+    ensures { λ r. ⌜ r ≡ edgeOf k ⌝ }
+{
+    if k == 1 {
+        return 0;
+    }
+    0xffff_ffff_ffff_ffff
+}
+
 // Whether no object but the program copies, and the program's places ascend: then none crosses another.
 fn plainly_apart(
     bytes: &[u8],
@@ -343,7 +418,10 @@ fn plainly_apart(
     arena: &[u8],
     table: &[u64],
     order: Order,
-) -> bool {
+) -> bool
+    requires { ⌜ (order .count ≤ 64) × Filtered (now table) ⌝ }
+    ensures { λ r. ⌜ (Readable (now (table .entry)) (inputsIn (now (bytes .entry)) parts) (now (arena .entry)) (take (order .count) (order .list)) → r ≡ true → PlainlyApart (now (table .entry)) (inputsIn (now (bytes .entry)) parts) (now (arena .entry)) (take (order .count) (order .list))) ⌝ }
+{
     let list = order.list;
     let n = order.count;
     let mut i = 0;
@@ -351,11 +429,7 @@ fn plainly_apart(
         let k = list[i];
         let file = sheet::sheet::file_of(bytes, parts, k as usize);
         let t = crate::turn::turn_of(table, k);
-        let mut edge = 0xffff_ffff_ffff_ffff;
-        if k == 1 {
-            edge = 0;
-        }
-        if !object_ascends(arena, t, file, edge) {
+        if !object_ascends(arena, t, file, edge_of(k)) {
             return false;
         }
         i += 1;
@@ -370,7 +444,10 @@ pub(crate) fn crossing_in(
     arena: &[u8],
     table: &[u64],
     order: Order,
-) -> Crossing {
+) -> Crossing
+    requires { ⌜ (order .count ≤ 64) × Filtered (now table) ⌝ }
+    ensures { λ r. ⌜ (Readable (now (table .entry)) (inputsIn (now (bytes .entry)) parts) (now (arena .entry)) (take (order .count) (order .list)) → CrossingIn (now (table .entry)) (inputsIn (now (bytes .entry)) parts) (now (arena .entry)) (take (order .count) (order .list)) r) ⌝ }
+{
     if plainly_apart(bytes, parts, arena, table, order) {
         return Crossing {
             seen: 0,

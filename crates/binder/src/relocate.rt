@@ -2,7 +2,7 @@
 // by entry.
 ghost use mathlib.Core.Path.{_≡_};
 ghost use mathlib.Core.Bool.{true};
-ghost use Prim.Native.Nat.{_+_, _-_, _*_, _≤_};
+ghost use Prim.Native.Nat.{_+_, _-_, _*_, _^_, _≤_, _<_};
 ghost use lib.Dec.{eqb};
 ghost use lib.ListN.{length, take};
 ghost use Rattle.words.specs.Choice.{pick};
@@ -15,7 +15,7 @@ ghost use Rattle.object.specs.Record.{heldBy, checkedSymbol};
 ghost use Rattle.object.specs.Steps.WritableRange.{WritableRange};
 ghost use Rattle.sheet.specs.Steps.Parts.{inputsIn};
 ghost use Rattle.scope.specs.Steps.Links.{Filtered};
-ghost use Rattle.binder.specs.Steps.Relocating.{left, wrote, started, imageIn, fieldOf, fixedOf, symbolRefusal, soughtFor, soughtForCopy, soughtOf, writeSought, copyingOf, runAction, runTable, runTables, runObject, runAt, runOrder};
+ghost use Rattle.binder.specs.Steps.Relocating.{left, wrote, started, imageIn, fieldOf, fixedOf, symbolRefusal, soughtFor, soughtForCopy, soughtOf, writeSought, copyingOf, runAction, runTable, runTables, runObject, runAt, runOrder, runUntil, turnOf, againRefusal};
 ghost use Rattle.binder.specs.Steps.RunSteps.{InReach, RelativesWritten, EntriesPassed, SymbolsOf, EntryRead, addressFound, SymbolsPassed};
 ghost use Rattle.binder.specs.declared.relocate.Address.the-variants.{At};
 use crate::order::Order;
@@ -675,7 +675,8 @@ pub(crate) fn run_until(
     file: &[u8],
     entries: usize,
 ) -> Progress
-    requires { ⌜ Filtered (now table) ⌝ }
+    requires { ⌜ Filtered (now table) × (entries < 2 ^ 32) ⌝ }
+    ensures { λ r. ⌜ (againRefusal (imageIn (now (arena .entry)) (turnOf (now (table .entry)) k)) (now (file .entry)) ≡ 0 → left r (now (arena .exit)) (now (report .exit)) ≡ runUntil (now (table .entry)) k (now (file .entry)) entries p (now (arena .entry)) (now (report .entry))) ⌝ }
 {
     let t = crate::turn::turn_of(table, k);
     let o = crate::crossing::record_again(arena, t, file);
