@@ -101,7 +101,7 @@ module _ (setting : Setting) (size : ℕ) (table : List ℕ) (hf pf : File) (fs 
   module _ (p : Progress) (a report : List ℕ) (ended : relocated.Ended setting size table hf pf fs order words p a report) where
     ends : endsBy policy p ≡ relocateVerdict S files order policy words
     unfolding endsBy relocateVerdict
-    ends = go (orderVerdict S files order) refl
+    ends = go (orderVerdict S files [] order) refl
       where
         go : (v : Verdict) → orderVerdict S files order ≡ v → endsBy policy p ≡ relocateVerdict S files order policy words
         go Passed q =

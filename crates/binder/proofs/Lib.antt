@@ -33,3 +33,7 @@ pub mod SymbolicLaws
 pub mod BitLaws
 pub mod BindIs
 pub mod LoadsSame
+pub mod ApartLaws
+pub mod CrossLaws
+pub mod WalkLaws
+pub mod SeenIs

@@ -20,7 +20,7 @@ use Rattle.binder.specs.Verdict.{first, verdict, entryRefusal}
 use Rattle.binder.specs.Steps.PlainVerdict.{plainEntries}
 use Rattle.binder.specs.declared.Verdict.the-variants.{Passed}
 use Rattle.binder.specs.Report.{reportWord, isUndefined, isPassed, entryReport}
-use Rattle.binder.specs.Steps.Relocating.{left, imageIn, cutTo32, turnOf, runAction, runTable, runTables}
+use Rattle.binder.specs.Steps.Relocating.{left, imageIn, unlessRefused, cutTo32, turnOf, runAction, runTable, runTables}
 use Rattle.binder.specs.declared.turn.Turn.{Turn}
 use Rattle.binder.specs.declared.report.Progress.{Progress}
 use Rattle.binder.proofs.Steady.{set, fileAt, LoadedSet, Steady}
@@ -31,7 +31,7 @@ use Rattle.binder.proofs.EntryIs.{Doing, plain, entry-ran}
 
 -- ---- two lists of entries
 
-rela-at : (image : List ℕ) (at i c j : ℕ) (d : Rela) → j < c → getD (relasFrom image at i c) j d ≡ relaAt image at (i + j)
+pub rela-at : (image : List ℕ) (at i c j : ℕ) (d : Rela) → j < c → getD (relasFrom image at i c) j d ≡ relaAt image at (i + j)
 unfolding relasFrom
 rela-at image at i zero j d h = absurd (omega arith)
 rela-at image at i (suc c) zero d h = ap (relaAt image at) (omega arith)
@@ -47,7 +47,7 @@ entry-same image image′ at c e j l =
     sym (ap (relaAt image′ at) z)
     ∙ (sym (rela-at image′ at 0 c j d l) ∙ (ap (λ (es : List Rela). getD es j d) e ∙ (rela-at image at 0 c j d l ∙ ap (relaAt image at) z)))
 
-relas-length : (image : List ℕ) (at i c : ℕ) → length (relasFrom image at i c) ≡ c
+pub relas-length : (image : List ℕ) (at i c : ℕ) → length (relasFrom image at i c) ≡ c
 unfolding relasFrom
 relas-length image at i zero = refl
 relas-length image at i (suc c) = ap suc (relas-length image at (i + 1) c)
@@ -63,7 +63,7 @@ entryWord S k image r i e =
     pick (isUndefined S k image r e) (reportWord 6 i ∷ []) (pick (isPassed (rowOf (e .rtype))) (reportWord 7 i ∷ []) [])
 
 module _ (S : Objs) (k : ℕ) (image : List ℕ) (r : Record) where
-  verdicts-append : (xs ys : List Rela) → plainEntries S k image r (xs ++ ys) ≡ first (plainEntries S k image r xs) (plainEntries S k image r ys)
+  pub verdicts-append : (xs ys : List Rela) → plainEntries S k image r (xs ++ ys) ≡ first (plainEntries S k image r xs) (plainEntries S k image r ys)
   unfolding plainEntries
   verdicts-append [] ys = refl
   verdicts-append (x ∷ xs) ys =
@@ -217,3 +217,30 @@ module _ (setting : Setting) (size : ℕ) (table : List ℕ) (h pr : File) (fs :
       (effects S k (map (entryOf image r ((obj S k) .base)) xs) m) p′ a′ report′ d′))
       (runTable table t r (r .rela) 0 (r .relas) 0 (left p a report))
       (table-ran (r .rela) 0 (r .relas) (omega (arith, few .0)) (λ a s. entry-same image (imageIn a t) (r .rela) (r .relas) (readings setting size table h pr fs L a s k hi .relas o)) (r .relas) 0 0 (omega arith) (omega arith) ws u m p a report d))
+
+  -- ---- the first `x` of RELA, then the first `y` of PLT
+
+  pub tables-until :
+      (x y : ℕ) → x ≤ r .relas → y ≤ r .plts → (ws : List ℕ) (u : ℕ) (m : Mem) (p : Progress) (a report : List ℕ) → Does ws u m p a report
+      → Ran size n (first (plainEntries S k image r (relasFrom image (r .rela) 0 x)) (plainEntries S k image r (relasFrom image (r .plt) 0 y))) (λ _ _ _. Unit {0})
+      (unlessRefused (runTable table t r (r .plt) (cutTo32 (r .relas)) y 0) (runTable table t r (r .rela) 0 x 0 (left p a report)))
+  tables-until x y lx ly ws u m p a report d =
+      let few = counts setting size table h pr fs L k lo hi in
+      let o = L .others k lo hi in
+      let xs : List Rela = relasFrom image (r .rela) 0 x in
+      let ys : List Rela = relasFrom image (r .plt) 0 y in
+      rw (cut-is (r .relas) (few .0))
+      (ran-then size n (plainEntries S k image r xs) (plainEntries S k image r ys) (Entered ws u m 0 xs) (λ _ _ _. Unit {0})
+      (runTable table t r (r .plt) (r .relas) y 0)
+      (λ p′ a′ report′ d′.
+      ran-weaker size n (plainEntries S k image r ys)
+      (Entered (ws ++ entryReport S k image r 0 xs) (earlier u (pick (some (isUndefined S k image r) xs) k 0))
+      (effects S k (map (entryOf image r ((obj S k) .base)) xs) m) (r .relas) ys)
+      (λ _ _ _. Unit {0})
+      (λ _ _ _ _. Prim.tt {0})
+      (runTable table t r (r .plt) (r .relas) y 0 (left p′ a′ report′))
+      (table-ran (r .plt) (r .relas) (r .plts) (omega (arith, few .0, few .1)) (λ a s. entry-same image (imageIn a t) (r .plt) (r .plts) (readings setting size table h pr fs L a s k hi .plts o)) y (r .relas) 0 (omega arith) (omega arith)
+      (ws ++ entryReport S k image r 0 xs) (earlier u (pick (some (isUndefined S k image r) xs) k 0))
+      (effects S k (map (entryOf image r ((obj S k) .base)) xs) m) p′ a′ report′ d′))
+      (runTable table t r (r .rela) 0 x 0 (left p a report))
+      (table-ran (r .rela) 0 (r .relas) (omega (arith, few .0)) (λ a s. entry-same image (imageIn a t) (r .rela) (r .relas) (readings setting size table h pr fs L a s k hi .relas o)) x 0 0 (omega arith) (omega arith) ws u m p a report d))

@@ -11,7 +11,7 @@ ghost use Rattle.object.specs.Record.{heldBy};
 ghost use Rattle.sheet.specs.Steps.Parts.{inputsIn};
 ghost use Rattle.scope.specs.Steps.Links.{Filtered};
 ghost use Rattle.binder.specs.Steps.Relocating.{imageIn, againRefusal, againRecord, turnOf};
-ghost use Rattle.binder.specs.Steps.Crossing.{noCopy, seenOf, entriesOf, noRela, window, MarksBelow, MarksSet, ApartIn, CopyMarked, Small, WalksOn, Readable, Passed, FirstCrossing, earlierOf, Ascend, Ascends, edgeOf, PlainlyApart, CrossingIn};
+ghost use Rattle.binder.specs.Steps.Crossing.{noCopy, seenOf, entriesOf, noRela, window, MarksBelow, MarksSet, ApartIn, CopyMarked, Small, WalksOn, Readable, Passed, FirstCrossing, earlierOf, NoCopies, NoCopiesIn, CrossingIn};
 use crate::order::Order;
 use crate::turn::Turn;
 use object::dynamic_fields::ObjectData;
@@ -48,7 +48,7 @@ fn marks_below(marks: &[u8], low: usize, high: usize, m: u8) -> bool
 
 // The marks `low` to `high` become `m`.
 fn set_marks(marks: &mut [u8], low: usize, high: usize, m: u8)
-    requires { ⌜ high ≤ length (now marks) ⌝ }
+    requires { ⌜ (low ≤ high) × (high ≤ length (now marks)) ⌝ }
     ensures { λ _. ⌜ MarksSet (now (marks .entry)) (now (marks .exit)) low high m ⌝ }
 {
     let mut i = low;
@@ -192,8 +192,8 @@ fn scan_object(
     w: usize,
     s: Scan,
 ) -> Scan
-    requires { ⌜ Filtered (now table) × (length (now marks) ≡ window) ⌝ }
-    ensures { λ r. ⌜ WalksOn (length (now (arena .entry))) w s (now (marks .entry)) (seenOf (now (table .entry)) (now (arena .entry)) t (heldBy o)) (entriesOf (imageIn (now (arena .entry)) t) (heldBy o)) (now (marks .exit)) r ⌝ }
+    requires { ⌜ Filtered (now table) × (length (now marks) ≡ window) × (s .seen ≤ 2 ^ 62) ⌝ }
+    ensures { λ r. ⌜ (r .seen ≤ s .seen + 2 ^ 33) × WalksOn (length (now (arena .entry))) w s (now (marks .entry)) (seenOf (now (table .entry)) (now (arena .entry)) t (heldBy o)) (entriesOf (imageIn (now (arena .entry)) t) (heldBy o)) (now (marks .exit)) r ⌝ }
 {
     let n = crate::relr::cut_to_32(o.relas) as usize + crate::relr::cut_to_32(o.plts) as usize;
     let mut seen = s.seen;
@@ -235,8 +235,8 @@ fn scan_at(
     w: usize,
     s: Scan,
 ) -> Scan
-    requires { ⌜ Filtered (now table) × (length (now marks) ≡ window) ⌝ }
-    ensures { λ r. ⌜ (againRefusal (imageIn (now (arena .entry)) (turnOf (now (table .entry)) k)) (now (file .entry)) ≡ 0 → WalksOn (length (now (arena .entry))) w s (now (marks .entry)) (seenOf (now (table .entry)) (now (arena .entry)) (turnOf (now (table .entry)) k) (againRecord (imageIn (now (arena .entry)) (turnOf (now (table .entry)) k)) (now (file .entry)))) (entriesOf (imageIn (now (arena .entry)) (turnOf (now (table .entry)) k)) (againRecord (imageIn (now (arena .entry)) (turnOf (now (table .entry)) k)) (now (file .entry)))) (now (marks .exit)) r) ⌝ }
+    requires { ⌜ Filtered (now table) × (length (now marks) ≡ window) × (s .seen ≤ 2 ^ 62) ⌝ }
+    ensures { λ r. ⌜ (r .seen ≤ s .seen + 2 ^ 33) × (againRefusal (imageIn (now (arena .entry)) (turnOf (now (table .entry)) k)) (now (file .entry)) ≡ 0 → WalksOn (length (now (arena .entry))) w s (now (marks .entry)) (seenOf (now (table .entry)) (now (arena .entry)) (turnOf (now (table .entry)) k) (againRecord (imageIn (now (arena .entry)) (turnOf (now (table .entry)) k)) (now (file .entry)))) (entriesOf (imageIn (now (arena .entry)) (turnOf (now (table .entry)) k)) (againRecord (imageIn (now (arena .entry)) (turnOf (now (table .entry)) k)) (now (file .entry)))) (now (marks .exit)) r) ⌝ }
 {
     let t = crate::turn::turn_of(table, k);
     let o = record_again(arena, t, file);
@@ -337,82 +337,44 @@ fn first_crossing(
     m
 }
 
-// ---- what needs no search
+// ---- sets without COPY entries
 
-// Where the places of COPY entries have come to, as far as they ascend.
-pub struct Edge {
-    pub ascends: bool,
-    pub edge: usize,
-}
-
-// Whether the places of COPY entries of a table ascend from `edge` on, by the sizes of their own symbols.
-fn ascends(image: &[u8], at: usize, n: u32, symbols: usize, edge: usize) -> Edge
-    ensures { λ r. ⌜ (r .ascends ≡ true → Ascend (now (image .entry)) symbols edge (relasFrom (now (image .entry)) at 0 n) (r .edge)) ⌝ }
+// Whether one of the `n` entries of the table at `at` has type 5, the only one that copies.
+fn has_copies(image: &[u8], at: usize, n: u32) -> bool
+    ensures { λ r. ⌜ (r ≡ false → NoCopies (relasFrom (now (image .entry)) at 0 n)) ⌝ }
 {
-    let no = Edge {
-        ascends: false,
-        edge: 0,
-    };
     if image.len() < at {
-        return no;
+        return true;
     }
     if (image.len() - at) / 24 < n as usize {
-        return no;
+        return true;
     }
-    let mut high = edge;
     let mut k = at;
     let mut i = 0u32;
     while i < n {
-        if words::bytes::u32_in(image, k + 8) != 5 {
-            k += 24;
-            i += 1;
-        } else {
-            let place = words::bytes::u64_in(image, k) as usize;
-            if place < high {
-                return no;
-            }
-            let y = object::symbol::symbol_at(image, symbols, words::bytes::u32_in(image, k + 12));
-            let size = y.size as usize;
-            if 0xffff_ffff_ffff_ffff - place < size {
-                return no;
-            }
-            high = place + size;
-            k += 24;
-            i += 1;
+        if words::bytes::u32_in(image, k + 8) == 5 {
+            return true;
         }
+        k += 24;
+        i += 1;
     }
-    Edge {
-        ascends: true,
-        edge: high,
-    }
+    false
 }
 
-// Both tables of an object.
-fn object_ascends(arena: &[u8], t: Turn, file: &[u8], edge: usize) -> bool
-    ensures { λ r. ⌜ (againRefusal (imageIn (now (arena .entry)) t) (now (file .entry)) ≡ 0 → r ≡ true → Ascends (imageIn (now (arena .entry)) t) (againRecord (imageIn (now (arena .entry)) t) (now (file .entry))) edge) ⌝ }
+// Whether an object that was loaded has COPY entries.
+fn object_copies(arena: &[u8], t: Turn, file: &[u8]) -> bool
+    ensures { λ r. ⌜ (againRefusal (imageIn (now (arena .entry)) t) (now (file .entry)) ≡ 0 → r ≡ false → NoCopies (entriesOf (imageIn (now (arena .entry)) t) (againRecord (imageIn (now (arena .entry)) t) (now (file .entry))))) ⌝ }
 {
     let o = record_again(arena, t, file);
     let image = crate::turn::image_of(arena, t);
-    let e = ascends(image, o.rela, crate::relr::cut_to_32(o.relas), o.symbols, edge);
-    if !e.ascends {
-        return false;
+    if has_copies(image, o.rela, crate::relr::cut_to_32(o.relas)) {
+        return true;
     }
-    let f = ascends(image, o.plt, crate::relr::cut_to_32(o.plts), o.symbols, e.edge);
-    f.ascends
+    has_copies(image, o.plt, crate::relr::cut_to_32(o.plts))
 }
 
-// From where the places of object `k` are to ascend: of the program's from 0 on, of any other's from where none stands.
-fn edge_of(k: u32) -> usize
-    ensures { λ r. ⌜ r ≡ edgeOf k ⌝ }
-{
-    if k == 1 {
-        return 0;
-    }
-    0xffff_ffff_ffff_ffff
-}
-
-// Whether no object but the program copies, and the program's places ascend: then none crosses another.
-fn plainly_apart(
+// Whether some object of the order has COPY entries.
+fn some_copies(
     bytes: &[u8],
     parts: Parts,
     arena: &[u8],
@@ -420,7 +382,7 @@ fn plainly_apart(
     order: Order,
 ) -> bool
     requires { ⌜ (order .count ≤ 64) × Filtered (now table) ⌝ }
-    ensures { λ r. ⌜ (Readable (now (table .entry)) (inputsIn (now (bytes .entry)) parts) (now (arena .entry)) (take (order .count) (order .list)) → r ≡ true → PlainlyApart (now (table .entry)) (inputsIn (now (bytes .entry)) parts) (now (arena .entry)) (take (order .count) (order .list))) ⌝ }
+    ensures { λ r. ⌜ (Readable (now (table .entry)) (inputsIn (now (bytes .entry)) parts) (now (arena .entry)) (take (order .count) (order .list)) → r ≡ false → NoCopiesIn (now (table .entry)) (inputsIn (now (bytes .entry)) parts) (now (arena .entry)) (take (order .count) (order .list))) ⌝ }
 {
     let list = order.list;
     let n = order.count;
@@ -429,12 +391,12 @@ fn plainly_apart(
         let k = list[i];
         let file = sheet::sheet::file_of(bytes, parts, k as usize);
         let t = crate::turn::turn_of(table, k);
-        if !object_ascends(arena, t, file, edge_of(k)) {
-            return false;
+        if object_copies(arena, t, file) {
+            return true;
         }
         i += 1;
     }
-    true
+    false
 }
 
 // The first entry of the order whose copy crosses an earlier one, if there is one.
@@ -448,7 +410,7 @@ pub(crate) fn crossing_in(
     requires { ⌜ (order .count ≤ 64) × Filtered (now table) ⌝ }
     ensures { λ r. ⌜ (Readable (now (table .entry)) (inputsIn (now (bytes .entry)) parts) (now (arena .entry)) (take (order .count) (order .list)) → CrossingIn (now (table .entry)) (inputsIn (now (bytes .entry)) parts) (now (arena .entry)) (take (order .count) (order .list)) r) ⌝ }
 {
-    if plainly_apart(bytes, parts, arena, table, order) {
+    if !some_copies(bytes, parts, arena, table, order) {
         return Crossing {
             seen: 0,
             next: 0,

@@ -10,7 +10,6 @@ use lib.ListN.{length, getD, take}
 use Rattle.words.specs.Choice.{pick, both, some}
 use Rattle.words.specs.Memory.{inside}
 use Rattle.object.specs.RelocationTypes.{Row, ignored, passedOver, turnedAway, copies, writes, rowOf}
-use Rattle.object.specs.Symbol.{symbolAt}
 use Rattle.object.specs.Entries.{relasFrom}
 use Rattle.object.specs.Record.{Record, checkedSymbol, nameOf}
 use Rattle.object.specs.declared.hash_tables.Definition.{Definition}
@@ -225,28 +224,15 @@ module _ (table : List ℕ) (os : List Input) (a : List ℕ) where
 abbrev pub earlierOf : Crossing → Crossing → Crossing
 earlierOf m q = pick (q .hit) (pick (leb (m .seen) (q .seen)) m q) m
 
--- ---- what needs no search
+-- ---- sets without COPY entries
 
--- the places of COPY entries ascend, by the sizes of their own symbols, from `low` to `high`
-unfoldable pub Ascend : List ℕ → ℕ → ℕ → List Rela → ℕ → Type 0
-Ascend image symbols low [] high = low ≡ high
-Ascend image symbols low (e ∷ es) high =
-    ((rowOf (e .rtype) ≡ copies → ⊥) × Ascend image symbols low es high)
-    ⊎ ((low ≤ e .place) × Ascend image symbols (e .place + symbolAt image symbols (e .symbol) .size) es high)
+unfoldable pub NoCopies : List Rela → Type 0
+NoCopies [] = Unit {0}
+NoCopies (e ∷ es) = (rowOf (e .rtype) ≡ copies → ⊥) × NoCopies es
 
--- in an object, up to a number of the code
-abbrev pub Ascends : List ℕ → Record → ℕ → Type 0
-Ascends image r low = (high : ℕ) × (high < 2 ^ 64) × Ascend image (r .symbols) low (entriesOf image r) high
+abbrev pub NoCopiesIn : List ℕ → List Input → List ℕ → List ℕ → Type 0
+NoCopiesIn table os a ks = (i : ℕ) → i < length ks → NoCopies (entriesAt table os a (getD ks i 0))
 
--- from where the places of object `k` are to ascend: no place stands behind the last number
-abbrev pub edgeOf : ℕ → ℕ
-edgeOf k = pick (eqb k 1) 0 (2 ^ 64 - 1)
-
-abbrev pub PlainlyApart : List ℕ → List Input → List ℕ → List ℕ → Type 0
-PlainlyApart table os a ks =
-    (i : ℕ) → i < length ks → Ascends (imageIn a (turnOf table (getD ks i 0))) (againOf table os a (getD ks i 0)) (edgeOf (getD ks i 0))
-
--- no copy of the order crosses an earlier one, or the first that does
+-- no object has COPY entries; or what the walk found
 abbrev pub CrossingIn : List ℕ → List Input → List ℕ → List ℕ → Crossing → Type 0
-CrossingIn table os a ks m =
-    ((m .hit ≡ false) × PlainlyApart table os a ks) ⊎ FirstCrossing table os a ks m
+CrossingIn table os a ks m = ((m .hit ≡ false) × NoCopiesIn table os a ks) ⊎ FirstCrossing table os a ks m
