@@ -117,25 +117,40 @@ mark-some m b (d ∷ ds) p f h l =
 
 -- ---- a copy that crosses some is not apart at some byte, and the other way round
 
+-- the three tests of `crosses`
+to-to : (c d : Copy) → meets (c .to) (c .size) (d .to) (d .size) ≡ true → crosses c d ≡ true
+unfolding crosses
+to-to c d e = rw e
+
+source-to : (c d : Copy) → meets (c .source) (c .size) (d .to) (d .size) ≡ true → crosses c d ≡ true
+unfolding crosses
+source-to c d e =
+    either-right (meets (c .to) (c .size) (d .to) (d .size)) (either (meets (c .source) (c .size) (d .to) (d .size)) (meets (c .to) (c .size) (d .source) (d .size)))
+    (either-left (meets (c .source) (c .size) (d .to) (d .size)) (meets (c .to) (c .size) (d .source) (d .size)) e)
+
+to-source : (c d : Copy) → meets (c .to) (c .size) (d .source) (d .size) ≡ true → crosses c d ≡ true
+unfolding crosses
+to-source c d e =
+    either-right (meets (c .to) (c .size) (d .to) (d .size)) (either (meets (c .source) (c .size) (d .to) (d .size)) (meets (c .to) (c .size) (d .source) (d .size)))
+    (either-right (meets (c .source) (c .size) (d .to) (d .size)) (meets (c .to) (c .size) (d .source) (d .size)) e)
+
 pub not-apart-to :
     (c : Copy) (ys : List Copy) (b : ℕ) → inside (c .to) (c .size) b ≡ true → 1 ≤ markOf ys b → some (crosses c) ys ≡ true
-unfolding crosses
 not-apart-to c ys b e l =
     mark-some 1 b ys (crosses c)
     (λ d h.
     ⊎-elim
-    (λ (x : inside (d .to) (d .size) b ≡ true). either-left _ _ (byte-meets (c .to) (c .size) (d .to) (d .size) b e x))
+    (λ (x : inside (d .to) (d .size) b ≡ true). to-to c d (byte-meets (c .to) (c .size) (d .to) (d .size) b e x))
     (λ (x : inside (d .source) (d .size) b ≡ true).
-    either-right _ _ (either-right _ _ (byte-meets (c .to) (c .size) (d .source) (d .size) b e x)))
+    to-source c d (byte-meets (c .to) (c .size) (d .source) (d .size) b e x))
     (touch-one d b h))
     (omega arith) l
 
 pub not-apart-source :
     (c : Copy) (ys : List Copy) (b : ℕ) → inside (c .source) (c .size) b ≡ true → 2 ≤ markOf ys b → some (crosses c) ys ≡ true
-unfolding crosses
 not-apart-source c ys b e l =
     mark-some 2 b ys (crosses c)
-    (λ d h. either-right _ _ (either-left _ _ (byte-meets (c .source) (c .size) (d .to) (d .size) b e (touch-two d b h))))
+    (λ d h. source-to c d (byte-meets (c .source) (c .size) (d .to) (d .size) b e (touch-two d b h)))
     (omega arith) l
 
 -- ---- it holds of each
@@ -216,9 +231,9 @@ apart-within low high high′ earlier (c ∷ cs) l p =
 
 -- ---- a step of the walk
 
-length-one : (xs : List Copy) {c : Copy} → length (xs ++ (c ∷ [])) ≡ length xs + 1
-length-one [] = refl
-length-one (x ∷ xs) = let z = length-one xs in omega arith
+length-one : (xs : List Copy) (c : Copy) → length (xs ++ (c ∷ [])) ≡ length xs + 1
+length-one [] c = refl
+length-one (x ∷ xs) c = let z = length-one xs c in omega arith
 
 mark-append : (xs : List Copy) (c : Copy) (b : ℕ) → markOf (xs ++ (c ∷ [])) b ≡ max (markOf xs b) (touch c b)
 unfolding markOf
@@ -264,13 +279,13 @@ module _ (size w : ℕ) (ys : List Copy) (seen next : ℕ) (marks : List ℕ) (c
         count = long ∙ rw (clear .count);
         apart = apart-one w (w + window) ys c (clear .apart) (λ b lo hi. at b lo hi);
         behind = each-append (Behind w next′) ys (c ∷ []) (each-weaker (Behind w next) (Behind w next′) (λ d g b i l. let z = g b i l in omega (arith, less)) ys (clear .behind)) (after, Prim.tt {0});
-        ahead = λ l. let z = clear .ahead l in omega (arith, more);
+        ahead = λ l. more (clear .ahead l);
         in-arena = each-append (InArena size) ys (c ∷ []) (clear .in-arena) (inner, Prim.tt {0});
       },
       marked-now marks′ ap set own)
     where
       long : length (ys ++ (c ∷ [])) ≡ length ys + 1
-      long = length-one ys
+      long = length-one ys c
 
       at : (b : ℕ) → w ≤ b → b < w + window → ApartAt ys c b
       at b lo hi =
@@ -308,21 +323,18 @@ Sized c = c .size ≡ 0 → ⊥
 none-crossed :
     (size : ℕ) (c : Copy) (ys : List Copy) → Sized c → InArena size c → Each Sized ys → ((b : ℕ) → b < size → ApartAt ys c b)
     → some (crosses c) ys ≡ false
-unfolding some Each
+unfolding some Each markOf crosses
 none-crossed size c [] s i e p = refl
 none-crossed size c (d ∷ ds) s i e p =
     rw (none-crossed size c ds s i (e .1) (λ b l. rest b l), one) refl
   where
     rest : (b : ℕ) → b < size → ApartAt ds c b
-    unfolding markOf
     rest b l = ((λ h. let z = p b l .0 h in omega arith), (λ h. let z = p b l .1 h in omega arith))
 
     now : (b : ℕ) → b < size → (inside (c .to) (c .size) b ≡ true → touch d b < 1) × (inside (c .source) (c .size) b ≡ true → touch d b < 2)
-    unfolding markOf
     now b l = ((λ h. let z = p b l .0 h in omega arith), (λ h. let z = p b l .1 h in omega arith))
 
     one : crosses c d ≡ false
-    unfolding crosses
     one = go (decide (crosses c d))
       where
         positive : (x : Copy) → Sized x → 0 < x .size
@@ -333,7 +345,6 @@ none-crossed size c (d ∷ ds) s i e p =
             pos (suc n) g = omega arith
 
         go : (crosses c d ≡ true) ⊎ (crosses c d ≡ false) → crosses c d ≡ false
-        unfolding crosses
         go (inr f) = f
         go (inl t) =
             ⊎-elim

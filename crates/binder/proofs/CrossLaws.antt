@@ -36,11 +36,10 @@ quiet-split earlier (x ∷ xs) ys q =
     ((q .0, s .0), subst (λ (l : List Copy). Quiet l ys) (append-assoc earlier (x ∷ []) xs) (s .1))
 
 calm : (earlier : List Copy) (c : Copy) → Quiet earlier (listed c) → crossRefusal earlier (listed c) ≡ 0
-unfolding listed crossesOne
+unfolding listed crossesOne Quiet some
 calm earlier c = go (eqb (c .size) 0)
   where
-    go : (t : Bool) → Quiet earlier (pick t [] (c ∷ [])) → pick (some (λ c. some (crosses c) earlier) (pick t [] (c ∷ []))) 28 0 ≡ 0
-    unfolding Quiet some
+    go : (t : Bool) → Quiet earlier (pick t [] (c ∷ [])) → _≡_ {A = ℕ} (pick (some (λ c. some (crosses c) earlier) (pick t [] (c ∷ []))) 28 0) 0
     go true q = refl
     go false q = rw (q .0)
 
@@ -92,6 +91,30 @@ module _ (S : Objs) (k : ℕ) (image : List ℕ) (r : Record) where
         let a = first-passed (verdict (entryRefusal S k image r e) k) _ v in
         rw (agree e (verdict-passed (entryRefusal S k image r e) k (a .0)), entries-copies es (a .1))
 
+    plain-append :
+        (e : Rela) (xs : List Rela)
+        → plainEntries S k image r (xs ++ (e ∷ [])) ≡ first (plainEntries S k image r xs) (plainEntries S k image r (e ∷ []))
+    unfolding plainEntries
+    plain-append e [] = refl
+    plain-append e (x ∷ xs) =
+        ap (first (verdict (entryRefusal S k image r x) k)) (plain-append e xs)
+        ∙ sym (first-assoc (verdict (entryRefusal S k image r x) k) (plainEntries S k image r xs) (plainEntries S k image r (e ∷ [])))
+
+    refused-28 : (v : Verdict) → first (verdict 28 k) v ≡ Refused 28 k
+    unfolding verdict
+    refused-28 v = refl
+
+    last-crossed :
+        (earlier : List Copy) (e : Rela) (post : List Rela) → (g e .size ≡ 0 → ⊥) → some (crosses (g e)) earlier ≡ true
+        → entriesVerdict S k image r earlier (e ∷ post) ≡ first (plainEntries S k image r (e ∷ [])) (Refused 28 k)
+    unfolding entriesVerdict plainEntries
+    last-crossed earlier e post s x =
+        first-same (verdict (entryRefusal S k image r e) k) _ _
+        (λ v.
+        rw (agree e (verdict-passed (entryRefusal S k image r e) k v), loud earlier (g e) s x)
+        (refused-28 (entriesVerdict S k image r (earlier ++ listed (g e)) post)))
+        ∙ sym (first-assoc (verdict (entryRefusal S k image r e) k) Passed (Refused 28 k))
+
     -- an entry whose copy crosses one
     pub entry-crossed :
         (earlier : List Copy) (pre : List Rela) (e : Rela) (post : List Rela) → Quiet earlier (gather g pre) → (g e .size ≡ 0 → ⊥)
@@ -100,28 +123,9 @@ module _ (S : Objs) (k : ℕ) (image : List ℕ) (r : Record) where
     entry-crossed earlier pre e post q s x =
         entries-append earlier pre (e ∷ post)
         ∙ (ap (λ (v : Verdict). first v (entriesVerdict S k image r (earlier ++ entriesCopies S k image r pre) (e ∷ post))) (entries-quiet earlier pre q)
-        ∙ (first-same (plainEntries S k image r pre) _ _ (λ v. rw (entries-copies pre v) last)
+        ∙ (first-same (plainEntries S k image r pre) _ _ (λ v. rw (entries-copies pre v) (last-crossed (earlier ++ gather g pre) e post s x))
         ∙ (sym (first-assoc (plainEntries S k image r pre) (plainEntries S k image r (e ∷ [])) (Refused 28 k))
-        ∙ ap (λ (v : Verdict). first v (Refused 28 k)) (sym (plain-append pre)))))
-      where
-        plain-append : (xs : List Rela) → plainEntries S k image r (xs ++ (e ∷ [])) ≡ first (plainEntries S k image r xs) (plainEntries S k image r (e ∷ []))
-        unfolding plainEntries
-        plain-append [] = refl
-        plain-append (x ∷ xs) =
-            ap (first (verdict (entryRefusal S k image r x) k)) (plain-append xs)
-            ∙ sym (first-assoc (verdict (entryRefusal S k image r x) k) (plainEntries S k image r xs) (plainEntries S k image r (e ∷ [])))
-
-        last :
-            entriesVerdict S k image r (earlier ++ gather g pre) (e ∷ post) ≡ first (plainEntries S k image r (e ∷ [])) (Refused 28 k)
-        unfolding entriesVerdict plainEntries
-        last =
-            first-same (verdict (entryRefusal S k image r e) k) _ _
-            (λ v. rw (agree e (verdict-passed (entryRefusal S k image r e) k v), loud (earlier ++ gather g pre) (g e) s x) met)
-            ∙ sym (first-assoc (verdict (entryRefusal S k image r e) k) Passed (Refused 28 k))
-          where
-            met : first (verdict 28 k) (entriesVerdict S k image r ((earlier ++ gather g pre) ++ listed (g e)) post) ≡ Refused 28 k
-            unfolding verdict
-            met = refl
+        ∙ ap (λ (v : Verdict). first v (Refused 28 k)) (sym (plain-append e pre)))))
 
 -- ---- the objects of an order
 
@@ -200,6 +204,27 @@ module _ (S : Objs) (files : List File) (g : ℕ → Rela → Copy) where
       first (plainOrder S files front)
       (first (wordsVerdict k (record-of k) (namedWords (image k) (record-of k))) (plainEntries S k (image k) (record-of k) es))
 
+  -- nothing follows 28
+  tail-28 : (k : ℕ) (u v z : Verdict) → first (first u (first v (Refused 28 k))) z ≡ first (first u v) (Refused 28 k)
+  tail-28 k Passed Passed z = refl
+  tail-28 k Passed (Refused n j) z = refl
+  tail-28 k (Refused n j) v z = refl
+
+  object-crossed :
+      (earlier : List Copy) (k : ℕ) (back : List ℕ) (pre : List Rela) (e : Rela) (post : List Rela) → relas k ≡ pre ++ (e ∷ post)
+      → AgreesAt k → Quiet earlier (gather (g k) pre) → (g k e .size ≡ 0 → ⊥) → some (crosses (g k e)) (earlier ++ gather (g k) pre) ≡ true
+      → orderVerdict S files earlier (k ∷ back)
+      ≡ first (first (wordsVerdict k (record-of k) (namedWords (image k) (record-of k))) (plainEntries S k (image k) (record-of k) (pre ++ (e ∷ [])))) (Refused 28 k)
+  unfolding orderVerdict objectVerdict
+  object-crossed earlier k back pre e post is b q s x =
+      let m : entriesVerdict S k (image k) (record-of k) earlier (relas k)
+      ≡ first (plainEntries S k (image k) (record-of k) (pre ++ (e ∷ []))) (Refused 28 k) =
+      ap (entriesVerdict S k (image k) (record-of k) earlier) is
+      ∙ entry-crossed S k (image k) (record-of k) (g k) b earlier pre e post q s x in
+      let w : Verdict = wordsVerdict k (record-of k) (namedWords (image k) (record-of k)) in
+      let rest : Verdict = orderVerdict S files (earlier ++ objectCopies S k (file k)) back in
+      ap (λ (v : Verdict). first (first w v) rest) m ∙ tail-28 k w (plainEntries S k (image k) (record-of k) (pre ++ (e ∷ []))) rest
+
   pub order-crossed :
       (front : List ℕ) (k : ℕ) (back : List ℕ) (pre : List Rela) (e : Rela) (post : List Rela) → relas k ≡ pre ++ (e ∷ post)
       → AgreesIn front → AgreesAt k → Quiet [] (gathered front ++ gather (g k) pre) → (g k e .size ≡ 0 → ⊥)
@@ -209,26 +234,5 @@ module _ (S : Objs) (files : List File) (g : ℕ → Rela → Copy) where
       let t = quiet-split [] (gathered front) (gather (g k) pre) q in
       order-append [] front (k ∷ back)
       ∙ (ap (λ (v : Verdict). first v (orderVerdict S files (orderCopies S files front) (k ∷ back))) (order-quiet [] front a (t .0))
-      ∙ (first-same (plainOrder S files front) _ _ (λ v. rw (order-copies front a v) (here (t .1)))
+      ∙ (first-same (plainOrder S files front) _ _ (λ v. rw (order-copies front a v) (object-crossed (gathered front) k back pre e post is b (t .1) s x))
       ∙ sym (first-assoc (plainOrder S files front) _ (Refused 28 k))))
-    where
-      w : Verdict
-      w = wordsVerdict k (record-of k) (namedWords (image k) (record-of k))
-
-      here :
-          Quiet (gathered front) (gather (g k) pre)
-          → orderVerdict S files (gathered front) (k ∷ back)
-          ≡ first (first w (plainEntries S k (image k) (record-of k) (pre ++ (e ∷ [])))) (Refused 28 k)
-      unfolding orderVerdict objectVerdict
-      here t =
-          let m : entriesVerdict S k (image k) (record-of k) (gathered front) (relas k)
-          ≡ first (plainEntries S k (image k) (record-of k) (pre ++ (e ∷ []))) (Refused 28 k) =
-          ap (entriesVerdict S k (image k) (record-of k) (gathered front)) is
-          ∙ entry-crossed S k (image k) (record-of k) (g k) b (gathered front) pre e post t s x in
-          rw m (tail w (plainEntries S k (image k) (record-of k) (pre ++ (e ∷ []))) (orderVerdict S files (gathered front ++ objectCopies S k (file k)) back))
-
-      -- nothing follows 28
-      tail : (u v z : Verdict) → first (first u (first v (Refused 28 k))) z ≡ first (first u v) (Refused 28 k)
-      tail Passed Passed z = refl
-      tail Passed (Refused n j) z = refl
-      tail (Refused n j) v z = refl

@@ -37,3 +37,5 @@ pub mod ApartLaws
 pub mod CrossLaws
 pub mod WalkLaws
 pub mod SeenIs
+pub mod CrossingIs
+pub mod CrossCode

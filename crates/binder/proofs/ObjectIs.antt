@@ -156,6 +156,12 @@ module _ (setting : Setting) (size : ℕ) (table : List ℕ) (h pr : File) (fs :
 
     -- ---- up to an entry
 
+    -- of the first `m` entries
+    abbrev firstEntries : ℕ → Verdict
+    firstEntries m =
+        first (plainEntries S k image r (relasFrom image (r .rela) 0 (min (r .relas) m)))
+        (plainEntries S k image r (relasFrom image (r .plt) 0 (m - min (r .relas) m)))
+
     pub until-ran :
         (m : ℕ) → m - min (r .relas) m ≤ r .plts → PlacedAt setting size table h pr fs a k
         → Ran size n
@@ -170,23 +176,18 @@ module _ (setting : Setting) (size : ℕ) (table : List ℕ) (h pr : File) (fs :
         let cut : cutTo32 (r .relas) ≡ r .relas = omega (arith, few .0) in
         rw (x .1) (go cut (runRelrs t r a) refl)
       where
-        abbrev vs : Verdict
-        vs =
-            first (plainEntries S k image r (relasFrom image (r .rela) 0 (min (r .relas) m)))
-            (plainEntries S k image r (relasFrom image (r .plt) 0 (m - min (r .relas) m)))
-
         go :
             cutTo32 (r .relas) ≡ r .relas → (y : Summed) → y ≡ runRelrs t r a
-            → Ran size n (first (wordsVerdict k r (namedWords image r)) vs) (λ _ _ _. Unit {0}) (untilTables table t r m p report y)
+            → Ran size n (first (wordsVerdict k r (namedWords image r)) (firstEntries m)) (λ _ _ _. Unit {0}) (untilTables table t r m p report y)
         go cut (summed z b) e =
             let w = relr-is setting size table h pr fs L k lo hi a s z b e in
-            subst (λ (v : Verdict). Ran size n (first v vs) (λ _ _ _. Unit {0}) (untilTables table t r m p report (summed z b))) (w .verdict-is)
+            subst (λ (v : Verdict). Ran size n (first v (firstEntries m)) (λ _ _ _. Unit {0}) (untilTables table t r m p report (summed z b))) (w .verdict-is)
             (⊎-elim
             (λ (c : eqb z 0 ≡ true).
             rw (c, verdict-none z k (eqb-true z 0 c))
             (subst
             (λ (i : ℕ).
-            Ran size n vs (λ _ _ _. Unit {0})
+            Ran size n (firstEntries m) (λ _ _ _. Unit {0})
             (unlessRefused (runTable table t r (r .plt) (cutTo32 (r .relas)) (m - min i m) 0) (runTable table t r (r .rela) 0 (min i m) 0 (left (keeps 0 0 p) b report))))
             (sym cut)
             (tables-until setting size table h pr fs L k lo hi n a (min (r .relas) m) (m - min (r .relas) m) (omega arith) ly ws u
@@ -198,7 +199,7 @@ module _ (setting : Setting) (size : ℕ) (table : List ℕ) (h pr : File) (fs :
               kept = none-kept setting size table h pr fs L k lo hi n a (keeps 0 0 p) refl;
             })))
             (λ (c : eqb z 0 ≡ false).
-            rw (c, first-met z k vs (eqb-false z 0 c))
+            rw (c, first-met z k (firstEntries m) (eqb-false z 0 c))
             (ran-refused size n z k (λ _ _ _. Unit {0}) (refusedBy t z p) b report (eqb-false z 0 c) refl refl (w .length-is)
             (going-length ws u n p report g)))
             (decide (eqb z 0)))

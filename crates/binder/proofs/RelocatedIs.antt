@@ -83,6 +83,15 @@ turns-of n order two o =
     in-range j (inl t) l = omega (arith, eqb-true 1 j t)
     in-range j (inr t) l = let x = o .only j (omega (arith, rw t at l)) in omega arith
 
+times-at : (ks : List ℕ) (i : ℕ) → i < length ks → 0 < times (getD ks i 0) ks
+times-at [] i l = absurd (omega arith)
+times-at (k ∷ ks) zero l = omega (arith, head-in k ks)
+times-at (k ∷ ks) (suc i) l = let z = times-at ks i (omega arith) in omega (arith, times-tail (getD ks i 0) k ks)
+
+-- the numbers of an order
+pub in-range : (n : ℕ) (order : List ℕ) → 2 ≤ n → OnceEach n order → (i : ℕ) → i < length order → (1 ≤ getD order i 0) × (getD order i 0 < n)
+in-range n order two once i l = turns-of n order two once .among (getD order i 0) (times-at order i l)
+
 -- RELA and PLT as one list, cut
 entries-length : (i : List ℕ) (r : Record) → length (relasOf i r) ≡ r .relas + r .plts
 unfolding relasOf
@@ -100,7 +109,7 @@ take-relas i at j (suc n) (suc m) l = ap (λ (es : List Rela). relaAt i at j ∷
 take-entries :
     (i : List ℕ) (r : Record) (m : ℕ) → m ≤ r .relas + r .plts
     → take m (relasOf i r) ≡ relasFrom i (r .rela) 0 (min (r .relas) m) ++ relasFrom i (r .plt) 0 (m - min (r .relas) m)
-unfolding relasOf
+unfolding relasOf relasFrom
 take-entries i r m l = go (decLe m (r .relas))
   where
     xs : List Rela
@@ -110,7 +119,6 @@ take-entries i r m l = go (decLe m (r .relas))
     ys = relasFrom i (r .plt) 0 (r .plts)
 
     go : Dec (m ≤ r .relas) → take m (xs ++ ys) ≡ relasFrom i (r .rela) 0 (min (r .relas) m) ++ relasFrom i (r .plt) 0 (m - min (r .relas) m)
-    unfolding relasFrom
     go (yes h) =
         let a : min (r .relas) m ≡ m = omega arith in
         let b : m - m ≡ 0 = omega arith in

@@ -3,12 +3,12 @@ use mathlib.Core.Path.{_≡_, refl, sym, ap, subst, _∙_}
 use mathlib.Core.Bool.{Bool, true, false, not}
 use mathlib.Core.Logic.{_⊎_, inl, inr, ⊎-elim}
 use mathlib.Core.List.{List, [], _∷_, _++_, append-nil, append-assoc}
-use Prim.Native.Nat.{ℕ, zero, suc, _+_, _-_, _≤_, _<_, min, max}
+use Prim.Native.Nat.{ℕ, zero, suc, _+_, _-_, _^_, _≤_, _<_, min, max}
 use native.Mathlib.Omega.{arith}
 use borrow.Author.Tests.{eq-eqb, ne-eqb, leb-true, leb-false}
 use lib.Dec.{eqb, leb}
 use lib.ListN.{length, getD, take, drop, replicate, take-append-drop}
-use lib.Seq.{take-suc, take-all, split-at}
+use lib.Seq.{take-suc, take-all, split-at, getD-take}
 use Rattle.words.specs.Choice.{pick, both, either, some}
 use Rattle.words.specs.Memory.{inside}
 use Rattle.object.specs.RelocationTypes.{Row, ignored, passedOver, turnedAway, copies, writes}
@@ -18,14 +18,15 @@ use Rattle.object.specs.declared.symbol.Symbol.{Symbol}
 use Rattle.object.specs.declared.relocate.Rela.{Rela}
 use Rattle.object.specs.declared.entry_symbol.CheckedSymbol.{CheckedSymbol}
 use Rattle.object.specs.declared.entry_symbol.CheckedSymbol.the-variants.{Refused, Checked}
-use Rattle.sheet.specs.Sheet.{Input}
+use Rattle.sheet.specs.Sheet.{Input, noInput}
 use Rattle.scope.specs.Steps.Links.{linkAt}
 use Rattle.scope.specs.declared.links.Link.{Link}
 use Rattle.scope.specs.declared.scope.Resolved.{Resolved}
 use Rattle.scope.specs.declared.scope.Resolved.the-variants.{Absent, Found}
 use Rattle.binder.specs.Copies.{crosses}
-use Rattle.binder.specs.Steps.Relocating.{imageIn, copyFits, soughtForCopy}
-use Rattle.binder.specs.Steps.Crossing.{noCopy, copyAt, copyTo, copyChecked, copySeen, listed, gather, noRela, window, markOf, Marked, ApartIn, CopyMarked, AllApart, Each, InArena, Behind, Clear, Walked, WalksOn, seenAt, entriesAt, copiesAmong, copiesBefore, CrossesAt, copiesMet, Passed, FirstCrossing, earlierOf}
+use Rattle.binder.specs.Steps.Relocating.{imageIn, copyFits, soughtForCopy, turnOf, againRefusal, againRecord}
+use Rattle.binder.proofs.CrossCode.{take-long}
+use Rattle.binder.specs.Steps.Crossing.{noCopy, copyAt, copyTo, copyChecked, copySeen, seenOf, entriesOf, listed, gather, noRela, Small, Readable, window, markOf, Marked, ApartIn, CopyMarked, AllApart, Each, InArena, Behind, Clear, Walked, WalksOn, seenAt, entriesAt, copiesAmong, copiesBefore, CrossesAt, copiesMet, Passed, FirstCrossing, earlierOf}
 use Rattle.binder.specs.declared.turn.Turn.{Turn}
 use Rattle.binder.specs.declared.crossing.Copy.{Copy}
 use Rattle.binder.specs.declared.crossing.Scan.{Scan}
@@ -41,13 +42,12 @@ none-fits : (size : ℕ) → Fits size noCopy
 none-fits size h = absurd (h refl)
 
 at-fits : (size : ℕ) (t : Turn) (to : ℕ) (s : Link) (d : Definition) (n : ℕ) → Fits size (copyAt size t to s d n)
-unfolding copyAt
+unfolding copyAt copyFits
 at-fits size t to s d n = go (copyFits size t to s d n) refl
   where
     go :
         (b : Bool) → copyFits size t to s d n ≡ b
         → Fits size (pick b (record { to = t .offset + to; source = s .offset + d .value; size = n }) noCopy)
-    unfolding copyFits
     go false e h = absurd (h refl)
     go true e h =
         let a = both-true (not (d .absolute)) _ e in
@@ -83,6 +83,17 @@ seen-fits table a t r e turnedAway = none-fits (length a)
 seen-fits table a t r e (writes search f) = none-fits (length a)
 seen-fits table a t r e copies = checked-fits table a t r e (checkedSymbol (imageIn a t) r (e .symbol))
 
+pub small-of : (size : ℕ) (c : Copy) → Fits size c → (c .size ≡ 0 → ⊥) → size < 2 ^ 64 → Small c
+small-of size c f s l = let g = f s in (omega (arith, g .0 .0), omega (arith, g .0 .1))
+
+pub next-more :
+    (w next : ℕ) (c : Copy) {next′ : ℕ} → next′ ≡ pick (leb (c .to + c .size - w) window) next (min next (max (c .to) (w + window))) → w < next → w < next′
+next-more w next c e h = subst (λ (n : ℕ). w < n) (sym e) (go (leb (c .to + c .size - w) window))
+  where
+    go : (t : Bool) → w < pick t next (min next (max (c .to) (w + window)))
+    go true = h
+    go false = omega arith
+
 -- ---- entries, one after another
 
 pub gather-append : (f : Rela → Copy) (xs ys : List Rela) → gather f (xs ++ ys) ≡ gather f xs ++ gather f ys
@@ -103,12 +114,11 @@ gather-one f es i l =
     ∙ ap (λ (l : List Copy). gather f (take i es) ++ l) (append-nil (listed (f (getD es i noRela))))))
 
 pub gather-sized : (f : Rela → Copy) (es : List Rela) → Each Sized (gather f es)
-unfolding gather Each
+unfolding gather Each listed
 gather-sized f [] = Prim.tt {0}
 gather-sized f (e ∷ es) = go (eqb (f e .size) 0) refl (gather-sized f es)
   where
     go : (b : Bool) → eqb (f e .size) 0 ≡ b → Each Sized (gather f es) → Each Sized (listed (f e) ++ gather f es)
-    unfolding listed Each
     go true h s = rw h s
     go false h s = rw h ((λ z. bool-clash (sym (eq-eqb (f e .size) 0 z) ∙ h)), s)
 
@@ -173,9 +183,23 @@ module _ (size w : ℕ) (s : Scan) (marks₀ : List ℕ) (f : Rela → Copy) (es
         met = λ e. bool-clash (sym e);
       }
 
+-- with the record that is read again
+pub walk-at :
+    (size w : ℕ) (s : Scan) (marks marks′ : List ℕ) (r : Scan) (table a file : List ℕ) (k : ℕ) {t : Turn} {h : Record} → t ≡ turnOf table k
+    → (againRefusal (imageIn a t) file ≡ 0 → h ≡ againRecord (imageIn a t) file)
+    → WalksOn size w s marks (seenOf table a t h) (entriesOf (imageIn a t) h) marks′ r → againRefusal (imageIn a (turnOf table k)) file ≡ 0
+    → WalksOn size w s marks (seenOf table a (turnOf table k) (againRecord (imageIn a (turnOf table k)) file))
+    (entriesOf (imageIn a (turnOf table k)) (againRecord (imageIn a (turnOf table k)) file)) marks′ r
+walk-at size w s marks marks′ r table a file k e f walk z =
+    subst
+    (λ (t : Turn).
+    WalksOn size w s marks (seenOf table a t (againRecord (imageIn a t) file)) (entriesOf (imageIn a t) (againRecord (imageIn a t) file)) marks′ r)
+    e
+    (subst (λ (h : Record). WalksOn size w s marks (seenOf table a _ h) (entriesOf (imageIn a _) h) marks′ r) (f (subst (λ (t : Turn). againRefusal (imageIn a t) file ≡ 0) (sym e) z)) walk)
+
 -- ---- objects, one after another
 
-zeros : (n x : ℕ) → getD (replicate n 0) x 0 ≡ 0
+zeros : (n x : ℕ) → getD {A = ℕ} (replicate n 0) x 0 ≡ 0
 zeros zero x = refl
 zeros (suc n) zero = refl
 zeros (suc n) (suc x) = zeros n x
@@ -211,7 +235,7 @@ module _ (table : List ℕ) (os : List Input) (a : List ℕ) (ks : List ℕ) whe
         (record { count = sym z; apart = Prim.tt {0}; behind = Prim.tt {0}; ahead = λ l. omega arith; in-arena = Prim.tt {0} },
         record { long = length-zeros window; is = λ x l. zeros window x })
       where
-        length-zeros : (n : ℕ) → length (replicate n 0) ≡ n
+        length-zeros : (n : ℕ) → length {A = ℕ} (replicate n 0) ≡ n
         length-zeros zero = refl
         length-zeros (suc n) = ap suc (length-zeros n)
 
@@ -267,7 +291,7 @@ module _ (table : List ℕ) (os : List Input) (a : List ℕ) (ks : List ℕ) whe
       let h : x ≡ y = cc in
       let t : xs ++ xr ≡ ys ++ yr = cc in
       let r = longer-of xs xr ys yr t (omega arith) in
-      (r .0, rw (h, r .1))
+      (r .0, ap (λ (l : List Copy). y ∷ l) (r .1) ∙ ap (λ (c : Copy). c ∷ (xs ++ r .0)) (sym h))
 
   -- before the window from `w` on
   pub record Searching (w : ℕ) (m : Crossing) : Type 0 where
@@ -346,3 +370,17 @@ module _ (table : List ℕ) (os : List Input) (a : List ℕ) (ks : List ℕ) whe
 
   pub search-ends : (w : ℕ) (m : Crossing) → Searching w m → length a ≤ w → FirstCrossing table os a ks m
   search-ends w m s l = record { apart = apart-within 0 w (length a) [] _ l (s .apart); in-arena = s .in-arena; met = s .met }
+
+-- the walk over the object at the place `i` of an order that the code has as a list
+pub walk-here :
+    (table : List ℕ) (os : List Input) (a list : List ℕ) (n i : ℕ) → n ≤ length list → i < n → (w : ℕ) (s : Scan) (marks marks′ : List ℕ) (r : Scan) {file : List ℕ}
+    → file ≡ getD os (getD list i 0) noInput .file
+    → (againRefusal (imageIn a (turnOf table (getD list i 0))) file ≡ 0
+    → WalksOn (length a) w s marks (seenOf table a (turnOf table (getD list i 0)) (againRecord (imageIn a (turnOf table (getD list i 0))) file))
+    (entriesOf (imageIn a (turnOf table (getD list i 0))) (againRecord (imageIn a (turnOf table (getD list i 0))) file)) marks′ r)
+    → Readable table os a (take n list)
+    → WalksOn (length a) w s marks (seenAt table os a (getD (take n list) i 0)) (entriesAt table os a (getD (take n list) i 0)) marks′ r
+walk-here table os a list n i long l w s marks marks′ r f walk read =
+    let e : getD (take n list) i 0 ≡ getD list i 0 = getD-take n list i 0 l in
+    let z = rw e at (read i (omega (arith, take-long list n long))) in
+    rw (e, ← f) (walk (rw f z))

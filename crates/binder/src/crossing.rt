@@ -7,11 +7,13 @@ ghost use lib.Dec.{leb};
 ghost use lib.ListN.{length, getD, take};
 ghost use Rattle.words.specs.Choice.{pick};
 ghost use Rattle.object.specs.Entries.{relasFrom};
+ghost use Rattle.object.specs.RelocationTypes.{rowOf};
+ghost use Rattle.object.specs.Steps.Actions.{rowBy};
 ghost use Rattle.object.specs.Record.{heldBy};
 ghost use Rattle.sheet.specs.Steps.Parts.{inputsIn};
 ghost use Rattle.scope.specs.Steps.Links.{Filtered};
 ghost use Rattle.binder.specs.Steps.Relocating.{imageIn, againRefusal, againRecord, turnOf};
-ghost use Rattle.binder.specs.Steps.Crossing.{noCopy, seenOf, entriesOf, noRela, window, MarksBelow, MarksSet, ApartIn, CopyMarked, Small, WalksOn, Readable, Passed, FirstCrossing, earlierOf, NoCopies, NoCopiesIn, CrossingIn};
+ghost use Rattle.binder.specs.Steps.Crossing.{copiesRow, noCopy, seenOf, entriesOf, noRela, window, MarksBelow, MarksSet, ApartIn, CopyMarked, Small, WalksOn, Readable, Passed, FirstCrossing, earlierOf, NoCopies, NoCopiesIn, CrossingIn};
 use crate::order::Order;
 use crate::turn::Turn;
 use object::dynamic_fields::ObjectData;
@@ -128,15 +130,34 @@ fn entry_at(arena: &[u8], t: Turn, o: ObjectData, i: usize) -> Rela
     crate::relocate::rela_in(arena, t, o.plt, (i - relas as usize) as u32)
 }
 
+fn copies_by(a: Action) -> bool
+    ensures { λ r. ⌜ r ≡ copiesRow (rowBy a) ⌝ }
+{
+    match a {
+        Action::Ignored => false,
+        Action::Passed => false,
+        Action::Irelative => false,
+        Action::Relative => false,
+        Action::Symbolic(f) => false,
+        Action::Copy => true,
+    }
+}
+
+// Whether entries of a type copy.
+fn is_copy(rtype: u32) -> bool
+    ensures { λ r. ⌜ r ≡ copiesRow (rowOf rtype) ⌝ }
+{
+    copies_by(object::relocate::action_of(rtype))
+}
+
 // The copy that an entry makes; none, where refusal 14, 15 or 18 meets the entry.
 fn copy_of(arena: &[u8], table: &[u64], t: Turn, o: ObjectData, e: Rela) -> Copy
     requires { ⌜ Filtered (now table) ⌝ }
     ensures { λ r. ⌜ r ≡ seenOf (now (table .entry)) (now (arena .entry)) t (heldBy o) e ⌝ }
 {
-    let a = object::relocate::action_of(e.rtype);
-    let Action::Copy = a else {
+    if !is_copy(e.rtype) {
         return no_copy();
-    };
+    }
     let c = crate::relocate::symbol_of(arena, t, o, e.symbol);
     let CheckedSymbol::Checked(y) = c else {
         return no_copy();
@@ -193,7 +214,7 @@ fn scan_object(
     s: Scan,
 ) -> Scan
     requires { ⌜ Filtered (now table) × (length (now marks) ≡ window) × (s .seen ≤ 2 ^ 62) ⌝ }
-    ensures { λ r. ⌜ (r .seen ≤ s .seen + 2 ^ 33) × WalksOn (length (now (arena .entry))) w s (now (marks .entry)) (seenOf (now (table .entry)) (now (arena .entry)) t (heldBy o)) (entriesOf (imageIn (now (arena .entry)) t) (heldBy o)) (now (marks .exit)) r ⌝ }
+    ensures { λ r. ⌜ (r .seen ≤ s .seen + 2 ^ 33) × (w < s .next → w < r .next) × WalksOn (length (now (arena .entry))) w s (now (marks .entry)) (seenOf (now (table .entry)) (now (arena .entry)) t (heldBy o)) (entriesOf (imageIn (now (arena .entry)) t) (heldBy o)) (now (marks .exit)) r ⌝ }
 {
     let n = crate::relr::cut_to_32(o.relas) as usize + crate::relr::cut_to_32(o.plts) as usize;
     let mut seen = s.seen;
@@ -236,7 +257,7 @@ fn scan_at(
     s: Scan,
 ) -> Scan
     requires { ⌜ Filtered (now table) × (length (now marks) ≡ window) × (s .seen ≤ 2 ^ 62) ⌝ }
-    ensures { λ r. ⌜ (r .seen ≤ s .seen + 2 ^ 33) × (againRefusal (imageIn (now (arena .entry)) (turnOf (now (table .entry)) k)) (now (file .entry)) ≡ 0 → WalksOn (length (now (arena .entry))) w s (now (marks .entry)) (seenOf (now (table .entry)) (now (arena .entry)) (turnOf (now (table .entry)) k) (againRecord (imageIn (now (arena .entry)) (turnOf (now (table .entry)) k)) (now (file .entry)))) (entriesOf (imageIn (now (arena .entry)) (turnOf (now (table .entry)) k)) (againRecord (imageIn (now (arena .entry)) (turnOf (now (table .entry)) k)) (now (file .entry)))) (now (marks .exit)) r) ⌝ }
+    ensures { λ r. ⌜ (r .seen ≤ s .seen + 2 ^ 33) × (w < s .next → w < r .next) × (againRefusal (imageIn (now (arena .entry)) (turnOf (now (table .entry)) k)) (now (file .entry)) ≡ 0 → WalksOn (length (now (arena .entry))) w s (now (marks .entry)) (seenOf (now (table .entry)) (now (arena .entry)) (turnOf (now (table .entry)) k) (againRecord (imageIn (now (arena .entry)) (turnOf (now (table .entry)) k)) (now (file .entry)))) (entriesOf (imageIn (now (arena .entry)) (turnOf (now (table .entry)) k)) (againRecord (imageIn (now (arena .entry)) (turnOf (now (table .entry)) k)) (now (file .entry)))) (now (marks .exit)) r) ⌝ }
 {
     let t = crate::turn::turn_of(table, k);
     let o = record_again(arena, t, file);
@@ -266,7 +287,7 @@ fn scan_order(
     w: usize,
 ) -> Crossing
     requires { ⌜ (order .count ≤ 64) × Filtered (now table) × (length (now marks) ≡ window) ⌝ }
-    ensures { λ r. ⌜ (Readable (now (table .entry)) (inputsIn (now (bytes .entry)) parts) (now (arena .entry)) (take (order .count) (order .list)) → Passed (now (table .entry)) (inputsIn (now (bytes .entry)) parts) (now (arena .entry)) (take (order .count) (order .list)) w r) ⌝ }
+    ensures { λ r. ⌜ (w < length (now (arena .entry)) → w < r .next) × (Readable (now (table .entry)) (inputsIn (now (bytes .entry)) parts) (now (arena .entry)) (take (order .count) (order .list)) → Passed (now (table .entry)) (inputsIn (now (bytes .entry)) parts) (now (arena .entry)) (take (order .count) (order .list)) w r) ⌝ }
 {
     let list = order.list;
     let n = order.count;
@@ -339,7 +360,7 @@ fn first_crossing(
 
 // ---- sets without COPY entries
 
-// Whether one of the `n` entries of the table at `at` has type 5, the only one that copies.
+// Whether one of the `n` entries of the table at `at` is a COPY entry.
 fn has_copies(image: &[u8], at: usize, n: u32) -> bool
     ensures { λ r. ⌜ (r ≡ false → NoCopies (relasFrom (now (image .entry)) at 0 n)) ⌝ }
 {
@@ -352,7 +373,7 @@ fn has_copies(image: &[u8], at: usize, n: u32) -> bool
     let mut k = at;
     let mut i = 0u32;
     while i < n {
-        if words::bytes::u32_in(image, k + 8) == 5 {
+        if is_copy(words::bytes::u32_in(image, k + 8)) {
             return true;
         }
         k += 24;

@@ -31,6 +31,14 @@ use Rattle.binder.specs.declared.crossing.Crossing.{Crossing}
 
 -- ---- the copies, as the code finds them
 
+-- entries of that row copy
+abbrev pub copiesRow : Row → Bool
+copiesRow ignored = false
+copiesRow passedOver = false
+copiesRow turnedAway = false
+copiesRow (writes search f) = false
+copiesRow copies = true
+
 abbrev pub noCopy : Copy
 noCopy = record { to = 0; source = 0; size = 0 }
 
@@ -110,7 +118,7 @@ ApartIn marks w c true =
     → (inside (c .to) (c .size) (w + x) ≡ true → getD marks x 0 < 1) × (inside (c .source) (c .size) (w + x) ≡ true → getD marks x 0 < 2)
 ApartIn marks w c false =
     (x : ℕ) × (x < window)
-    × ((inside (c .to) (c .size) (w + x) ≡ true) × (1 ≤ getD marks x 0)
+    × (((inside (c .to) (c .size) (w + x) ≡ true) × (1 ≤ getD marks x 0))
     ⊎ ((inside (c .source) (c .size) (w + x) ≡ true) × (2 ≤ getD marks x 0)))
 
 -- the copy is marked
@@ -228,7 +236,7 @@ earlierOf m q = pick (q .hit) (pick (leb (m .seen) (q .seen)) m q) m
 
 unfoldable pub NoCopies : List Rela → Type 0
 NoCopies [] = Unit {0}
-NoCopies (e ∷ es) = (rowOf (e .rtype) ≡ copies → ⊥) × NoCopies es
+NoCopies (e ∷ es) = (copiesRow (rowOf (e .rtype)) ≡ false) × NoCopies es
 
 abbrev pub NoCopiesIn : List ℕ → List Input → List ℕ → List ℕ → Type 0
 NoCopiesIn table os a ks = (i : ℕ) → i < length ks → NoCopies (entriesAt table os a (getD ks i 0))

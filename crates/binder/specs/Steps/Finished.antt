@@ -65,7 +65,7 @@ abbrev pub RelocatedOr : List Input → List ℕ → List ℕ → List ℕ → P
 RelocatedOr os table ks arena policy report arena′ report′ m =
     Readable table os arena ks
     → ((i : ℕ) → i < length ks → UntilReadable os table ks i arena report)
-    → (c : Crossing) × CrossingIn table os arena ks c
+    → (length arena′ ≡ length arena) × (length report′ ≡ length report) × (c : Crossing) × CrossingIn table os arena ks c
     × (c .hit ≡ false → Relocated os table ks arena policy report arena′ report′ m)
     × (c .hit ≡ true → Crossed os table ks (c .index) (c .entry) arena report m)
 

@@ -1,62 +1,48 @@
+-- `binder::crossing::entry_at` meets its contract. Assumes nothing.
+use borrow.Author.Tests.{not-true, not-false}
+use mathlib.Core.Path.{_≡_, refl, sym, ap, subst, _∙_}
+use Prim.Native.Nat.{ℕ, _+_, _-_, _≤_, _<_}
+use native.Mathlib.Omega.{arith}
+use denote.Ref.{now}
+use lib.ListN.{length, getD}
+use Rattle.object.specs.Entries.{relaAt}
+use Rattle.object.specs.Record.{heldBy}
+use Rattle.binder.specs.Steps.Relocating.{imageIn, cutTo32}
+use Rattle.binder.proofs.CrossCode.{entries-long, entry-first, entry-second}
 use borrow.Author.Needs.{needs}
 use Rattle.binder.proofs.crossing.entry_at.Statement.{statement}
 use Rattle.binder.proofs.crossing.entry_at.Tie as tie
-use Rattle.binder.proofs.crossing.entry_at.Reads as reads
-use Rattle.binder.proofs.crossing.entry_at.Lts as lts
-use Rattle.binder.proofs.relocate.rela_in.Reads as rela-in-reads
-use Rattle.binder.proofs.relr.cut_to_32.Reads as cut-to-32-reads
 
--- src/crossing.rt:123:9
-cut-to-32-requires : tie.Need-cut-to-32-requires
-cut-to-32-requires c κs = search needs
-
--- src/crossing.rt:124:12
-cast-if1 : tie.Need-cast-if1
-cast-if1 c = search needs
-
--- src/crossing.rt:125:59
-cast-rela-in : tie.Need-cast-rela-in
-cast-rela-in c = search needs
-
--- src/crossing.rt:125:9
-rela-in-requires : tie.Need-rela-in-requires
-rela-in-requires c κs = search needs
-
--- src/crossing.rt:125:9
 returns : tie.Need-returns
-returns c = ?
+returns c =
+    let a = c .before .before .before .before .args in
+    c .rela-in .ensures ∙ entry-first (imageIn (now (a .arena)) (a .t)) (heldBy (a .o)) (a .i) (omega (arith, c .before .before .cut-to-32 .ensures))
 
--- src/crossing.rt:127:52
-cast-rela-in-2 : tie.Need-cast-rela-in-2
-cast-rela-in-2 c = search needs
-
--- src/crossing.rt:127:48
-sub-rela-in : tie.Need-sub-rela-in
-sub-rela-in c = search needs
-
--- src/crossing.rt:127:47
 cast-rela-in-3 : tie.Need-cast-rela-in-3
-cast-rela-in-3 c = ?
+cast-rela-in-3 c =
+    let a = c .before .before .before .args in
+    let e = entries-long (imageIn (now (a .arena)) (a .t)) (heldBy (a .o)) in
+    record { fits = omega (arith, c .before .cut-to-32 .ensures, c .before .before .before .pre) }
 
--- src/crossing.rt:127:5
-rela-in-requires-2 : tie.Need-rela-in-requires-2
-rela-in-requires-2 c κs = search needs
-
--- src/crossing.rt:119:1
 returns-2 : tie.Need-returns-2
-returns-2 c = ?
+returns-2 c =
+    let a = c .before .before .before .before .args in
+    let e : a .i - c .before .before .cut-to-32 .result ≡ a .i - cutTo32 (heldBy (a .o) .relas) = ap (λ (n : ℕ). a .i - n) (c .before .before .cut-to-32 .ensures) in
+    c .rela-in2 .ensures
+    ∙ (ap (relaAt (imageIn (now (a .arena)) (a .t)) (heldBy (a .o) .plt)) e
+    ∙ entry-second (imageIn (now (a .arena)) (a .t)) (heldBy (a .o)) (a .i) (omega (arith, c .before .before .cut-to-32 .ensures)) (c .before .before .before .before .pre))
 
 pub entry-at-spec : {M : Type 1} → statement M
 entry-at-spec =
     tie.close
     (tie.spec
-    cut-to-32-requires
-    cast-if1
-    cast-rela-in
-    rela-in-requires
+    (λ c κs. search needs)
+    (λ c. search needs)
+    (λ c. search needs)
+    (λ c κs. search needs)
     returns
-    cast-rela-in-2
-    sub-rela-in
+    (λ c. search needs)
+    (λ c. search needs)
     cast-rela-in-3
-    rela-in-requires-2
+    (λ c κs. search needs)
     returns-2)

@@ -1,41 +1,43 @@
+-- `binder::crossing::marks_below` meets its contract. Assumes nothing.
+use borrow.Author.Tests.{not-true, not-false}
+use mathlib.Core.Path.{_≡_, refl, sym, ap, subst, _∙_}
+use Prim.Native.Nat.{ℕ, _+_, _-_, _≤_, _<_}
+use native.Mathlib.Omega.{arith}
+use denote.Ref.{now}
+use lib.ListN.{length, getD}
+use Rattle.binder.proofs.LoopLaws.{counts-down}
+use Rattle.binder.proofs.CrossCode.{below-next}
+use borrow.Author.Needs.{needs}
 use Rattle.binder.proofs.crossing.marks_below.Statement.{statement}
 use Rattle.binder.proofs.crossing.marks_below.Tie as tie
-use Rattle.binder.proofs.crossing.marks_below.Reads as reads
-use Rattle.binder.proofs.crossing.marks_below.Lts as lts
 
 abbrev Inv-loop : tie.InvT-loop
-Inv-loop marks low high m i₀ i = ?
+Inv-loop marks low high m i₀ i =
+    (low ≤ i) × ((x : ℕ) → low ≤ x → x < i → getD marks x 0 < m)
 
 abbrev μ-loop : tie.MeasureT-loop
-μ-loop marks low high m i₀ i = ?
+μ-loop marks low high m i₀ i =
+    high - i
 
--- src/crossing.rt:40:5
 loop-holds : tie.Need-loop-holds Inv-loop μ-loop
-loop-holds c = ?
+loop-holds c =
+    (omega arith, λ x l h. absurd (omega arith))
 
--- src/crossing.rt:41:17
-shared-slice-read-if1 : tie.Need-shared-slice-read-if1 Inv-loop μ-loop
-shared-slice-read-if1 c = ?
-
--- src/crossing.rt:42:13
 returns : tie.Need-returns Inv-loop μ-loop
-returns c = ?
+returns c =
+    (c .before .before .before .loop .i, c .before .before .before .loop .inv .0, c .before .before .loop-test .taken, c .if1 .taken)
 
--- src/crossing.rt:44:9
-add-i : tie.Need-add-i Inv-loop μ-loop
-add-i c = ?
-
--- src/crossing.rt:40:5
 loop-less : tie.Need-loop-less Inv-loop μ-loop
-loop-less c = ?
+loop-less c =
+    counts-down (c .before .before .loop-test .taken)
 
--- src/crossing.rt:40:5
 loop-again : tie.Need-loop-again Inv-loop μ-loop
-loop-again c = ?
+loop-again c =
+    (omega arith, below-next (now (c .before .before .before .before .args .marks)) (c .before .before .before .before .args .low) (c .before .before .before .loop .i) (c .before .before .before .before .args .m) (c .before .before .before .loop .inv .1) (omega arith))
 
--- src/crossing.rt:35:1
 returns-2 : tie.Need-returns-2 Inv-loop μ-loop
-returns-2 c = ?
+returns-2 c =
+    λ x l h. c .before .loop .inv .1 x l (omega arith)
 
 pub marks-below-spec : {M : Type 1} → statement M
 marks-below-spec =
@@ -44,9 +46,9 @@ marks-below-spec =
     Inv-loop
     μ-loop
     loop-holds
-    shared-slice-read-if1
+    (λ c. search needs)
     returns
-    add-i
+    (λ c. search needs)
     loop-less
     loop-again
     returns-2)
