@@ -58,8 +58,9 @@ extern "C" {
  *   19  not 0     the call is strict and an entry is undefined: the first such object in binding order
  *   20  0         the report is too short
  *   22  not 0     after 17: a result of 32 bits (types 2, 10 and 11) does not fit
+ *   28  not 0     after 18: a COPY entry writes a byte that an earlier one, of any object, writes or reads, or reads one that an earlier one writes
  *
- * The first refusal in this order is answered: 4 to 12 and 21 object by object, 14 to 18 and 22 entry by entry in binding order. lugwormpin_bind
+ * The first refusal in this order is answered: 4 to 12 and 21 object by object, 14 to 18, 22 and 28 entry by entry in binding order. lugwormpin_bind
  * answers all but 13, lugwormpin_query 1 to 13 and 21. */
 #define LUGWORMPIN_NUMBER(answer) ((uint32_t)(answer))
 #define LUGWORMPIN_OBJECT(answer) ((uint32_t)((answer) >> 32))

@@ -118,17 +118,17 @@ mark-some m b (d ∷ ds) p f h l =
 -- ---- a copy that crosses some is not apart at some byte, and the other way round
 
 -- the three tests of `crosses`
-to-to : (c d : Copy) → meets (c .to) (c .size) (d .to) (d .size) ≡ true → crosses c d ≡ true
+pub to-to : (c d : Copy) → meets (c .to) (c .size) (d .to) (d .size) ≡ true → crosses c d ≡ true
 unfolding crosses
 to-to c d e = rw e
 
-source-to : (c d : Copy) → meets (c .source) (c .size) (d .to) (d .size) ≡ true → crosses c d ≡ true
+pub source-to : (c d : Copy) → meets (c .source) (c .size) (d .to) (d .size) ≡ true → crosses c d ≡ true
 unfolding crosses
 source-to c d e =
     either-right (meets (c .to) (c .size) (d .to) (d .size)) (either (meets (c .source) (c .size) (d .to) (d .size)) (meets (c .to) (c .size) (d .source) (d .size)))
     (either-left (meets (c .source) (c .size) (d .to) (d .size)) (meets (c .to) (c .size) (d .source) (d .size)) e)
 
-to-source : (c d : Copy) → meets (c .to) (c .size) (d .source) (d .size) ≡ true → crosses c d ≡ true
+pub to-source : (c d : Copy) → meets (c .to) (c .size) (d .source) (d .size) ≡ true → crosses c d ≡ true
 unfolding crosses
 to-source c d e =
     either-right (meets (c .to) (c .size) (d .to) (d .size)) (either (meets (c .source) (c .size) (d .to) (d .size)) (meets (c .to) (c .size) (d .source) (d .size)))

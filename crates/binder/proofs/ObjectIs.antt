@@ -174,12 +174,13 @@ module _ (setting : Setting) (size : ℕ) (table : List ℕ) (h pr : File) (fs :
         let x = again setting size table h pr fs L a k lo hi placed in
         let few = counts setting size table h pr fs L k lo hi in
         let cut : cutTo32 (r .relas) ≡ r .relas = omega (arith, few .0) in
-        rw (x .1) (go cut (runRelrs t r a) refl)
+        let all : min (cutTo32 (r .plts)) (m - min (r .relas) m) ≡ m - min (r .relas) m = omega (arith, few .1) in
+        rw (x .1) (go cut all (runRelrs t r a) refl)
       where
         go :
-            cutTo32 (r .relas) ≡ r .relas → (y : Summed) → y ≡ runRelrs t r a
+            cutTo32 (r .relas) ≡ r .relas → min (cutTo32 (r .plts)) (m - min (r .relas) m) ≡ m - min (r .relas) m → (y : Summed) → y ≡ runRelrs t r a
             → Ran size n (first (wordsVerdict k r (namedWords image r)) (firstEntries m)) (λ _ _ _. Unit {0}) (untilTables table t r m p report y)
-        go cut (summed z b) e =
+        go cut all (summed z b) e =
             let w = relr-is setting size table h pr fs L k lo hi a s z b e in
             subst (λ (v : Verdict). Ran size n (first v (firstEntries m)) (λ _ _ _. Unit {0}) (untilTables table t r m p report (summed z b))) (w .verdict-is)
             (⊎-elim
@@ -188,8 +189,13 @@ module _ (setting : Setting) (size : ℕ) (table : List ℕ) (h pr : File) (fs :
             (subst
             (λ (i : ℕ).
             Ran size n (firstEntries m) (λ _ _ _. Unit {0})
-            (unlessRefused (runTable table t r (r .plt) (cutTo32 (r .relas)) (m - min i m) 0) (runTable table t r (r .rela) 0 (min i m) 0 (left (keeps 0 0 p) b report))))
+            (unlessRefused (runTable table t r (r .plt) (cutTo32 (r .relas)) (min (cutTo32 (r .plts)) (m - min i m)) 0) (runTable table t r (r .rela) 0 (min i m) 0 (left (keeps 0 0 p) b report))))
             (sym cut)
+            (subst
+            (λ (j : ℕ).
+            Ran size n (firstEntries m) (λ _ _ _. Unit {0})
+            (unlessRefused (runTable table t r (r .plt) (cutTo32 (r .relas)) j 0) (runTable table t r (r .rela) 0 (min (r .relas) m) 0 (left (keeps 0 0 p) b report))))
+            (sym all)
             (tables-until setting size table h pr fs L k lo hi n a (min (r .relas) m) (m - min (r .relas) m) (omega arith) ly ws u
             (addWords (obj S k) (placesOf (namedWords image r)) (mem a)) (keeps 0 0 p) b report
             record {
@@ -197,7 +203,7 @@ module _ (setting : Setting) (size : ℕ) (table : List ℕ) (h pr : File) (fs :
               memory = w .done (eqb-true z 0 c) .0;
               written = w .done (eqb-true z 0 c) .1;
               kept = none-kept setting size table h pr fs L k lo hi n a (keeps 0 0 p) refl;
-            })))
+            }))))
             (λ (c : eqb z 0 ≡ false).
             rw (c, first-met z k (firstEntries m) (eqb-false z 0 c))
             (ran-refused size n z k (λ _ _ _. Unit {0}) (refusedBy t z p) b report (eqb-false z 0 c) refl refl (w .length-is)

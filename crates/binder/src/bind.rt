@@ -1,6 +1,6 @@
 // The public call that binds a set.
 ghost use mathlib.Core.Path.{_≡_};
-ghost use Prim.Native.Nat.{_≤_, _<_};
+ghost use Prim.Native.Nat.{_^_, _≤_, _<_};
 ghost use lib.Dec.{eqb};
 ghost use lib.ListN.{length, replicate, take};
 ghost use Rattle.sheet.specs.Steps.Parts.{inputsIn};
@@ -70,7 +70,7 @@ fn crossed(
     order: Order,
     m: Crossing,
 ) -> Verdict
-    requires { ⌜ (order .count ≤ 64) × (m .index < order .count) × Filtered (now table) ⌝ }
+    requires { ⌜ (order .count ≤ 64) × (m .index < order .count) × (m .entry ≤ 2 ^ 33) × Filtered (now table) ⌝ }
     ensures { λ r. ⌜ (UntilReadable (inputsIn (now (bytes .entry)) parts) (now (table .entry)) (take (order .count) (order .list)) (m .index) (now (arena .entry)) (now (report .entry)) → Crossed (inputsIn (now (bytes .entry)) parts) (now (table .entry)) (take (order .count) (order .list)) (m .index) (m .entry) (now (arena .entry)) (now (report .entry)) r) ⌝ }
 {
     let list = order.list;

@@ -13,7 +13,7 @@ ghost use Rattle.object.specs.Record.{heldBy};
 ghost use Rattle.sheet.specs.Steps.Parts.{inputsIn};
 ghost use Rattle.scope.specs.Steps.Links.{Filtered};
 ghost use Rattle.binder.specs.Steps.Relocating.{imageIn, againRefusal, againRecord, turnOf};
-ghost use Rattle.binder.specs.Steps.Crossing.{copiesRow, noCopy, seenOf, entriesOf, noRela, window, MarksBelow, MarksSet, ApartIn, CopyMarked, Small, WalksOn, Readable, Passed, FirstCrossing, earlierOf, NoCopies, NoCopiesIn, CrossingIn};
+ghost use Rattle.binder.specs.Steps.Crossing.{copiesRow, noCopy, seenOf, entriesOf, noRela, window, MarksBelow, MarksSet, ApartIn, CopyMarked, Small, WalksOn, Readable, Passed, FirstCrossing, Bounded, earlierOf, NoCopies, NoCopiesIn, CrossingIn};
 use crate::order::Order;
 use crate::turn::Turn;
 use object::dynamic_fields::ObjectData;
@@ -214,7 +214,7 @@ fn scan_object(
     s: Scan,
 ) -> Scan
     requires { ⌜ Filtered (now table) × (length (now marks) ≡ window) × (s .seen ≤ 2 ^ 62) ⌝ }
-    ensures { λ r. ⌜ (r .seen ≤ s .seen + 2 ^ 33) × (w < s .next → w < r .next) × WalksOn (length (now (arena .entry))) w s (now (marks .entry)) (seenOf (now (table .entry)) (now (arena .entry)) t (heldBy o)) (entriesOf (imageIn (now (arena .entry)) t) (heldBy o)) (now (marks .exit)) r ⌝ }
+    ensures { λ r. ⌜ (r .seen ≤ s .seen + 2 ^ 33) × (r .entry ≤ 2 ^ 33) × (w < s .next → w < r .next) × WalksOn (length (now (arena .entry))) w s (now (marks .entry)) (seenOf (now (table .entry)) (now (arena .entry)) t (heldBy o)) (entriesOf (imageIn (now (arena .entry)) t) (heldBy o)) (now (marks .exit)) r ⌝ }
 {
     let n = crate::relr::cut_to_32(o.relas) as usize + crate::relr::cut_to_32(o.plts) as usize;
     let mut seen = s.seen;
@@ -257,7 +257,7 @@ fn scan_at(
     s: Scan,
 ) -> Scan
     requires { ⌜ Filtered (now table) × (length (now marks) ≡ window) × (s .seen ≤ 2 ^ 62) ⌝ }
-    ensures { λ r. ⌜ (r .seen ≤ s .seen + 2 ^ 33) × (w < s .next → w < r .next) × (againRefusal (imageIn (now (arena .entry)) (turnOf (now (table .entry)) k)) (now (file .entry)) ≡ 0 → WalksOn (length (now (arena .entry))) w s (now (marks .entry)) (seenOf (now (table .entry)) (now (arena .entry)) (turnOf (now (table .entry)) k) (againRecord (imageIn (now (arena .entry)) (turnOf (now (table .entry)) k)) (now (file .entry)))) (entriesOf (imageIn (now (arena .entry)) (turnOf (now (table .entry)) k)) (againRecord (imageIn (now (arena .entry)) (turnOf (now (table .entry)) k)) (now (file .entry)))) (now (marks .exit)) r) ⌝ }
+    ensures { λ r. ⌜ (r .seen ≤ s .seen + 2 ^ 33) × (r .entry ≤ 2 ^ 33) × (w < s .next → w < r .next) × (againRefusal (imageIn (now (arena .entry)) (turnOf (now (table .entry)) k)) (now (file .entry)) ≡ 0 → WalksOn (length (now (arena .entry))) w s (now (marks .entry)) (seenOf (now (table .entry)) (now (arena .entry)) (turnOf (now (table .entry)) k) (againRecord (imageIn (now (arena .entry)) (turnOf (now (table .entry)) k)) (now (file .entry)))) (entriesOf (imageIn (now (arena .entry)) (turnOf (now (table .entry)) k)) (againRecord (imageIn (now (arena .entry)) (turnOf (now (table .entry)) k)) (now (file .entry)))) (now (marks .exit)) r) ⌝ }
 {
     let t = crate::turn::turn_of(table, k);
     let o = record_again(arena, t, file);
@@ -287,7 +287,7 @@ fn scan_order(
     w: usize,
 ) -> Crossing
     requires { ⌜ (order .count ≤ 64) × Filtered (now table) × (length (now marks) ≡ window) ⌝ }
-    ensures { λ r. ⌜ (w < length (now (arena .entry)) → w < r .next) × (Readable (now (table .entry)) (inputsIn (now (bytes .entry)) parts) (now (arena .entry)) (take (order .count) (order .list)) → Passed (now (table .entry)) (inputsIn (now (bytes .entry)) parts) (now (arena .entry)) (take (order .count) (order .list)) w r) ⌝ }
+    ensures { λ r. ⌜ Bounded (order .count) r × (w < length (now (arena .entry)) → w < r .next) × (Readable (now (table .entry)) (inputsIn (now (bytes .entry)) parts) (now (arena .entry)) (take (order .count) (order .list)) → Passed (now (table .entry)) (inputsIn (now (bytes .entry)) parts) (now (arena .entry)) (take (order .count) (order .list)) w r) ⌝ }
 {
     let list = order.list;
     let n = order.count;
@@ -345,7 +345,7 @@ fn first_crossing(
     order: Order,
 ) -> Crossing
     requires { ⌜ (order .count ≤ 64) × Filtered (now table) ⌝ }
-    ensures { λ r. ⌜ (Readable (now (table .entry)) (inputsIn (now (bytes .entry)) parts) (now (arena .entry)) (take (order .count) (order .list)) → FirstCrossing (now (table .entry)) (inputsIn (now (bytes .entry)) parts) (now (arena .entry)) (take (order .count) (order .list)) r) ⌝ }
+    ensures { λ r. ⌜ Bounded (order .count) r × (Readable (now (table .entry)) (inputsIn (now (bytes .entry)) parts) (now (arena .entry)) (take (order .count) (order .list)) → FirstCrossing (now (table .entry)) (inputsIn (now (bytes .entry)) parts) (now (arena .entry)) (take (order .count) (order .list)) r) ⌝ }
 {
     let mut marks = [0u8; 32768];
     let mut m = scan_order(bytes, parts, arena, table, order, &mut marks, 0);
@@ -429,7 +429,7 @@ pub(crate) fn crossing_in(
     order: Order,
 ) -> Crossing
     requires { ⌜ (order .count ≤ 64) × Filtered (now table) ⌝ }
-    ensures { λ r. ⌜ (Readable (now (table .entry)) (inputsIn (now (bytes .entry)) parts) (now (arena .entry)) (take (order .count) (order .list)) → CrossingIn (now (table .entry)) (inputsIn (now (bytes .entry)) parts) (now (arena .entry)) (take (order .count) (order .list)) r) ⌝ }
+    ensures { λ r. ⌜ Bounded (order .count) r × (Readable (now (table .entry)) (inputsIn (now (bytes .entry)) parts) (now (arena .entry)) (take (order .count) (order .list)) → CrossingIn (now (table .entry)) (inputsIn (now (bytes .entry)) parts) (now (arena .entry)) (take (order .count) (order .list)) r) ⌝ }
 {
     if !some_copies(bytes, parts, arena, table, order) {
         return Crossing {

@@ -675,7 +675,7 @@ pub(crate) fn run_until(
     file: &[u8],
     entries: usize,
 ) -> Progress
-    requires { ⌜ Filtered (now table) × (entries < 2 ^ 32) ⌝ }
+    requires { ⌜ Filtered (now table) ⌝ }
     ensures { λ r. ⌜ (againRefusal (imageIn (now (arena .entry)) (turnOf (now (table .entry)) k)) (now (file .entry)) ≡ 0 → left r (now (arena .exit)) (now (report .exit)) ≡ runUntil (now (table .entry)) k (now (file .entry)) entries p (now (arena .entry)) (now (report .entry))) ⌝ }
 {
     let t = crate::turn::turn_of(table, k);
@@ -696,10 +696,11 @@ pub(crate) fn run_until(
     if q.refusal != 0 {
         return q;
     }
+    let back = words::bytes::smaller(crate::relr::cut_to_32(o.plts) as usize, entries - front);
     let plt = Entries {
         at: o.plt,
         first: relas,
-        count: (entries - front) as u32,
+        count: back as u32,
     };
     run_table(arena, report, q, table, t, o, plt)
 }

@@ -4,11 +4,13 @@ pub mod LongerSetLaw
 pub mod LongerQueryLaw
 pub mod CasesHold
 pub mod FieldCasesHold
+pub mod CopyCasesHold
 pub mod OrderReported
 pub mod RefusalNumbers
 pub mod RefusalsHold
 pub mod HostStays
 pub mod LargePagesHold
+pub mod CopiesApartLaw
 pub mod PairFiles
 pub mod PairHolds
 pub mod ObjectRunsHold

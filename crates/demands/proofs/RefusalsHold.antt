@@ -131,25 +131,25 @@ module _ (setting : Setting) (sheet bytes : List ℕ) (size : ℕ) where
       ))
       q))))
 
-  -- 14 to 20, and 22
+  -- 14 to 20, 22, and 28
   relocate-right :
-      (N : ℕ → Type 0) → ((n : ℕ) → 14 ≤ n → n ≤ 22 → n ≢ 21 → N n) → sheetOk sheet (length bytes) ≡ true → (policy : Policy) (words : ℕ)
+      (N : ℕ → Type 0) → ((n : ℕ) → 14 ≤ n → n ≤ 28 → n ≢ 21 → n ≢ 23 → n ≢ 24 → n ≢ 25 → n ≢ 26 → n ≢ 27 → N n) → sheetOk sheet (length bytes) ≡ true → (policy : Policy) (words : ℕ)
       → Meets (Right N (length os)) (relocateVerdict (objectsIn setting os) (filesOf os) (orderIn os) policy words)
   unfolding relocateVerdict
   relocate-right N ok good policy words =
-      first-meets (Right N (length os)) (orderVerdict (objectsIn setting os) (filesOf os) (orderIn os)) _
-      (order-meets (Right N (length os)) (objectsIn setting os) (filesOf os) (orderIn os)
+      first-meets (Right N (length os)) (orderVerdict (objectsIn setting os) (filesOf os) [] (orderIn os)) _
+      (order-meets (Right N (length os)) (objectsIn setting os) (filesOf os) [] (orderIn os)
       (λ n k x m.
       let b : (1 ≤ k) × (k < length (namesOf os) + 2) = order-objects (filesOf os) (namesOf os) k m in
-      (ok n (x .0) (x .1) (x .4), entry-of n k (x .0) (x .3) (b .0) (b .1))))
+      (ok n (x .0) (x .1) (x .4) (x .5) (x .6) (x .7) (x .8) (x .9), entry-of n k (x .0) (x .3) (b .0) (b .1))))
       (first-meets (Right N (length os)) (unless (allows policy u) 19 u) _
       (unless-meets (Right N (length os)) (allows policy u) 19 u
       (λ e.
       let m = first-undefined (objectsIn setting os) (filesOf os) (orderIn os) (undefined policy e) in
       let b : (1 ≤ u) × (u < length (namesOf os) + 2) = order-objects (filesOf os) (namesOf os) u m in
-      (ok 19 (omega arith) (omega arith) (λ e. omega arith), entry-of 19 u (omega arith) (λ e. omega arith) (b .0) (b .1))))
+      (ok 19 (omega arith) (omega arith) (λ e. omega arith) (λ e. omega arith) (λ e. omega arith) (λ e. omega arith) (λ e. omega arith) (λ e. omega arith), entry-of 19 u (omega arith) (λ e. omega arith) (b .0) (b .1))))
       (unless-meets (Right N (length os)) (leb (length (orderWords (objectsIn setting os) (filesOf os) (orderIn os))) words) 20 0
-      (λ _. (ok 20 (omega arith) (omega arith) (λ e. omega arith), without (length os) 20 refl (λ e. omega arith) (λ l h. omega arith)))))
+      (λ _. (ok 20 (omega arith) (omega arith) (λ e. omega arith) (λ e. omega arith) (λ e. omega arith) (λ e. omega arith) (λ e. omega arith) (λ e. omega arith), without (length os) 20 refl (λ e. omega arith) (λ l h. omega arith)))))
     where
       u : ℕ
       u = firstUndefined (objectsIn setting os) (filesOf os) (orderIn os)
@@ -170,7 +170,7 @@ module _ (setting : Setting) (sheet bytes : List ℕ) (size : ℕ) where
   bind-right policy words =
       first-then (Right BindNumber (length os)) (sheetVerdict setting sheet bytes size) _
       (prepare-right BindNumber (λ n l h. omega arith) (omega arith))
-      (λ v. relocate-right BindNumber (λ n l h ne. omega arith) (sheet-prepared sheet bytes setting size v .0) policy words)
+      (λ v. relocate-right BindNumber (λ n l h ne a b c d e. omega arith) (sheet-prepared sheet bytes setting size v .0) policy words)
 
   query-right :
       (requester : ℕ)
@@ -286,7 +286,7 @@ room :
 unfolding relocateVerdict
 room S files order policy words v e =
     let a = first-passed v _ e in
-    let b = first-passed (orderVerdict S files order) _ (a .1) in
+    let b = first-passed (orderVerdict S files [] order) _ (a .1) in
     let c = first-passed (unless (allows policy (firstUndefined S files order)) 19 (firstUndefined S files order)) _ (b .1) in
     leb-true _ _ (unless-passed (leb (length (orderWords S files order)) words) 20 0 (c .1))
 

@@ -3,8 +3,10 @@ pub mod LongerSet
 pub mod OrderReport
 pub mod Cases
 pub mod FieldCases
+pub mod CopyCases
 pub mod Refusals
 pub mod LargePages
+pub mod CopiesApart
 pub mod PairOfSheets
 pub mod ObjectRuns
 pub mod WalksEnd

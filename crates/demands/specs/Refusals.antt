@@ -34,12 +34,12 @@ pub record ObjectOf (count n k : ℕ) : Type 0 where
   pub object : has n withoutObject ≡ false → k < count
   -- 3: "A library name that an earlier library has": not the first library
   pub later : n ≡ 3 → 3 ≤ k
-  -- 14 to 19 and 22 are of entries, and the host's are not read; 21: "the host's excepted"
+  -- 14 to 19, 22 and 28 are of entries, and the host's are not read; 21: "the host's excepted"
   pub entry : 14 ≤ n → n ≢ 20 → 1 ≤ k
 
--- the numbers of `bind`: 1 to 12, and 14 to 22
+-- the numbers of `bind`: 1 to 12, 14 to 22, and 28
 abbrev pub BindNumber : ℕ → Type 0
-BindNumber n = (1 ≤ n) × (n ≤ 22) × (n ≢ 13)
+BindNumber n = (1 ≤ n) × (n ≤ 28) × (n ≢ 13) × (n ≢ 23) × (n ≢ 24) × (n ≢ 25) × (n ≢ 26) × (n ≢ 27)
 
 -- what a refused call to `bind` answers, and leaves
 pub record BindRefused (sheet bytes : List ℕ) (size words n k : ℕ) (arena report : List ℕ) : Type 0 where

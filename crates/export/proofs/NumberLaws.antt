@@ -1,7 +1,7 @@
 -- No refusal of `bind` or `query` has the number 0. Assumes nothing.
 use mathlib.Core.Path.{_≡_, refl, sym, _∙_}
 use mathlib.Core.Bool.{Bool, true, false}
-use mathlib.Core.List.{List, [], _∷_}
+use mathlib.Core.List.{List, [], _∷_, _++_}
 use Prim.Native.Nat.{ℕ, _+_, _-_, _<_}
 use native.Mathlib.Omega.{arith}
 use borrow.Author.Tests.{eqb-false}
@@ -22,7 +22,9 @@ use Rattle.binder.specs.declared.Reply as replies
 use Rattle.binder.specs.Setting.{Setting}
 use Rattle.binder.specs.Instance.{File, fileImage, fileRecord, namedWords, relasOf}
 use Rattle.binder.specs.Verdict as verdicts
-use Rattle.binder.specs.Verdict.{first, verdict, noFile, loadVerdict, wordRefusal, wordsVerdict, entryRefusal, entriesVerdict, objectVerdict, orderVerdict}
+use Rattle.binder.specs.declared.crossing.Copy.{Copy}
+use Rattle.binder.specs.Copies.{entryCopy, objectCopies}
+use Rattle.binder.specs.Verdict.{crossRefusal, first, verdict, noFile, loadVerdict, wordRefusal, wordsVerdict, entryRefusal, entriesVerdict, objectVerdict, orderVerdict}
 use Rattle.binder.specs.declared.Verdict.{Verdict}
 use Rattle.binder.specs.declared.Verdict.the-variants.{Passed, Refused}
 use Rattle.binder.specs.Report.{orderWords, firstUndefined}
@@ -68,30 +70,34 @@ of-words k r [] = passing
 of-words k r (w ∷ ws) =
     either-one (verdict (wordRefusal r w) k) (wordsVerdict k r ws) (of-number (wordRefusal r w) k) (of-words k r ws)
 
-of-entries : (S : Objs) (k : ℕ) (image : List ℕ) (r : Record) (es : List Rela) → Numbered (entriesVerdict S k image r es)
+of-entries : (S : Objs) (k : ℕ) (image : List ℕ) (r : Record) (earlier : List Copy) (es : List Rela) → Numbered (entriesVerdict S k image r earlier es)
 unfolding verdicts.entriesVerdict
-of-entries S k image r [] = passing
-of-entries S k image r (e ∷ es) =
-    either-one (verdict (entryRefusal S k image r e) k) (entriesVerdict S k image r es) (of-number (entryRefusal S k image r e) k) (of-entries S k image r es)
+of-entries S k image r earlier [] = passing
+of-entries S k image r earlier (e ∷ es) =
+    let c : List Copy = entryCopy S k image r e in
+    let rest : Verdict = entriesVerdict S k image r (earlier ++ c) es in
+    either-one (verdict (entryRefusal S k image r e) k) (first (verdict (crossRefusal earlier c) k) rest) (of-number (entryRefusal S k image r e) k)
+    (either-one (verdict (crossRefusal earlier c) k) rest (of-number (crossRefusal earlier c) k) (of-entries S k image r (earlier ++ c) es))
 
-of-object : (S : Objs) (k : ℕ) (f : File) → Numbered (objectVerdict S k f)
+of-object : (S : Objs) (earlier : List Copy) (k : ℕ) (f : File) → Numbered (objectVerdict S earlier k f)
 unfolding verdicts.objectVerdict
-of-object S k f =
-    either-one (wordsVerdict k (fileRecord f) (namedWords (fileImage f) (fileRecord f))) (entriesVerdict S k (fileImage f) (fileRecord f) (relasOf (fileImage f) (fileRecord f)))
-    (of-words k (fileRecord f) (namedWords (fileImage f) (fileRecord f))) (of-entries S k (fileImage f) (fileRecord f) (relasOf (fileImage f) (fileRecord f)))
+of-object S earlier k f =
+    either-one (wordsVerdict k (fileRecord f) (namedWords (fileImage f) (fileRecord f))) (entriesVerdict S k (fileImage f) (fileRecord f) earlier (relasOf (fileImage f) (fileRecord f)))
+    (of-words k (fileRecord f) (namedWords (fileImage f) (fileRecord f))) (of-entries S k (fileImage f) (fileRecord f) earlier (relasOf (fileImage f) (fileRecord f)))
 
-of-order : (S : Objs) (files : List File) (ks : List ℕ) → Numbered (orderVerdict S files ks)
+of-order : (S : Objs) (files : List File) (earlier : List Copy) (ks : List ℕ) → Numbered (orderVerdict S files earlier ks)
 unfolding verdicts.orderVerdict
-of-order S files [] = passing
-of-order S files (k ∷ ks) =
-    either-one (objectVerdict S k (getD files k noFile)) (orderVerdict S files ks) (of-object S k (getD files k noFile)) (of-order S files ks)
+of-order S files earlier [] = passing
+of-order S files earlier (k ∷ ks) =
+    let more : List Copy = earlier ++ objectCopies S k (getD files k noFile) in
+    either-one (objectVerdict S earlier k (getD files k noFile)) (orderVerdict S files more ks) (of-object S earlier k (getD files k noFile)) (of-order S files more ks)
 
 of-relocate : (S : Objs) (files : List File) (order : List ℕ) (policy : Policy) (words : ℕ) → Numbered (relocateVerdict S files order policy words)
 unfolding binding.relocateVerdict
 of-relocate S files order policy words =
     let u = firstUndefined S files order in
     let room = leb (length (orderWords S files order)) words in
-    either-one (orderVerdict S files order) (first (unless (allows policy u) 19 u) (unless room 20 0)) (of-order S files order)
+    either-one (orderVerdict S files [] order) (first (unless (allows policy u) 19 u) (unless room 20 0)) (of-order S files [] order)
     (either-one (unless (allows policy u) 19 u) (unless room 20 0) (of-test (allows policy u) 19 u (omega arith)) (of-test room 20 0 (omega arith)))
 
 of-prepare : (setting : Setting) (sheet bytes : List ℕ) (size : ℕ) → Numbered (sheetVerdict setting sheet bytes size)

@@ -54,7 +54,7 @@ of-bind setting sheet bytes size policy words =
     ∙ of-outcome size words (first (sheetVerdict setting sheet bytes size) (relocateVerdict S files order policy words)) _ (orderWords S files order)
     (λ e.
     let p = first-passed (sheetVerdict setting sheet bytes size) (relocateVerdict S files order policy words) e in
-    let q = first-passed (orderVerdict S files order) last (p .1) in
+    let q = first-passed (orderVerdict S files [] order) last (p .1) in
     let r = first-passed (unless (allows policy (firstUndefined S files order)) 19 (firstUndefined S files order)) (unless room 20 0) (q .1) in
     leb-true (length (orderWords S files order)) words (unless-passed room 20 0 (r .1)))
 

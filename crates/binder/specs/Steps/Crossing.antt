@@ -228,6 +228,10 @@ module _ (table : List ℕ) (os : List Input) (a : List ℕ) where
     pub in-arena : Each (InArena (length a)) (copiesMet ks (m .hit) (m .index) (m .entry))
     pub met : m .hit ≡ true → CrossesAt ks (m .index) (m .entry)
 
+-- its numbers are some of an order of `n` objects
+abbrev pub Bounded : ℕ → Crossing → Type 0
+Bounded n m = (m .entry ≤ 2 ^ 33) × (m .hit ≡ true → m .index < n)
+
 -- what was met first
 abbrev pub earlierOf : Crossing → Crossing → Crossing
 earlierOf m q = pick (q .hit) (pick (leb (m .seen) (q .seen)) m q) m

@@ -372,7 +372,7 @@ module _ (table : List ℕ) where
   abbrev pub untilTables : Turn → Record → ℕ → Progress → List ℕ → Summed → Left
   untilTables t r m p report (summed z a) =
       pick (eqb z 0)
-      (unlessRefused (runTable t r (r .plt) (cutTo32 (r .relas)) (m - min (cutTo32 (r .relas)) m) 0)
+      (unlessRefused (runTable t r (r .plt) (cutTo32 (r .relas)) (min (cutTo32 (r .plts)) (m - min (cutTo32 (r .relas)) m)) 0)
       (runTable t r (r .rela) 0 (min (cutTo32 (r .relas)) m) 0 (left (keeps 0 0 p) a report)))
       (left (refusedBy t z p) a report)
 
