@@ -29,7 +29,7 @@ use Rattle.scope.specs.declared.scope.Resolved.the-variants.{Absent, Found}
 use Rattle.binder.specs.Steps.Relocating.{imageIn, cutTo32, copyFits, soughtForCopy, turnOf, againRefusal, againRecord, Left, left, summed, refusedBy, keeps, runRelrs, runTable, untilTables, started, runOrder, runUntil}
 use Rattle.binder.specs.declared.report.Progress.{Progress}
 use Rattle.sheet.specs.Sheet.{Input, noInput}
-use Rattle.binder.specs.Steps.Crossing.{copiesRow, noCopy, copyAt, copyTo, copyChecked, copySeen, entriesOf, noRela, window, MarksBelow, MarksSet, ApartIn, CopyMarked, NoCopies, earlierOf, Bounded, Readable, entriesAt}
+use Rattle.binder.specs.Steps.Crossing.{copiesRow, noCopy, copyAt, copyTo, copyChecked, copySeen, entriesOf, noRela, window, MarksBelow, MarksSet, ApartIn, CopyMarked, NoCopies, earlierOf, Bounded, Readable, entriesAt, CrossingIn}
 use Rattle.binder.specs.Steps.Finished.{UntilReadable, Crossed}
 use Rattle.binder.specs.Verdict.{first, verdict}
 use Rattle.binder.specs.declared.Verdict.{Verdict}
@@ -382,3 +382,7 @@ module _ (os : List Input) (table list : List ℕ) (n i j : ℕ) (arena report :
       pub crossed-28 : q .refusal ≡ 0 → Crossed os table (take n list) i j arena report (verdicts.the-variants.Refused 28 k)
       unfolding verdict
       crossed-28 h = with-28 (verdicts.the-variants.Refused 28 k) (rw (eq-eqb (q .refusal) 0 h, same))
+
+-- what was found is of an object of the order
+pub crossing-index : (table : List ℕ) (os : List Input) (a ks : List ℕ) (m : Crossing) → CrossingIn table os a ks m → m .hit ≡ true → m .index < length ks
+crossing-index table os a ks m x e = ⊎-elim (λ z. bool-clash (sym e ∙ z .0)) (λ f. f .met e .object) x

@@ -190,12 +190,12 @@ pub walk-at :
     → WalksOn size w s marks (seenOf table a t h) (entriesOf (imageIn a t) h) marks′ r → againRefusal (imageIn a (turnOf table k)) file ≡ 0
     → WalksOn size w s marks (seenOf table a (turnOf table k) (againRecord (imageIn a (turnOf table k)) file))
     (entriesOf (imageIn a (turnOf table k)) (againRecord (imageIn a (turnOf table k)) file)) marks′ r
-walk-at size w s marks marks′ r table a file k e f walk z =
+walk-at size w s marks marks′ r table a file k {t} {h} e f walk z =
     subst
     (λ (t : Turn).
     WalksOn size w s marks (seenOf table a t (againRecord (imageIn a t) file)) (entriesOf (imageIn a t) (againRecord (imageIn a t) file)) marks′ r)
     e
-    (subst (λ (h : Record). WalksOn size w s marks (seenOf table a _ h) (entriesOf (imageIn a _) h) marks′ r) (f (subst (λ (t : Turn). againRefusal (imageIn a t) file ≡ 0) (sym e) z)) walk)
+    (subst (λ (h : Record). WalksOn size w s marks (seenOf table a t h) (entriesOf (imageIn a t) h) marks′ r) (f (subst (λ (t : Turn). againRefusal (imageIn a t) file ≡ 0) (sym e) z)) walk)
 
 -- ---- objects, one after another
 

@@ -2,7 +2,8 @@
 ghost use mathlib.Core.Path.{_≡_};
 ghost use Prim.Native.Nat.{_^_, _≤_, _<_};
 ghost use lib.Dec.{eqb};
-ghost use lib.ListN.{length, replicate, take};
+ghost use lib.ListN.{length, getD, replicate, take};
+ghost use Rattle.sheet.specs.Sheet.{noInput};
 ghost use Rattle.sheet.specs.Steps.Parts.{inputsIn};
 ghost use Rattle.binder.specs.Setting.{settingAt};
 ghost use Rattle.binder.specs.Bind.{outcome, bindOf, allows};
@@ -60,6 +61,12 @@ fn end(p: Progress, policy: Policy) -> Verdict
     Verdict::Passed
 }
 
+fn file_by<'a>(bytes: &'a [u8], parts: Parts, k: u32) -> &'a [u8]
+    ensures { λ r. ⌜ now r ≡ getD (inputsIn (now (bytes .entry)) parts) k noInput .file ⌝ }
+{
+    sheet::sheet::file_of(bytes, parts, k as usize)
+}
+
 // Refusal 28 at the first entry whose copy crosses an earlier one, or what is met before it, at that entry too.
 fn crossed(
     bytes: &[u8],
@@ -87,7 +94,7 @@ fn crossed(
         };
     }
     let k = list[i];
-    let file = sheet::sheet::file_of(bytes, parts, k as usize);
+    let file = file_by(bytes, parts, k);
     let q = crate::relocate::run_until(arena, report, p, table, k, file, m.entry + 1);
     if q.refusal != 0 {
         return Verdict::Refused {

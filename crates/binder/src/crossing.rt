@@ -13,14 +13,16 @@ ghost use Rattle.object.specs.Record.{heldBy};
 ghost use Rattle.sheet.specs.Steps.Parts.{inputsIn};
 ghost use Rattle.scope.specs.Steps.Links.{Filtered};
 ghost use Rattle.binder.specs.Steps.Relocating.{imageIn, againRefusal, againRecord, turnOf};
-ghost use Rattle.binder.specs.Steps.Crossing.{copiesRow, noCopy, seenOf, entriesOf, noRela, window, MarksBelow, MarksSet, ApartIn, CopyMarked, Small, WalksOn, Readable, Passed, FirstCrossing, Bounded, earlierOf, NoCopies, NoCopiesIn, CrossingIn};
+ghost use Rattle.binder.specs.Steps.Crossing.{copiesRow, noCopy, copyAt, seenOf, entriesOf, noRela, window, MarksBelow, MarksSet, ApartIn, CopyMarked, Small, WalksOn, Readable, Passed, FirstCrossing, Bounded, earlierOf, NoCopies, NoCopiesIn, CrossingIn};
 use crate::order::Order;
 use crate::turn::Turn;
 use object::dynamic_fields::ObjectData;
 use object::entry_symbol::CheckedSymbol;
+use object::hash_tables::Definition;
 use object::program_header::Loads;
 use object::relocate::Action;
 use object::relocate::Rela;
+use scope::links::Link;
 use scope::scope::Resolved;
 use sheet::sheet::Parts;
 
@@ -150,6 +152,29 @@ fn is_copy(rtype: u32) -> bool
     copies_by(object::relocate::action_of(rtype))
 }
 
+// The same, where both ranges end inside `size` bytes.
+fn copy_inside(size: usize, t: Turn, to: usize, s: Link, d: Definition, n: usize) -> Copy
+    requires { ⌜ (t .offset + to + n ≤ size) × (s .offset + d .value + n ≤ size) ⌝ }
+    ensures { λ r. ⌜ r ≡ record { to = t .offset + to; source = s .offset + d .value; size = n } ⌝ }
+{
+    let value = d.value as usize;
+    Copy {
+        to: t.offset + to,
+        source: s.offset + value,
+        size: n,
+    }
+}
+
+// The copy of `n` bytes of the definition `d`, in the object at the link `s`, to the place `to`; none, where refusal 18 meets it.
+fn copy_range(size: usize, t: Turn, to: usize, s: Link, d: Definition, n: usize) -> Copy
+    ensures { λ r. ⌜ r ≡ copyAt size t to s d n ⌝ }
+{
+    if !crate::copy::copy_fits(size, t, to, s, d, n) {
+        return no_copy();
+    }
+    copy_inside(size, t, to, s, d, n)
+}
+
 // The copy that an entry makes; none, where refusal 14, 15 or 18 meets the entry.
 fn copy_of(arena: &[u8], table: &[u64], t: Turn, o: ObjectData, e: Rela) -> Copy
     requires { ⌜ Filtered (now table) ⌝ }
@@ -173,14 +198,7 @@ fn copy_of(arena: &[u8], table: &[u64], t: Turn, o: ObjectData, e: Rela) -> Copy
     };
     let n = words::bytes::smaller(y.size as usize, definition.size as usize);
     let link = scope::links::link_at(table, object);
-    if !crate::copy::copy_fits(arena.len(), t, e.place, link, definition, n) {
-        return no_copy();
-    }
-    Copy {
-        to: t.offset + e.place,
-        source: link.offset + definition.value as usize,
-        size: n,
-    }
+    copy_range(arena.len(), t, e.place, link, definition, n)
 }
 
 // How far a walk over copies came: how many it has seen, the lowest offset behind the window that is a destination, and whether the entry with

@@ -1,6 +1,29 @@
 -- `binder::crossing::crossing_in` meets its contract. Assumes nothing.
+use borrow.Author.Tests.{not-true, not-false}
+use mathlib.Core.Path.{_≡_, refl, sym, ap, subst, _∙_}
+use Prim.Native.Nat.{ℕ, _+_, _-_, _*_, _^_, _≤_, _<_}
+use native.Mathlib.Omega.{arith}
+use denote.Ref.{now}
+use lib.ListN.{length, getD, take}
+use mathlib.Core.Logic.{inl, inr}
+use Rattle.binder.proofs.ApartLaws.{bool-clash}
+use borrow.Author.Needs.{needs}
 use Rattle.binder.proofs.crossing.crossing_in.Statement.{statement}
 use Rattle.binder.proofs.crossing.crossing_in.Tie as tie
 
+returns : tie.Need-returns
+returns c =
+    ((omega arith, λ e. bool-clash (sym e)), λ r. inl (refl, c .before .some-copies .ensures r (not-true (c .before .some-copies .result) (c .if1 .taken))))
+
+returns-2 : tie.Need-returns-2
+returns-2 c =
+    (c .first-crossing .ensures .0, λ r. inr (c .first-crossing .ensures .1 r))
+
 pub crossing-in-spec : {M : Type 1} → statement M
-crossing-in-spec = ?
+crossing-in-spec =
+    tie.close
+    (tie.spec
+    (λ c κs. search needs)
+    returns
+    (λ c κs. search needs)
+    returns-2)

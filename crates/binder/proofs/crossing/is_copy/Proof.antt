@@ -1,6 +1,23 @@
 -- `binder::crossing::is_copy` meets its contract. Assumes nothing.
+use borrow.Author.Tests.{not-true, not-false}
+use mathlib.Core.Path.{_≡_, refl, sym, ap, subst, _∙_}
+use Prim.Native.Nat.{ℕ, _+_, _-_, _*_, _^_, _≤_, _<_}
+use native.Mathlib.Omega.{arith}
+use denote.Ref.{now}
+use lib.ListN.{length, getD, take}
+use Rattle.binder.specs.Steps.Crossing.{copiesRow}
+use borrow.Author.Needs.{needs}
 use Rattle.binder.proofs.crossing.is_copy.Statement.{statement}
 use Rattle.binder.proofs.crossing.is_copy.Tie as tie
 
+returns : tie.Need-returns
+returns c =
+    c .copies-by .ensures ∙ ap copiesRow (c .before .action-of .ensures)
+
 pub is-copy-spec : {M : Type 1} → statement M
-is-copy-spec = ?
+is-copy-spec =
+    tie.close
+    (tie.spec
+    (λ c κs. search needs)
+    (λ c κs. search needs)
+    returns)
