@@ -177,10 +177,11 @@ module _ (low high : ℕ) where
       (earlier xs ys : List Copy) → AllApart low high earlier xs → AllApart low high (earlier ++ xs) ys → AllApart low high earlier (xs ++ ys)
   unfolding AllApart
   apart-append earlier [] ys p q = subst (λ (l : List Copy). AllApart low high l ys) (append-nil earlier) q
-  apart-append earlier (x ∷ xs) ys p q =
-      (p .0,
-      apart-append (earlier ++ (x ∷ [])) xs ys (p .1)
-      (subst (λ (l : List Copy). AllApart low high l ys) (sym (append-assoc earlier (x ∷ []) xs)) q))
+  apart-append earlier (x ∷ xs) ys p q = (
+    p .0,
+    apart-append (earlier ++ (x ∷ [])) xs ys (p .1)
+        (subst (λ (l : List Copy). AllApart low high l ys) (sym (append-assoc earlier (x ∷ []) xs)) q),
+  )
 
   pub apart-left : (earlier xs ys : List Copy) → AllApart low high earlier (xs ++ ys) → AllApart low high earlier xs
   unfolding AllApart
@@ -207,16 +208,18 @@ pub apart-next :
     → AllApart w (w + window) earlier xs → AllApart 0 next earlier xs
 unfolding AllApart Each
 apart-next w next earlier [] e p q r = Prim.tt {0}
-apart-next w next earlier (c ∷ cs) e p q r =
-    ((λ b l h. at b h (decLt b w) (decLt b (w + window))),
-    apart-next w next (earlier ++ (c ∷ [])) cs (each-append (Behind w next) earlier (c ∷ []) e (p .0, Prim.tt {0})) (p .1) (q .1) (r .1))
+apart-next w next earlier (c ∷ cs) e p q r = (
+  (λ b l h. at b h (decLt b w) (decLt b (w + window))),
+  apart-next w next (earlier ++ (c ∷ [])) cs (each-append (Behind w next) earlier (c ∷ []) e (p .0, Prim.tt {0})) (p .1) (q .1) (r .1),
+)
   where
     at : (b : ℕ) → b < next → Dec (b < w) → Dec (b < w + window) → ApartAt earlier c b
     at b h (yes x) y = q .0 b (omega arith) x
     at b h (no x) (yes y) = r .0 b (omega arith) y
-    at b h (no x) (no y) =
-        ((λ i. absurd (let z = p .0 b i (omega arith) in omega arith)),
-        (λ i. no-mark b earlier (each-weaker (Behind w next) (λ d. inside (d .to) (d .size) b ≡ true → ⊥) (λ d g j. let z = g b j (omega arith) in omega arith) earlier e)))
+    at b h (no x) (no y) = (
+      (λ i. absurd (let z = p .0 b i (omega arith) in omega arith)),
+      (λ i. no-mark b earlier (each-weaker (Behind w next) (λ d. inside (d .to) (d .size) b ≡ true → ⊥) (λ d g j. let z = g b j (omega arith) in omega arith) earlier e)),
+    )
 
 pub apart-none : (earlier xs : List Copy) → AllApart 0 0 earlier xs
 unfolding AllApart
@@ -274,15 +277,16 @@ module _ (size w : ℕ) (ys : List Copy) (seen next : ℕ) (marks : List ℕ) (c
       → next′ ≡ pick (leb (c .to + c .size - w) window) next (min next (max (c .to) (w + window)))
       → Clear size w (ys ++ (c ∷ [])) (seen + 1) next′ × Marked w (ys ++ (c ∷ [])) marks′
   unfolding Each
-  walked-one marks′ next′ ap set own inner e =
-      (record {
-        count = long ∙ rw (clear .count);
-        apart = apart-one w (w + window) ys c (clear .apart) (λ b lo hi. at b lo hi);
-        behind = each-append (Behind w next′) ys (c ∷ []) (each-weaker (Behind w next) (Behind w next′) (λ d g b i l. let z = g b i l in omega (arith, less)) ys (clear .behind)) (after, Prim.tt {0});
-        ahead = λ l. more (clear .ahead l);
-        in-arena = each-append (InArena size) ys (c ∷ []) (clear .in-arena) (inner, Prim.tt {0});
-      },
-      marked-now marks′ ap set own)
+  walked-one marks′ next′ ap set own inner e = (
+    record {
+      count = long ∙ rw (clear .count);
+      apart = apart-one w (w + window) ys c (clear .apart) (λ b lo hi. at b lo hi);
+      behind = each-append (Behind w next′) ys (c ∷ []) (each-weaker (Behind w next) (Behind w next′) (λ d g b i l. let z = g b i l in omega (arith, less)) ys (clear .behind)) (after, Prim.tt {0});
+      ahead = λ l. more (clear .ahead l);
+      in-arena = each-append (InArena size) ys (c ∷ []) (clear .in-arena) (inner, Prim.tt {0});
+    },
+    marked-now marks′ ap set own,
+  )
     where
       long : length (ys ++ (c ∷ [])) ≡ length ys + 1
       long = length-one ys c
@@ -378,6 +382,7 @@ pub apart-quiet :
     → Quiet earlier xs
 unfolding Quiet Each AllApart
 apart-quiet size earlier [] e s i p = Prim.tt {0}
-apart-quiet size earlier (c ∷ cs) e s i p =
-    (none-crossed size c earlier (s .0) (i .0) e (λ b l. p .0 b (omega arith) l),
-    apart-quiet size (earlier ++ (c ∷ [])) cs (each-append Sized earlier (c ∷ []) e (s .0, Prim.tt {0})) (s .1) (i .1) (p .1))
+apart-quiet size earlier (c ∷ cs) e s i p = (
+  none-crossed size c earlier (s .0) (i .0) e (λ b l. p .0 b (omega arith) l),
+  apart-quiet size (earlier ++ (c ∷ [])) cs (each-append Sized earlier (c ∷ []) e (s .0, Prim.tt {0})) (s .1) (i .1) (p .1),
+)

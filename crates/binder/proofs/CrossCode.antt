@@ -126,9 +126,10 @@ module _ (marks : List ℕ) (w : ℕ) (c : Copy) {d e : ℕ} (hd : d ≡ min (c 
       (g .0, i .0, inr (i .1, g .3))
   apart-both {s} {u} hs hu {b} f z true g =
       let k = subst (MarksBelow marks d e 1) z f in
-      λ x l.
-      ((λ i. let y = to-window w (c .to) (c .size) hd he x l i in k x (y .0) (y .1)),
-      (λ i. let y = to-window w (c .source) (c .size) hs hu x l i in g x (y .0) (y .1)))
+      λ x l. (
+        (λ i. let y = to-window w (c .to) (c .size) hd he x l i in k x (y .0) (y .1)),
+        (λ i. let y = to-window w (c .source) (c .size) hs hu x l i in g x (y .0) (y .1)),
+      )
 
   pub both-marked :
       {s u : ℕ} → s ≡ min (c .source - w) window → u ≡ min (c .source + c .size - w) window → (marks₁ marks₂ : List ℕ) → MarksSet marks marks₁ d e 2 → MarksSet marks₁ marks₂ s u 1

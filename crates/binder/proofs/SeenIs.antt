@@ -52,117 +52,117 @@ passed false n rest e = absurd (omega arith)
 
 module _ (setting : Setting) (size : ℕ) (table : List ℕ) (h pr : File) (fs : List File) (L : LoadedSet setting size table h pr fs)
     (a : List ℕ) (len : length a ≡ size) (at-place : (k : ℕ) → k < count (set setting size table h pr fs) → PlacedAt setting size table h pr fs a k)
-    where
-  abbrev S : Objs
-  S = set setting size table h pr fs
+  where
+    abbrev S : Objs
+    S = set setting size table h pr fs
 
-  steady : Steady setting size table h pr fs a
-  steady = placed-steady setting size table h pr fs L a len at-place
+    steady : Steady setting size table h pr fs a
+    steady = placed-steady setting size table h pr fs L a len at-place
 
-  module _ (k : ℕ) (lo : 1 ≤ k) (hi : k < count (set setting size table h pr fs)) where
-    abbrev f : File
-    f = fileAt setting size table h pr fs k
+    module _ (k : ℕ) (lo : 1 ≤ k) (hi : k < count (set setting size table h pr fs)) where
+      abbrev f : File
+      f = fileAt setting size table h pr fs k
 
-    abbrev image : List ℕ
-    image = fileImage f
+      abbrev image : List ℕ
+      image = fileImage f
 
-    abbrev r : Record
-    r = fileRecord f
+      abbrev r : Record
+      r = fileRecord f
 
-    abbrev t : Turn
-    t = turnOf table k
+      abbrev t : Turn
+      t = turnOf table k
 
-    link-offset : (d : ℕ) → d < count S → linkAt table d .offset ≡ (obj S d) .offset
-    link-offset d l = ap (λ (s : Link). s .offset) ((lies setting size table h pr fs L d l) .link)
+      link-offset : (d : ℕ) → d < count S → linkAt table d .offset ≡ (obj S d) .offset
+      link-offset d l = ap (λ (s : Link). s .offset) ((lies setting size table h pr fs L d l) .link)
 
-    -- what is copied from what was found
-    module _ (p : ℕ) (y : Symbol) where
-      found :
-          (o : ℕ) → o < count S → (x : Definition) (v : ℕ) (b : Bool) → eqb (min (y .size) (x .size)) 0 ≡ b
-          → pick b 0
-          (require (inWritable (r .segments) p (min (y .size) (x .size))) 17 (require (copyOk S k p o (definitionOf x) (min (y .size) (x .size))) 18 0)) ≡ 0
-          → pick b []
-          (record { to = (obj S k) .offset + p; source = (obj S o) .offset + x .value; size = min (y .size) (x .size) } ∷ [])
-          ≡ listed (copyAt (length a) t p (linkAt table o) x (min (y .size) (x .size)))
-      unfolding copyAt listed
-      found o ol x v true z e = go (copyFits (length a) t p (linkAt table o) x (min (y .size) (x .size)))
-        where
-          go :
-              (b : Bool)
-              → []
-              ≡ pick (eqb ((pick b (record { to = t .offset + p; source = linkAt table o .offset + x .value; size = min (y .size) (x .size) }) noCopy) .size) 0) []
-              (pick b (record { to = t .offset + p; source = linkAt table o .offset + x .value; size = min (y .size) (x .size) }) noCopy ∷ [])
-          go true = rw z
-          go false = refl
-      found o ol x v false z e =
-          let w = passed (inWritable (r .segments) p (min (y .size) (x .size))) 16 _ e in
-          let ok = passed (copyOk S k p o (definitionOf x) (min (y .size) (x .size))) 17 0 (w .1) in
-          let fits : copyFits (length a) t p (linkAt table o) x (min (y .size) (x .size)) ≡ true =
-          ap (λ (s : ℕ). copyFits s t p (linkAt table o) x (min (y .size) (x .size))) len
-          ∙ (copy-tests setting size table h pr fs L k o hi ol p (min (y .size) (x .size)) (writable-inside setting size table h pr fs k p (min (y .size) (x .size)) (w .0)) x
-          ∙ ok .0) in
-          rw (fits, z, link-offset k hi, link-offset o ol)
+      -- what is copied from what was found
+      module _ (p : ℕ) (y : Symbol) where
+        found :
+            (o : ℕ) → o < count S → (x : Definition) (v : ℕ) (b : Bool) → eqb (min (y .size) (x .size)) 0 ≡ b
+            → pick b 0
+            (require (inWritable (r .segments) p (min (y .size) (x .size))) 17 (require (copyOk S k p o (definitionOf x) (min (y .size) (x .size))) 18 0)) ≡ 0
+            → pick b []
+            (record { to = (obj S k) .offset + p; source = (obj S o) .offset + x .value; size = min (y .size) (x .size) } ∷ [])
+            ≡ listed (copyAt (length a) t p (linkAt table o) x (min (y .size) (x .size)))
+        unfolding copyAt listed
+        found o ol x v true z e = go (copyFits (length a) t p (linkAt table o) x (min (y .size) (x .size)))
+          where
+            go :
+                (b : Bool)
+                → []
+                ≡ pick (eqb ((pick b (record { to = t .offset + p; source = linkAt table o .offset + x .value; size = min (y .size) (x .size) }) noCopy) .size) 0) []
+                (pick b (record { to = t .offset + p; source = linkAt table o .offset + x .value; size = min (y .size) (x .size) }) noCopy ∷ [])
+            go true = rw z
+            go false = refl
+        found o ol x v false z e =
+            let w = passed (inWritable (r .segments) p (min (y .size) (x .size))) 16 _ e in
+            let ok = passed (copyOk S k p o (definitionOf x) (min (y .size) (x .size))) 17 0 (w .1) in
+            let fits : copyFits (length a) t p (linkAt table o) x (min (y .size) (x .size)) ≡ true =
+            ap (λ (s : ℕ). copyFits s t p (linkAt table o) x (min (y .size) (x .size))) len
+            ∙ (copy-tests setting size table h pr fs L k o hi ol p (min (y .size) (x .size)) (writable-inside setting size table h pr fs k p (min (y .size) (x .size)) (w .0)) x
+            ∙ ok .0) in
+            rw (fits, z, link-offset k hi, link-offset o ol)
 
-      by :
-          (x : model.Resolved) (s : Resolved) → scopedOf s ≡ x → ((o : ℕ) (z : model.Definition) (v : ℕ) → x ≡ answer o z v → o < count S)
-          → (e : Rela) → e .place ≡ p → copyRefusal S k r p (y .size) x ≡ 0 → copyFound S k p (y .size) x ≡ listed (copyTo table (length a) t e y s)
-      unfolding scopedOf copyRefusal copyFound copyTo listed
-      by x Absent eq range e is z = rw (← eq)
-      by x (Found o d v) eq range e is z =
-          rw (is, ← eq)
-          (found o (range o (definitionOf d) v (sym eq)) d v (eqb (min (y .size) (d .size)) 0) refl
-          (subst (λ (x : model.Resolved). copyRefusal S k r p (y .size) x ≡ 0) (sym eq) z))
+        by :
+            (x : model.Resolved) (s : Resolved) → scopedOf s ≡ x → ((o : ℕ) (z : model.Definition) (v : ℕ) → x ≡ answer o z v → o < count S)
+            → (e : Rela) → e .place ≡ p → copyRefusal S k r p (y .size) x ≡ 0 → copyFound S k p (y .size) x ≡ listed (copyTo table (length a) t e y s)
+        unfolding scopedOf copyRefusal copyFound copyTo listed
+        by x Absent eq range e is z = rw (← eq)
+        by x (Found o d v) eq range e is z =
+            rw (is, ← eq)
+            (found o (range o (definitionOf d) v (sym eq)) d v (eqb (min (y .size) (d .size)) 0) refl
+            (subst (λ (x : model.Resolved). copyRefusal S k r p (y .size) x ≡ 0) (sym eq) z))
 
-    image-is : imageIn a t ≡ image
-    image-is = at-place k hi
+      image-is : imageIn a t ≡ image
+      image-is = at-place k hi
 
-    checked :
-        (e : Rela) (c : CheckedSymbol) → checkedSymbol image r (e .symbol) ≡ c
-        → symbolThen c (λ y. copyRefusal S k r (e .place) (y .size) (resolveCopy S (wantedBy image r (e .symbol)))) ≡ 0
-        → copyFound S k (e .place) (symbolAt image (r .symbols) (e .symbol) .size) (resolveCopy S (wantedBy image r (e .symbol)))
-        ≡ listed (copyChecked table a t r e c)
-    unfolding copyChecked
-    checked e c is z =
-        ⊎-elim
-        (λ s.
-        let y : Symbol = symbolAt image (r .symbols) (e .symbol) in
-        let same : c ≡ Checked y = sym is ∙ s .0 in
-        let z′ = subst (λ (c : CheckedSymbol). symbolThen c (λ y. copyRefusal S k r (e .place) (y .size) (resolveCopy S (wantedBy image r (e .symbol)))) ≡ 0) same z in
-        let name : nameOf (imageIn a t) r y ≡ symbolName image (r .symbols) (r .strings) (e .symbol) =
-        ap (λ (i : List ℕ). nameOf i r y) image-is ∙ name-is image r (e .symbol) in
-        subst (λ (c : CheckedSymbol). copyFound S k (e .place) (y .size) (resolveCopy S (wantedBy image r (e .symbol))) ≡ listed (copyChecked table a t r e c)) (sym same)
-        (by (e .place) y (resolveCopy S (wantedBy image r (e .symbol))) (soughtForCopy table a (nameOf (imageIn a t) r y))
-        (ap (λ (x : List ℕ). scopedOf (soughtForCopy table a x)) name ∙ copy-searches setting size table h pr fs L a steady (symbolName image (r .symbols) (r .strings) (e .symbol)))
-        (λ o d v q. resolveCopy-range S (wantedBy image r (e .symbol)) o d v q .0) e refl z′))
-        (λ s.
-        absurd (s .1 (subst (λ (c : CheckedSymbol). symbolThen c (λ y. copyRefusal S k r (e .place) (y .size) (resolveCopy S (wantedBy image r (e .symbol)))) ≡ 0) (sym is ∙ s .2) z)))
-        (symbol-case image r (e .symbol))
+      checked :
+          (e : Rela) (c : CheckedSymbol) → checkedSymbol image r (e .symbol) ≡ c
+          → symbolThen c (λ y. copyRefusal S k r (e .place) (y .size) (resolveCopy S (wantedBy image r (e .symbol)))) ≡ 0
+          → copyFound S k (e .place) (symbolAt image (r .symbols) (e .symbol) .size) (resolveCopy S (wantedBy image r (e .symbol)))
+          ≡ listed (copyChecked table a t r e c)
+      unfolding copyChecked
+      checked e c is z =
+          ⊎-elim
+          (λ s.
+          let y : Symbol = symbolAt image (r .symbols) (e .symbol) in
+          let same : c ≡ Checked y = sym is ∙ s .0 in
+          let z′ = subst (λ (c : CheckedSymbol). symbolThen c (λ y. copyRefusal S k r (e .place) (y .size) (resolveCopy S (wantedBy image r (e .symbol)))) ≡ 0) same z in
+          let name : nameOf (imageIn a t) r y ≡ symbolName image (r .symbols) (r .strings) (e .symbol) =
+          ap (λ (i : List ℕ). nameOf i r y) image-is ∙ name-is image r (e .symbol) in
+          subst (λ (c : CheckedSymbol). copyFound S k (e .place) (y .size) (resolveCopy S (wantedBy image r (e .symbol))) ≡ listed (copyChecked table a t r e c)) (sym same)
+          (by (e .place) y (resolveCopy S (wantedBy image r (e .symbol))) (soughtForCopy table a (nameOf (imageIn a t) r y))
+          (ap (λ (x : List ℕ). scopedOf (soughtForCopy table a x)) name ∙ copy-searches setting size table h pr fs L a steady (symbolName image (r .symbols) (r .strings) (e .symbol)))
+          (λ o d v q. resolveCopy-range S (wantedBy image r (e .symbol)) o d v q .0) e refl z′))
+          (λ s.
+          absurd (s .1 (subst (λ (c : CheckedSymbol). symbolThen c (λ y. copyRefusal S k r (e .place) (y .size) (resolveCopy S (wantedBy image r (e .symbol)))) ≡ 0) (sym is ∙ s .2) z)))
+          (symbol-case image r (e .symbol))
 
-    by-row :
-        (e : Rela) (x : Row) → refusalBy S k image r e x ≡ 0 → copyBy S k image r e x ≡ listed (copySeen table a t r e x)
-    unfolding refusalBy copyBy copySeen listed
-    by-row e ignored z = refl
-    by-row e passedOver z = refl
-    by-row e turnedAway z = refl
-    by-row e (writes search g) z = refl
-    by-row e copies z =
-        rw image-is (checked e (checkedSymbol image r (e .symbol)) refl z)
+      by-row :
+          (e : Rela) (x : Row) → refusalBy S k image r e x ≡ 0 → copyBy S k image r e x ≡ listed (copySeen table a t r e x)
+      unfolding refusalBy copyBy copySeen listed
+      by-row e ignored z = refl
+      by-row e passedOver z = refl
+      by-row e turnedAway z = refl
+      by-row e (writes search g) z = refl
+      by-row e copies z =
+          rw image-is (checked e (checkedSymbol image r (e .symbol)) refl z)
 
-    module _ (os : List Input) (file-is : getD os k noInput .file ≡ f .bytes) where
-      record-is : againOf table os a k ≡ r
-      record-is = rw file-is (again setting size table h pr fs L a k lo hi (at-place k hi) .1)
+      module _ (os : List Input) (file-is : getD os k noInput .file ≡ f .bytes) where
+        record-is : againOf table os a k ≡ r
+        record-is = rw file-is (again setting size table h pr fs L a k lo hi (at-place k hi) .1)
 
-      pub agrees : Agrees S k image r (seenAt table os a k)
-      agrees e z =
-          rw record-is (by-row e (rowOf (e .rtype)) z)
+        pub agrees : Agrees S k image r (seenAt table os a k)
+        agrees e z =
+            rw record-is (by-row e (rowOf (e .rtype)) z)
 
-      pub entries-are : entriesAt table os a k ≡ relasOf image r
-      unfolding entriesOf relasOf
-      entries-are =
-          let few = counts setting size table h pr fs L k lo hi in
-          let m : cutTo32 (r .relas) ≡ r .relas = omega (arith, few .0) in
-          let n : cutTo32 (r .plts) ≡ r .plts = omega (arith, few .1) in
-          rw (record-is, image-is, m, n)
+        pub entries-are : entriesAt table os a k ≡ relasOf image r
+        unfolding entriesOf relasOf
+        entries-are =
+            let few = counts setting size table h pr fs L k lo hi in
+            let m : cutTo32 (r .relas) ≡ r .relas = omega (arith, few .0) in
+            let n : cutTo32 (r .plts) ≡ r .plts = omega (arith, few .1) in
+            rw (record-is, image-is, m, n)
 
-      pub readable : againRefusal (imageIn a t) (getD os k noInput .file) ≡ 0
-      readable = rw file-is (again setting size table h pr fs L a k lo hi (at-place k hi) .0)
+        pub readable : againRefusal (imageIn a t) (getD os k noInput .file) ≡ 0
+        readable = rw file-is (again setting size table h pr fs L a k lo hi (at-place k hi) .0)

@@ -166,12 +166,13 @@ module _ (size w : ℕ) (s : Scan) (marks₀ : List ℕ) (f : Rela → Copy) (es
         let x = at ys a b in
         record {
           passed = λ e. bool-clash e;
-          met = λ _.
-              (l,
-              x .0,
-              subst (λ (d : Copy). some (crosses d) (ys ++ gather f (take i es)) ≡ true) is
-              (crossed-now size w (ys ++ gather f (take i es)) seen next marks (x .0) (x .1) c apart),
-              subst (λ (d : Copy). d .size ≡ 0 → ⊥) is some-bytes);
+          met = λ _. (
+            l,
+            x .0,
+            subst (λ (d : Copy). some (crosses d) (ys ++ gather f (take i es)) ≡ true) is
+                (crossed-now size w (ys ++ gather f (take i es)) seen next marks (x .0) (x .1) c apart),
+            subst (λ (d : Copy). d .size ≡ 0 → ⊥) is some-bytes,
+          );
         }
 
   pub walk-ends :
@@ -231,9 +232,10 @@ module _ (table : List ℕ) (os : List Input) (a : List ℕ) (ks : List ℕ) whe
 
     pub scan-begin : (s : Scan) → s .seen ≡ 0 → s .next ≡ length a → Scanning 0 s (replicate window 0)
     unfolding copiesAmong AllApart Each markOf
-    scan-begin s z n =
-        (record { count = sym z; apart = Prim.tt {0}; behind = Prim.tt {0}; ahead = λ l. omega arith; in-arena = Prim.tt {0} },
-        record { long = length-zeros window; is = λ x l. zeros window x })
+    scan-begin s z n = (
+      record { count = sym z; apart = Prim.tt {0}; behind = Prim.tt {0}; ahead = λ l. omega arith; in-arena = Prim.tt {0} },
+      record { long = length-zeros window; is = λ x l. zeros window x },
+    )
       where
         length-zeros : (n : ℕ) → length {A = ℕ} (replicate n 0) ≡ n
         length-zeros zero = refl
@@ -276,13 +278,14 @@ module _ (table : List ℕ) (os : List Input) (a : List ℕ) (ks : List ℕ) whe
       let front : List Copy = of (take i ks) in
       let pre : List Copy = gather f (take j es) in
       let post : List Copy = gather f (drop j es) in
-      let back : List Copy = of (drop (suc i) ks) in
-      (post ++ back,
-      append-assoc front pre (post ++ back)
-      ∙ (ap (λ (l : List Copy). front ++ l)
-      (sym (append-assoc pre post back)
-      ∙ ap (λ (l : List Copy). l ++ back) (sym (gather-append f (take j es) (drop j es)) ∙ ap (gather f) (take-append-drop j es)))
-      ∙ (sym (among-append (take i ks) (k ∷ drop (suc i) ks)) ∙ ap of (sym (split-at ks i 0 (g refl .object))))))
+      let back : List Copy = of (drop (suc i) ks) in (
+        post ++ back,
+        append-assoc front pre (post ++ back)
+            ∙ (ap (λ (l : List Copy). front ++ l)
+            (sym (append-assoc pre post back)
+            ∙ ap (λ (l : List Copy). l ++ back) (sym (gather-append f (take j es) (drop j es)) ∙ ap (gather f) (take-append-drop j es)))
+            ∙ (sym (among-append (take i ks) (k ∷ drop (suc i) ks)) ∙ ap of (sym (split-at ks i 0 (g refl .object))))),
+      )
 
   longer-of : (xs xr ys yr : List Copy) → xs ++ xr ≡ ys ++ yr → length xs ≤ length ys → (z : List Copy) × (ys ≡ xs ++ z)
   longer-of [] xr ys yr e l = (ys, refl)

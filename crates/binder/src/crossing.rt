@@ -77,7 +77,12 @@ fn apart_in(marks: &[u8], w: usize, c: Copy) -> bool
     if !marks_below(marks, in_window(w, c.to), in_window(w, c.to + c.size), 1) {
         return false;
     }
-    marks_below(marks, in_window(w, c.source), in_window(w, c.source + c.size), 2)
+    marks_below(
+        marks,
+        in_window(w, c.source),
+        in_window(w, c.source + c.size),
+        2,
+    )
 }
 
 fn mark_copy(marks: &mut [u8], w: usize, c: Copy)
@@ -85,7 +90,12 @@ fn mark_copy(marks: &mut [u8], w: usize, c: Copy)
     ensures { λ _. ⌜ CopyMarked (now (marks .entry)) (now (marks .exit)) w c ⌝ }
 {
     set_marks(marks, in_window(w, c.to), in_window(w, c.to + c.size), 2);
-    set_marks(marks, in_window(w, c.source), in_window(w, c.source + c.size), 1);
+    set_marks(
+        marks,
+        in_window(w, c.source),
+        in_window(w, c.source + c.size),
+        1,
+    );
 }
 
 // ---- an object
@@ -355,13 +365,7 @@ fn earlier_of(m: Crossing, q: Crossing) -> Crossing
 }
 
 // The first that crosses an earlier one: window by window.
-fn first_crossing(
-    bytes: &[u8],
-    parts: Parts,
-    arena: &[u8],
-    table: &[u64],
-    order: Order,
-) -> Crossing
+fn first_crossing(bytes: &[u8], parts: Parts, arena: &[u8], table: &[u64], order: Order) -> Crossing
     requires { ⌜ (order .count ≤ 64) × Filtered (now table) ⌝ }
     ensures { λ r. ⌜ Bounded (order .count) r × (Readable (now (table .entry)) (inputsIn (now (bytes .entry)) parts) (now (arena .entry)) (take (order .count) (order .list)) → FirstCrossing (now (table .entry)) (inputsIn (now (bytes .entry)) parts) (now (arena .entry)) (take (order .count) (order .list)) r) ⌝ }
 {
@@ -413,13 +417,7 @@ fn object_copies(arena: &[u8], t: Turn, file: &[u8]) -> bool
 }
 
 // Whether some object of the order has COPY entries.
-fn some_copies(
-    bytes: &[u8],
-    parts: Parts,
-    arena: &[u8],
-    table: &[u64],
-    order: Order,
-) -> bool
+fn some_copies(bytes: &[u8], parts: Parts, arena: &[u8], table: &[u64], order: Order) -> bool
     requires { ⌜ (order .count ≤ 64) × Filtered (now table) ⌝ }
     ensures { λ r. ⌜ (Readable (now (table .entry)) (inputsIn (now (bytes .entry)) parts) (now (arena .entry)) (take (order .count) (order .list)) → r ≡ false → NoCopiesIn (now (table .entry)) (inputsIn (now (bytes .entry)) parts) (now (arena .entry)) (take (order .count) (order .list))) ⌝ }
 {

@@ -68,7 +68,13 @@ fn search(arena: &[u8], table: &[u64], t: Turn, strings: usize, name: u32) -> Re
 }
 
 // COPY's search.
-pub(crate) fn search_copy(arena: &[u8], table: &[u64], t: Turn, strings: usize, name: u32) -> Resolved
+pub(crate) fn search_copy(
+    arena: &[u8],
+    table: &[u64],
+    t: Turn,
+    strings: usize,
+    name: u32,
+) -> Resolved
     requires { ⌜ Filtered (now table) ⌝ }
     ensures { λ r. ⌜ r ≡ soughtForCopy (now (table .entry)) (now (arena .entry)) (nameAt (imageIn (now (arena .entry)) t) (strings + name)) ⌝ }
 {

@@ -31,9 +31,14 @@ same-length-2 c =
 returns : tie.Need-returns
 returns c =
     let a = c .before .before .before .before .before .before .before .before .before .before .before .before .before .before .args in
-    λ r u.
-    (c .before .before .before .before .crossed .kept .1 .1 .0, c .before .before .before .before .crossed .kept .1 .1 .1 .0, c .before .before .before .before .before .before .before .before .crossing-in .result, c .before .before .before .before .before .before .before .before .crossing-in .ensures .1 r, (λ e. bool-clash (sym (c .before .before .before .before .before .before .before .if1 .taken) ∙ e)),
-    (λ e. c .before .before .before .before .crossed .ensures (u (c .before .before .before .before .before .before .before .before .crossing-in .result .index) (crossing-index (now (a .table)) (inputsIn (now (a .bytes)) (a .parts)) (now (a .arena)) (take (a .order .count) (a .order .list)) (c .before .before .before .before .before .before .before .before .crossing-in .result) (c .before .before .before .before .before .before .before .before .crossing-in .ensures .1 r) e))))
+    λ r u. (
+      c .before .before .before .before .crossed .kept .1 .1 .0,
+      c .before .before .before .before .crossed .kept .1 .1 .1 .0,
+      c .before .before .before .before .before .before .before .before .crossing-in .result,
+      c .before .before .before .before .before .before .before .before .crossing-in .ensures .1 r,
+      (λ e. bool-clash (sym (c .before .before .before .before .before .before .before .if1 .taken) ∙ e)),
+      (λ e. c .before .before .before .before .crossed .ensures (u (c .before .before .before .before .before .before .before .before .crossing-in .result .index) (crossing-index (now (a .table)) (inputsIn (now (a .bytes)) (a .parts)) (now (a .arena)) (take (a .order .count) (a .order .list)) (c .before .before .before .before .before .before .before .before .crossing-in .result) (c .before .before .before .before .before .before .before .before .crossing-in .ensures .1 r) e))),
+    )
 
 run-order-requires : tie.Need-run-order-requires
 run-order-requires c κs =
@@ -49,10 +54,14 @@ same-length-4 c =
 
 returns-2 : tie.Need-returns-2
 returns-2 c =
-    λ r u.
-    (c .before .before .before .before .before .run-order .kept .1 .1 .0, c .before .before .before .before .before .run-order .kept .1 .1 .1 .0, c .before .before .before .before .before .before .before .before .before .crossing-in .result, c .before .before .before .before .before .before .before .before .before .crossing-in .ensures .1 r,
-    (λ e. record { progress = c .before .before .before .before .before .run-order .result; leaves = c .before .before .before .before .before .run-order .ensures; met = c .end .ensures }),
-    (λ e. bool-clash (sym e ∙ c .before .before .before .before .before .before .before .before .if1 .left)))
+    λ r u. (
+      c .before .before .before .before .before .run-order .kept .1 .1 .0,
+      c .before .before .before .before .before .run-order .kept .1 .1 .1 .0,
+      c .before .before .before .before .before .before .before .before .before .crossing-in .result,
+      c .before .before .before .before .before .before .before .before .before .crossing-in .ensures .1 r,
+      (λ e. record { progress = c .before .before .before .before .before .run-order .result; leaves = c .before .before .before .before .before .run-order .ensures; met = c .end .ensures }),
+      (λ e. bool-clash (sym e ∙ c .before .before .before .before .before .before .before .before .if1 .left)),
+    )
 
 pub bind-in-spec : {M : Type 1} → statement M
 bind-in-spec =

@@ -54,11 +54,14 @@ loop-less c =
 loop-again : tie.Need-loop-again Inv-loop μ-loop
 loop-again c =
     let a = c .before .before .before .before .before .before .before .before .args in
-    let l = c .before .before .before .before .loop in
-    (omega (arith, l .inv .0), omega arith, λ h.
-    l .inv .2
-    (no-copies-next (now (a .image)) (a .at) (l .i) (a .n) (c .before .before .before .loop-test .taken)
-    (ap (λ (t : ℕ). copiesRow (rowOf t)) (type-in (now (a .image)) (a .at) (l .i) (l .k) (l .inv .0) ∙ sym (c .before .before .u32-in .ensures)) ∙ (sym (c .before .is-copy .ensures) ∙ c .if3 .left)) h))
+    let l = c .before .before .before .before .loop in (
+      omega (arith, l .inv .0),
+      omega arith,
+      λ h.
+          l .inv .2
+          (no-copies-next (now (a .image)) (a .at) (l .i) (a .n) (c .before .before .before .loop-test .taken)
+          (ap (λ (t : ℕ). copiesRow (rowOf t)) (type-in (now (a .image)) (a .at) (l .i) (l .k) (l .inv .0) ∙ sym (c .before .before .u32-in .ensures)) ∙ (sym (c .before .is-copy .ensures) ∙ c .if3 .left)) h),
+    )
 
 returns-4 : tie.Need-returns-4 Inv-loop μ-loop
 unfolding no-specs.relasFrom no-copies.NoCopies

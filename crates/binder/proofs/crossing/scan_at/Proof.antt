@@ -16,9 +16,12 @@ scan-object-requires c κs =
 
 returns : tie.Need-returns
 returns c =
-    let a = c .before .before .before .before .before .before .before .before .before .before .args in
-    (c .before .before .scan-object .ensures .0, c .before .before .scan-object .ensures .1, c .before .before .scan-object .ensures .2,
-    walk-at (length (now (a .arena))) (a .w) (a .s) (now (a .marks)) _ _ (now (a .table)) (now (a .arena)) (now (a .file)) (a .k) (c .before .before .before .before .before .turn-of .ensures) (c .before .before .before .before .record-again .ensures) (c .before .before .scan-object .ensures .3))
+    let a = c .before .before .before .before .before .before .before .before .before .before .args in (
+      c .before .before .scan-object .ensures .0,
+      c .before .before .scan-object .ensures .1,
+      c .before .before .scan-object .ensures .2,
+      walk-at (length (now (a .arena))) (a .w) (a .s) (now (a .marks)) _ _ (now (a .table)) (now (a .arena)) (now (a .file)) (a .k) (c .before .before .before .before .before .turn-of .ensures) (c .before .before .before .before .record-again .ensures) (c .before .before .scan-object .ensures .3),
+    )
 
 pub scan-at-spec : {M : Type 1} → statement M
 scan-at-spec =

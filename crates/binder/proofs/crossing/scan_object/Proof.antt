@@ -47,9 +47,16 @@ loop-less c =
 loop-again : tie.Need-loop-again Inv-loop μ-loop
 loop-again c =
     let a = c .before .before .before .before .before .before .before .before .before .before .before .args in
-    let l = c .before .before .before .before .before .loop in
-    (l .inv .0, l .inv .1, l .inv .2, omega arith, omega (arith, l .inv .4), l .inv .5,
-    walk-skips (length (now (a .arena))) (a .w) (record { seen = a .s .seen; next = a .s .next; hit = false; entry = 0 }) (now (a .marks)) (seenOf (now (a .table)) (now (a .arena)) (a .t) (heldBy (a .o))) (entriesOf (imageIn (now (a .arena)) (a .t)) (heldBy (a .o))) (l .i) (l .seen) (l .next) (l .marks) (l .inv .6) (omega (arith, l .inv .1, c .before .before .before .before .loop-test .taken)) (sym (ap (λ (c : Copy). c .size) (c .before .before .copy-of .ensures ∙ ap (seenOf (now (a .table)) (now (a .arena)) (a .t) (heldBy (a .o))) (c .before .before .before .entry-at .ensures))) ∙ c .if1 .taken), l .inv .7)
+    let l = c .before .before .before .before .before .loop in (
+      l .inv .0,
+      l .inv .1,
+      l .inv .2,
+      omega arith,
+      omega (arith, l .inv .4),
+      l .inv .5,
+      walk-skips (length (now (a .arena))) (a .w) (record { seen = a .s .seen; next = a .s .next; hit = false; entry = 0 }) (now (a .marks)) (seenOf (now (a .table)) (now (a .arena)) (a .t) (heldBy (a .o))) (entriesOf (imageIn (now (a .arena)) (a .t)) (heldBy (a .o))) (l .i) (l .seen) (l .next) (l .marks) (l .inv .6) (omega (arith, l .inv .1, c .before .before .before .before .loop-test .taken)) (sym (ap (λ (c : Copy). c .size) (c .before .before .copy-of .ensures ∙ ap (seenOf (now (a .table)) (now (a .arena)) (a .t) (heldBy (a .o))) (c .before .before .before .entry-at .ensures))) ∙ c .if1 .taken),
+      l .inv .7,
+    )
 
 apart-in-requires : tie.Need-apart-in-requires Inv-loop μ-loop
 apart-in-requires c κs =
@@ -64,10 +71,13 @@ same-length c =
 returns : tie.Need-returns Inv-loop μ-loop
 returns c =
     let a = c .before .before .before .before .before .before .before .before .before .before .before .before .before .before .args in
-    let l = c .before .before .before .before .before .before .before .before .loop in
-    (omega (arith, l .inv .4, l .inv .3, l .inv .2), omega (arith, l .inv .3, l .inv .2), l .inv .5,
-    walk-stops (length (now (a .arena))) (a .w) (record { seen = a .s .seen; next = a .s .next; hit = false; entry = 0 }) (now (a .marks)) (seenOf (now (a .table)) (now (a .arena)) (a .t) (heldBy (a .o))) (entriesOf (imageIn (now (a .arena)) (a .t)) (heldBy (a .o))) (l .i) (l .seen) (l .next) (l .marks) (l .inv .6) (omega (arith, l .inv .1, c .before .before .before .before .before .before .before .loop-test .taken)) (c .before .before .before .before .before .copy-of .result) (c .before .before .before .before .before .copy-of .ensures ∙ ap (seenOf (now (a .table)) (now (a .arena)) (a .t) (heldBy (a .o))) (c .before .before .before .before .before .before .entry-at .ensures)) (c .before .before .before .if1 .left)
-    (subst (ApartIn (l .marks) (a .w) (c .before .before .before .before .before .copy-of .result)) (not-true (c .before .apart-in .result) (c .if2 .taken)) (c .before .apart-in .ensures)))
+    let l = c .before .before .before .before .before .before .before .before .loop in (
+      omega (arith, l .inv .4, l .inv .3, l .inv .2),
+      omega (arith, l .inv .3, l .inv .2),
+      l .inv .5,
+      walk-stops (length (now (a .arena))) (a .w) (record { seen = a .s .seen; next = a .s .next; hit = false; entry = 0 }) (now (a .marks)) (seenOf (now (a .table)) (now (a .arena)) (a .t) (heldBy (a .o))) (entriesOf (imageIn (now (a .arena)) (a .t)) (heldBy (a .o))) (l .i) (l .seen) (l .next) (l .marks) (l .inv .6) (omega (arith, l .inv .1, c .before .before .before .before .before .before .before .loop-test .taken)) (c .before .before .before .before .before .copy-of .result) (c .before .before .before .before .before .copy-of .ensures ∙ ap (seenOf (now (a .table)) (now (a .arena)) (a .t) (heldBy (a .o))) (c .before .before .before .before .before .before .entry-at .ensures)) (c .before .before .before .if1 .left)
+          (subst (ApartIn (l .marks) (a .w) (c .before .before .before .before .before .copy-of .result)) (not-true (c .before .apart-in .result) (c .if2 .taken)) (c .before .apart-in .ensures)),
+    )
 
 mark-copy-requires : tie.Need-mark-copy-requires Inv-loop μ-loop
 mark-copy-requires c κs =
@@ -92,11 +102,18 @@ loop-less-2 c =
 loop-again-2 : tie.Need-loop-again-2 Inv-loop μ-loop
 loop-again-2 c =
     let a = c .before .before .before .before .before .before .before .before .before .before .before .before .before .before .before .before .before .before .before .args in
-    let l = c .before .before .before .before .before .before .before .before .before .before .before .before .before .loop in
-    (c .before .before .before .mark-copy .ensures .long ∙ l .inv .0, l .inv .1, l .inv .2, omega arith, omega (arith, l .inv .4), (λ h. next-more (a .w) (l .next) (c .before .before .before .before .before .before .before .before .before .before .copy-of .result) (c .next-after .ensures) (l .inv .5 h)),
-    walk-goes (length (now (a .arena))) (a .w) (record { seen = a .s .seen; next = a .s .next; hit = false; entry = 0 }) (now (a .marks)) (seenOf (now (a .table)) (now (a .arena)) (a .t) (heldBy (a .o))) (entriesOf (imageIn (now (a .arena)) (a .t)) (heldBy (a .o))) (l .i) (l .seen) (l .next) (l .marks) (l .inv .6) (omega (arith, l .inv .1, c .before .before .before .before .before .before .before .before .before .before .before .before .loop-test .taken)) (c .before .before .before .before .before .before .before .before .before .before .copy-of .result) (c .before .before .before .before .before .before .before .before .before .before .copy-of .ensures ∙ ap (seenOf (now (a .table)) (now (a .arena)) (a .t) (heldBy (a .o))) (c .before .before .before .before .before .before .before .before .before .before .before .entry-at .ensures)) (c .before .before .before .before .before .before .before .before .if1 .left) _ _
-    (subst (ApartIn (l .marks) (a .w) (c .before .before .before .before .before .before .before .before .before .before .copy-of .result)) (not-false (c .before .before .before .before .before .before .apart-in .result) (c .before .before .before .before .before .if2 .left)) (c .before .before .before .before .before .before .apart-in .ensures))
-    (c .before .before .before .mark-copy .ensures) (subst (Fits (length (now (a .arena)))) (sym (c .before .before .before .before .before .before .before .before .before .before .copy-of .ensures)) (seen-fits (now (a .table)) (now (a .arena)) (a .t) (heldBy (a .o)) (c .before .before .before .before .before .before .before .before .before .before .before .entry-at .result) (rowOf (c .before .before .before .before .before .before .before .before .before .before .before .entry-at .result .rtype)))) (c .next-after .ensures), l .inv .7)
+    let l = c .before .before .before .before .before .before .before .before .before .before .before .before .before .loop in (
+      c .before .before .before .mark-copy .ensures .long ∙ l .inv .0,
+      l .inv .1,
+      l .inv .2,
+      omega arith,
+      omega (arith, l .inv .4),
+      (λ h. next-more (a .w) (l .next) (c .before .before .before .before .before .before .before .before .before .before .copy-of .result) (c .next-after .ensures) (l .inv .5 h)),
+      walk-goes (length (now (a .arena))) (a .w) (record { seen = a .s .seen; next = a .s .next; hit = false; entry = 0 }) (now (a .marks)) (seenOf (now (a .table)) (now (a .arena)) (a .t) (heldBy (a .o))) (entriesOf (imageIn (now (a .arena)) (a .t)) (heldBy (a .o))) (l .i) (l .seen) (l .next) (l .marks) (l .inv .6) (omega (arith, l .inv .1, c .before .before .before .before .before .before .before .before .before .before .before .before .loop-test .taken)) (c .before .before .before .before .before .before .before .before .before .before .copy-of .result) (c .before .before .before .before .before .before .before .before .before .before .copy-of .ensures ∙ ap (seenOf (now (a .table)) (now (a .arena)) (a .t) (heldBy (a .o))) (c .before .before .before .before .before .before .before .before .before .before .before .entry-at .ensures)) (c .before .before .before .before .before .before .before .before .if1 .left) _ _
+          (subst (ApartIn (l .marks) (a .w) (c .before .before .before .before .before .before .before .before .before .before .copy-of .result)) (not-false (c .before .before .before .before .before .before .apart-in .result) (c .before .before .before .before .before .if2 .left)) (c .before .before .before .before .before .before .apart-in .ensures))
+          (c .before .before .before .mark-copy .ensures) (subst (Fits (length (now (a .arena)))) (sym (c .before .before .before .before .before .before .before .before .before .before .copy-of .ensures)) (seen-fits (now (a .table)) (now (a .arena)) (a .t) (heldBy (a .o)) (c .before .before .before .before .before .before .before .before .before .before .before .entry-at .result) (rowOf (c .before .before .before .before .before .before .before .before .before .before .before .entry-at .result .rtype)))) (c .next-after .ensures),
+      l .inv .7,
+    )
 
 same-length-2 : tie.Need-same-length-2 Inv-loop μ-loop
 same-length-2 c =

@@ -38,9 +38,11 @@ loop-less c =
 loop-again : tie.Need-loop-again Inv-loop μ-loop
 loop-again c =
     let a = c .before .before .before .before .before .before .before .before .before .before .args in
-    let l = c .before .before .before .before .before .loop in
-    (l .inv .0, none-next (now (a .table)) (inputsIn (now (a .bytes)) (a .parts)) (now (a .arena)) (a .order .list) (a .order .count) (l .i) (l .inv .0) (c .before .before .before .before .loop-test .taken)
-    (c .before .before .turn-of .ensures) (c .before .before .before .file-of .ensures) (l .inv .1) (c .before .object-copies .ensures) (c .if1 .left))
+    let l = c .before .before .before .before .before .loop in (
+      l .inv .0,
+      none-next (now (a .table)) (inputsIn (now (a .bytes)) (a .parts)) (now (a .arena)) (a .order .list) (a .order .count) (l .i) (l .inv .0) (c .before .before .before .before .loop-test .taken)
+          (c .before .before .turn-of .ensures) (c .before .before .before .file-of .ensures) (l .inv .1) (c .before .object-copies .ensures) (c .if1 .left),
+    )
 
 returns-2 : tie.Need-returns-2 Inv-loop μ-loop
 returns-2 c =
