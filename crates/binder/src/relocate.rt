@@ -697,8 +697,8 @@ pub(crate) fn run_until(
         first: 0,
         count: front as u32,
     };
-    let z = crate::report::keep(p, 0, 0);
-    let q = run_table(arena, report, z, table, t, o, rela);
+    let fresh = crate::report::keep(p, 0, 0);
+    let q = run_table(arena, report, fresh, table, t, o, rela);
     if q.refusal != 0 {
         return q;
     }
