@@ -23,7 +23,7 @@ use Rattle.binder.specs.declared.Verdict.the-variants.{Passed}
 use Rattle.binder.specs.Report.{reportWord, isUndefined, isPassed, entryReport, objectWords, orderWords, hasUndefined, firstUndefined}
 use Rattle.binder.proofs.SoundLaws.{order-checked}
 use Rattle.binder.proofs.RelocatedIs.{times-end}
-use Rattle.demands.specs.OwnOrders.{wordsOf}
+use Rattle.demands.specs.OwnOrders.{wordsOfObject}
 
 -- ---- orders of the same objects
 
@@ -174,15 +174,15 @@ again (suc n) ws = ws ++ again n ws
 module _ (k : ℕ) where
   -- a word of another kind than 5, which is not 0
   other-word :
-      (here : Bool) (w : ℕ) (ws : List ℕ) → (w / 2 ^ 28 ≡ 5 → ⊥) → (w ≡ 0 → ⊥) → wordsOf k here (w ∷ ws) ≡ pick here (w ∷ []) [] ++ wordsOf k here ws
-  unfolding wordsOf
+      (here : Bool) (w : ℕ) (ws : List ℕ) → (w / 2 ^ 28 ≡ 5 → ⊥) → (w ≡ 0 → ⊥) → wordsOfObject k here (w ∷ ws) ≡ pick here (w ∷ []) [] ++ wordsOfObject k here ws
+  unfolding wordsOfObject
   other-word true w ws ne nz = rw (ne-eqb _ _ ne, ne-eqb _ _ nz)
   other-word false w ws ne nz = rw (ne-eqb _ _ ne)
 
   entry-words :
       (here : Bool) (i : ℕ) (s t : Bool) (ws : List ℕ)
-      → wordsOf k here (pick s (reportWord 6 i ∷ []) (pick t (reportWord 7 i ∷ []) []) ++ ws)
-      ≡ pick here (pick s (reportWord 6 i ∷ []) (pick t (reportWord 7 i ∷ []) [])) [] ++ wordsOf k here ws
+      → wordsOfObject k here (pick s (reportWord 6 i ∷ []) (pick t (reportWord 7 i ∷ []) []) ++ ws)
+      ≡ pick here (pick s (reportWord 6 i ∷ []) (pick t (reportWord 7 i ∷ []) [])) [] ++ wordsOfObject k here ws
   entry-words here i true t ws = other-word here (reportWord 6 i) ws (λ e. omega arith) (λ e. omega arith)
   entry-words here i false true ws = other-word here (reportWord 7 i) ws (λ e. omega arith) (λ e. omega arith)
   entry-words true i false false ws = refl
@@ -194,22 +194,22 @@ module _ (k : ℕ) where
 
   entries-words :
       (here : Bool) (row : ℕ → Row) (S : Objs) (j : ℕ) (image : List ℕ) (r : Record) (i : ℕ) (es : List Rela) (ws : List ℕ)
-      → wordsOf k here (entryReport row S j image r i es ++ ws) ≡ pick here (entryReport row S j image r i es) [] ++ wordsOf k here ws
+      → wordsOfObject k here (entryReport row S j image r i es ++ ws) ≡ pick here (entryReport row S j image r i es) [] ++ wordsOfObject k here ws
   unfolding entryReport
   entries-words true row S j image r i [] ws = refl
   entries-words false row S j image r i [] ws = refl
   entries-words here row S j image r i (e ∷ es) ws =
       let x : List ℕ = pick (isUndefined row S j image r e) (reportWord 6 i ∷ []) (pick (isPassed (row (e .rtype))) (reportWord 7 i ∷ []) []) in
-      ap (wordsOf k here) (append-assoc x (entryReport row S j image r (i + 1) es) ws)
+      ap (wordsOfObject k here) (append-assoc x (entryReport row S j image r (i + 1) es) ws)
       ∙ (entry-words here i (isUndefined row S j image r e) (isPassed (row (e .rtype))) (entryReport row S j image r (i + 1) es ++ ws)
       ∙ (ap (λ (l : List ℕ). pick here x [] ++ l) (entries-words here row S j image r (i + 1) es ws)
-      ∙ joined here x (entryReport row S j image r (i + 1) es) (wordsOf k here ws)))
+      ∙ joined here x (entryReport row S j image r (i + 1) es) (wordsOfObject k here ws)))
 
   -- a word of kind 5
   first-word :
       (here : Bool) (j : ℕ) (ws : List ℕ) → j < 2 ^ 28
-      → wordsOf k here (reportWord 5 j ∷ ws) ≡ pick (eqb j k) (reportWord 5 j ∷ wordsOf k true ws) (wordsOf k false ws)
-  unfolding wordsOf
+      → wordsOfObject k here (reportWord 5 j ∷ ws) ≡ pick (eqb j k) (reportWord 5 j ∷ wordsOfObject k true ws) (wordsOfObject k false ws)
+  unfolding wordsOfObject
   first-word here j ws h =
       let d : (5 * 2 ^ 28 + j) / 2 ^ 28 ≡ 5 = omega arith in
       rw (eq-eqb _ _ d)
@@ -218,8 +218,8 @@ module _ (k : ℕ) where
       (λ (t : eqb j k ≡ false). rw (t, ne-eqb (5 * 2 ^ 28 + j) (5 * 2 ^ 28 + k) (λ e. eqb-false j k t (omega arith))))
       (decide (eqb j k)))
 
-  zero-words : (here : Bool) (n : ℕ) → wordsOf k here (replicate n 0) ≡ []
-  unfolding wordsOf
+  zero-words : (here : Bool) (n : ℕ) → wordsOfObject k here (replicate n 0) ≡ []
+  unfolding wordsOfObject
   zero-words true zero = refl
   zero-words false zero = refl
   zero-words true (suc n) = zero-words true n
@@ -228,7 +228,7 @@ module _ (k : ℕ) where
   module _ (row : ℕ → Row) (S : Objs) (files : List File) where
     object-words :
         (here : Bool) (j : ℕ) (f : File) (ws : List ℕ) → j < 2 ^ 28
-        → wordsOf k here (objectWords row S j f ++ ws) ≡ pick (eqb j k) (objectWords row S j f ++ wordsOf k true ws) (wordsOf k false ws)
+        → wordsOfObject k here (objectWords row S j f ++ ws) ≡ pick (eqb j k) (objectWords row S j f ++ wordsOfObject k true ws) (wordsOfObject k false ws)
     unfolding objectWords
     object-words here j f ws h =
         first-word here j _ h
@@ -243,12 +243,12 @@ module _ (k : ℕ) where
     -- of an order: its words, as often as it is there
     pub order-words :
         (here : Bool) (order : List ℕ) (n : ℕ) → ((j : ℕ) → 0 < times j order → j < 2 ^ 28)
-        → wordsOf k here (orderWords row S files order ++ replicate n 0) ≡ again (times k order) (objectWords row S k (getD files k noFile))
+        → wordsOfObject k here (orderWords row S files order ++ replicate n 0) ≡ again (times k order) (objectWords row S k (getD files k noFile))
     unfolding orderWords again
     order-words here [] n small = zero-words here n
     order-words here (j ∷ js) n small =
         let f : File = getD files j noFile in
-        ap (wordsOf k here) (append-assoc (objectWords row S j f) (orderWords row S files js) (replicate n 0))
+        ap (wordsOfObject k here) (append-assoc (objectWords row S j f) (orderWords row S files js) (replicate n 0))
         ∙ (object-words here j f (orderWords row S files js ++ replicate n 0) (small j (times-head j js))
         ∙ ⊎-elim
         (λ (t : eqb j k ≡ true).

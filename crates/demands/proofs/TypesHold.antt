@@ -23,22 +23,22 @@ use Rattle.binder.specs.Verdict.{refusalBy}
 use Rattle.binder.specs.Report.{undefinedBy}
 use Rattle.binder.specs.Bind.{bindOf, unless, prepareVerdict}
 use Rattle.binder.specs.Steps.TypesBefore.{rowBefore, settingBefore}
-use Rattle.demands.specs.TypeCases.{Marked, TypeCases, SuppliedTypes}
+use Rattle.demands.specs.TypeCases.{MarkedAs, TypeCases, SuppliedTypes}
 
 -- ---- what a word does
 
 module _ (types : List ℕ) (rtype : ℕ) where
-  applies : Marked types 9 rtype → rowIn types rtype ≡ appliedRow rtype
+  applies : MarkedAs types 9 rtype → rowIn types rtype ≡ appliedRow rtype
   unfolding rowIn rowUnder
   applies m = rw (lt-ltb rtype 64 (m .0), eq-eqb _ _ (m .1))
 
-  passes : Marked types 10 rtype → rowIn types rtype ≡ pick (eqb rtype 0) ignored passedOver
+  passes : MarkedAs types 10 rtype → rowIn types rtype ≡ pick (eqb rtype 0) ignored passedOver
   unfolding rowIn rowUnder
   passes m =
       let not-9 : getD types rtype 0 ≡ typeWord 9 rtype → ⊥ = λ e. omega (arith, m .1) in
       rw (lt-ltb rtype 64 (m .0), ne-eqb _ _ not-9, eq-eqb _ _ (m .1))
 
-  refuses : Marked types 11 rtype → rowIn types rtype ≡ pick (eqb rtype 37) turnedAway markedRefuse
+  refuses : MarkedAs types 11 rtype → rowIn types rtype ≡ pick (eqb rtype 37) turnedAway markedRefuse
   unfolding rowIn rowUnder
   refuses m =
       let not-9 : getD types rtype 0 ≡ typeWord 9 rtype → ⊥ = λ e. omega (arith, m .1) in

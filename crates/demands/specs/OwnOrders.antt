@@ -90,17 +90,17 @@ abbrev pub isBound : Outcome → Bool
 isBound (outcome answer arena report) = bindsIt answer
 
 -- the words of object `k` in a report: its word of kind 5, and the words after it up to the next of kind 5; `here` after its word of kind 5
-unfoldable pub wordsOf : ℕ → Bool → List ℕ → List ℕ
-wordsOf k here [] = []
-wordsOf k here (w ∷ ws) =
-    pick (eqb (w / 2 ^ 28) 5) (pick (eqb w (reportWord 5 k)) (w ∷ wordsOf k true ws) (wordsOf k false ws))
-    (pick (both here (not (eqb w 0))) (w ∷ wordsOf k here ws) (wordsOf k here ws))
+unfoldable pub wordsOfObject : ℕ → Bool → List ℕ → List ℕ
+wordsOfObject k here [] = []
+wordsOfObject k here (w ∷ ws) =
+    pick (eqb (w / 2 ^ 28) 5) (pick (eqb w (reportWord 5 k)) (w ∷ wordsOfObject k true ws) (wordsOfObject k false ws))
+    (pick (both here (not (eqb w 0))) (w ∷ wordsOfObject k here ws) (wordsOfObject k here ws))
 
 -- two calls that bind a set, or both refuse it: the same bytes, and of each object the same words
 pub record SameBinding (a b : Outcome) : Type 0 where
   pub bound : isBound a ≡ isBound b
   pub arena : arenaOf a ≡ arenaOf b
-  pub words : (k : ℕ) → wordsOf k false (reportOf a) ≡ wordsOf k false (reportOf b)
+  pub words : (k : ℕ) → wordsOfObject k false (reportOf a) ≡ wordsOfObject k false (reportOf b)
 
 -- "For sets whose only COPY entries are the program's, .. every such order leaves the same arena": the one that document 01's leaves, whatever the words of the types
 abbrev pub OrderFree : Type 0

@@ -40,8 +40,8 @@ use Rattle.binder.specs.Verdict.{copyOk, copyRefusal}
 use Rattle.binder.specs.Bind.{allows, prepareVerdict, refusedQuery, askSet}
 
 -- a PT_LOAD of 16 bytes at 0 with these flags, p_memsz and p_align
-abbrev pub load : ℕ → ℕ → ℕ → Segment
-load flags memsz align = record { flags = flags; offset = 0; vaddr = 0; filesz = 16; memsz = memsz; align = align }
+abbrev pub loadWith : ℕ → ℕ → ℕ → Segment
+loadWith flags memsz align = record { flags = flags; offset = 0; vaddr = 0; filesz = 16; memsz = memsz; align = align }
 
 -- an entry of the dynamic array that is there
 abbrev pub given : ℕ → Field
@@ -65,15 +65,15 @@ pub record FileCases : Type 0 where
   -- "Host: length no multiple of 4,096"; "no read flag" (PF_R is 4), "zero fill without write flag" (PF_W is 2)
   pub host-part-page :
       (room : ℕ) (file : List ℕ) → headerRefusal file ≡ 0 → eqb (length file % pageSize) 0 ≡ false → objectRefusal true room file ≡ 7
-  pub execute-only : flagsOk (load 1 16 4096) ≡ false
-  pub read-only : flagsOk (load 4 16 4096) ≡ true
-  pub zeros-read-only : flagsOk (load 4 17 4096) ≡ false
-  pub zeros-writable : flagsOk (load 6 17 4096) ≡ true
+  pub execute-only : flagsOk (loadWith 1 16 4096) ≡ false
+  pub read-only : flagsOk (loadWith 4 16 4096) ≡ true
+  pub zeros-read-only : flagsOk (loadWith 4 17 4096) ≡ false
+  pub zeros-writable : flagsOk (loadWith 6 17 4096) ≡ true
   -- "a PT_LOAD p_align .. other than 0 that is no power of two or is over 2,097,152"
-  pub align-0 : alignOk (load 4 16 0) ≡ true
-  pub align-3 : alignOk (load 4 16 3) ≡ false
-  pub align-limit : alignOk (load 4 16 2097152) ≡ true
-  pub align-over : alignOk (load 4 16 4194304) ≡ false
+  pub align-0 : alignOk (loadWith 4 16 0) ≡ true
+  pub align-3 : alignOk (loadWith 4 16 3) ≡ false
+  pub align-limit : alignOk (loadWith 4 16 2097152) ≡ true
+  pub align-over : alignOk (loadWith 4 16 4194304) ≡ false
   -- "the host's excepted"; 21 comes before 8
   pub host-align : (file : List ℕ) → objectAlign true file ≡ 4096
   pub host-not-21 : (file : List ℕ) → headerRefusal file ≡ 0 → fileRefusal true file ≢ 21

@@ -23,8 +23,8 @@ use Rattle.binder.specs.Bind.{prepareVerdict, typesVerdict, bindOf}
 use Rattle.binder.specs.Steps.TypesBefore.{settingBefore}
 
 -- word t of the words is of that kind
-abbrev pub Marked : List ℕ → ℕ → ℕ → Type 0
-Marked types kind rtype = (rtype < 64) × (getD types rtype 0 ≡ typeWord kind rtype)
+abbrev pub MarkedAs : List ℕ → ℕ → ℕ → Type 0
+MarkedAs types kind rtype = (rtype < 64) × (getD types rtype 0 ≡ typeWord kind rtype)
 
 -- the supplied words, with another word for a type
 abbrev pub edited : ℕ → ℕ → List ℕ
@@ -32,22 +32,22 @@ edited rtype word = set suppliedTypes rtype word
 
 pub record TypeCases : Type 0 where
   -- "kind 9 (apply)": the row of the type, whatever the other words
-  pub applied : (types : List ℕ) (rtype : ℕ) → Marked types 9 rtype → rowIn types rtype ≡ appliedRow rtype
+  pub applied : (types : List ℕ) (rtype : ℕ) → MarkedAs types 9 rtype → rowIn types rtype ≡ appliedRow rtype
   -- "10 (pass)": the entry writes nothing, meets no refusal, and is not undefined, whatever its symbol and its place
   pub passed-writes :
-      (types image : List ℕ) (r : Record) (base : ℕ) (e : Rela) → Marked types 10 (e .rtype) → entryOf (rowIn types) image r base e ≡ pass
+      (types image : List ℕ) (r : Record) (base : ℕ) (e : Rela) → MarkedAs types 10 (e .rtype) → entryOf (rowIn types) image r base e ≡ pass
   pub passed-meets :
-      (types : List ℕ) (S : Objs) (k : ℕ) (image : List ℕ) (r : Record) (e : Rela) → Marked types 10 (e .rtype)
+      (types : List ℕ) (S : Objs) (k : ℕ) (image : List ℕ) (r : Record) (e : Rela) → MarkedAs types 10 (e .rtype)
       → entryRefusal (rowIn types) S k image r e ≡ 0
   pub passed-defined :
-      (types : List ℕ) (S : Objs) (k : ℕ) (image : List ℕ) (r : Record) (e : Rela) → Marked types 10 (e .rtype)
+      (types : List ℕ) (S : Objs) (k : ℕ) (image : List ℕ) (r : Record) (e : Rela) → MarkedAs types 10 (e .rtype)
       → isUndefined (rowIn types) S k image r e ≡ false
   -- it has a word of kind 7, "type 0 excepted"
-  pub passed-reported : (types : List ℕ) (rtype : ℕ) → Marked types 10 rtype → 1 ≤ rtype → isPassed (rowIn types rtype) ≡ true
-  pub zero-unreported : (types : List ℕ) → Marked types 10 0 → isPassed (rowIn types 0) ≡ false
+  pub passed-reported : (types : List ℕ) (rtype : ℕ) → MarkedAs types 10 rtype → 1 ≤ rtype → isPassed (rowIn types rtype) ≡ true
+  pub zero-unreported : (types : List ℕ) → MarkedAs types 10 0 → isPassed (rowIn types 0) ≡ false
   -- "11 (refuse)": "Type 37 marked refuse keeps number 16", "25, .., an entry of another type marked refuse"
   pub refused :
-      (types : List ℕ) (S : Objs) (k : ℕ) (image : List ℕ) (r : Record) (e : Rela) → Marked types 11 (e .rtype)
+      (types : List ℕ) (S : Objs) (k : ℕ) (image : List ℕ) (r : Record) (e : Rela) → MarkedAs types 11 (e .rtype)
       → entryRefusal (rowIn types) S k image r e ≡ pick (eqb (e .rtype) 37) 16 25
   -- "Types above 63 are passed over", whatever the words
   pub above : (types : List ℕ) (rtype : ℕ) → 64 ≤ rtype → rowIn types rtype ≡ passedOver
