@@ -6,8 +6,8 @@
  * - answer every call that keeps to "What the caller owes"; what they answer is proved, for any contents of the slices, refused calls too
  *   (crates/export/src/lib.rt, crates/export/specs/Calls.antt);
  * - keep no pointer, allocate nothing, have no global state, and may run in several threads at once over different memory;
- * - use about 54 KiB of stack (lugwormpin_bind), 59 KiB (lugwormpin_bind_ordered), 61 KiB (lugwormpin_start_stop) or 45 KiB (lugwormpin_query, lugwormpin_query_all), whatever the set:
- *   the sum of the compiled frames;
+ * - use about 54 KiB of stack (lugwormpin_bind) or 45 KiB (lugwormpin_query, lugwormpin_query_all), whatever the set: the sum of the compiled frames.
+ *   lugwormpin_bind_ordered and lugwormpin_start_stop take some 5 and 7 KiB more than lugwormpin_bind, by the stack that a call was seen to touch;
  * - end on every input, but a file can be made so that a call takes seconds (docs/BENCHMARKS.md): bound the size of files of unknown origin,
  *   or the time of the call.
  *
