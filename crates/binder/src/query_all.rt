@@ -3,7 +3,7 @@ ghost use mathlib.Core.Path.{_≡_};
 ghost use mathlib.Core.Bool.{true};
 ghost use mathlib.Core.List.{map};
 ghost use Prim.Native.Nat.{_≤_};
-ghost use lib.ListN.{length, replicate};
+ghost use lib.ListN.{length};
 ghost use Rattle.model.specs.Relocation.{addressOr0};
 ghost use Rattle.sheet.specs.Steps.Parts.{inputsIn};
 ghost use Rattle.scope.specs.Steps.Links.{Filtered};
@@ -16,23 +16,12 @@ use crate::Verdict;
 use scope::scope::Resolved;
 use sheet::sheet::Parts;
 
-// Zeros to all words.
-fn clear_addresses(words: &mut [u64])
-    ensures { λ _. ⌜ now (words .exit) ≡ replicate (length (now (words .entry))) 0 ⌝ }
-{
-    let mut i = 0;
-    while i < words.len() {
-        words[i] = 0;
-        i += 1;
-    }
-}
-
 // A refusal: it leaves zeros.
 fn refuse_all(number: u32, object: u32, arena: &mut [u8], words: &mut [u64]) -> ReplyAll
     ensures { λ r. ⌜ repliedAll r (now (arena .exit)) (now (words .exit)) ≡ refusedAll (length (now (arena .entry))) (length (now (words .entry))) number object ⌝ }
 {
     words::bytes::clear(arena);
-    clear_addresses(words);
+    words::bytes::clear_addresses(words);
     ReplyAll::Refused {
         number: number,
         object: object,

@@ -4,7 +4,7 @@ ghost use mathlib.Core.List.{List};
 ghost use Prim.Native.Nat.{ℕ, _≤_, _<_};
 ghost use lib.ListN.{length, take, drop, getD};
 ghost use Rattle.sheet.specs.Sheet.{kindOf, lengthIn, pairOk, sheetOk, setOf, arenaOk, noInput, named, duplicateOf};
-ghost use Rattle.sheet.specs.Steps.Parts.{inputsIn, Tabled};
+ghost use Rattle.sheet.specs.Steps.Parts.{noPart, inputIn, inputsIn, Tabled};
 
 // Where an object's file and name lie in the byte slice.
 pub struct Part {
@@ -108,16 +108,23 @@ pub fn arena_ok(size: usize, address: u64) -> bool
     true
 }
 
-// A table of no object.
-fn no_parts() -> Parts
-    ensures { λ r. ⌜ (r .count ≡ 0) × (length (r .list) ≡ 64) ⌝ }
+// What is no object's: no bytes, and no name.
+fn no_part() -> Part
+    ensures { λ r. ⌜ r ≡ noPart ⌝ }
 {
-    let none = Part {
+    Part {
         at: 0,
         len: 0,
         name: 0,
         chars: 0,
-    };
+    }
+}
+
+// A table of no object.
+fn no_parts() -> Parts
+    ensures { λ r. ⌜ (r .count ≡ 0) × (length (r .list) ≡ 64) ⌝ }
+{
+    let none = no_part();
     Parts {
         list: [none; 64],
         count: 0,
@@ -185,17 +192,24 @@ pub fn part_of<'a>(bytes: &'a [u8], at: usize, len: usize) -> &'a [u8]
     &bytes[start..end]
 }
 
+// The part of object k of a table; an empty one where there is no such object.
+fn part_at(parts: Parts, k: usize) -> Part
+    ensures { λ r. ⌜ ((bytes : List ℕ) → inputIn bytes r ≡ getD (inputsIn bytes parts) k noInput) ⌝ }
+{
+    if parts.count <= k {
+        return no_part();
+    }
+    if 64 <= k {
+        return no_part();
+    }
+    parts.list[k]
+}
+
 // The file of object k of a table, as the part of the byte slice; empty where there is no such object.
 pub fn file_of<'a>(bytes: &'a [u8], parts: Parts, k: usize) -> &'a [u8]
     ensures { λ r. ⌜ now r ≡ getD (inputsIn (now (bytes .entry)) parts) k noInput .file ⌝ }
 {
-    if parts.count <= k {
-        return &bytes[..0];
-    }
-    if 64 <= k {
-        return &bytes[..0];
-    }
-    let q = parts.list[k];
+    let q = part_at(parts, k);
     part_of(bytes, q.at, q.len)
 }
 
@@ -203,13 +217,7 @@ pub fn file_of<'a>(bytes: &'a [u8], parts: Parts, k: usize) -> &'a [u8]
 pub fn name_of<'a>(bytes: &'a [u8], parts: Parts, k: usize) -> &'a [u8]
     ensures { λ r. ⌜ now r ≡ getD (inputsIn (now (bytes .entry)) parts) k noInput .name ⌝ }
 {
-    if parts.count <= k {
-        return &bytes[..0];
-    }
-    if 64 <= k {
-        return &bytes[..0];
-    }
-    let q = parts.list[k];
+    let q = part_at(parts, k);
     part_of(bytes, q.name, q.chars)
 }
 

@@ -2,23 +2,12 @@
 ghost use mathlib.Core.Path.{_≡_};
 ghost use Prim.Native.Nat.{_+_, _*_, _^_, _≤_, _<_};
 ghost use mathlib.Core.List.{reverse};
-ghost use lib.ListN.{length, set, take, replicate};
+ghost use lib.ListN.{length, set, take};
 ghost use Rattle.words.specs.Memory.{mem};
 ghost use Rattle.start_stop.specs.StartStop.{functionOf, wordsOf, startsOf, stopsOf, inTurn, startList, stopList};
 ghost use Rattle.start_stop.specs.Steps.Rows.{rowAt, baseAt, bytesAt, callsAt, FewWords, AllFew};
 ghost use Rattle.start_stop.specs.Steps.Listed.{Put};
 use binder::order::Order;
-
-// Zeros to all words.
-pub(crate) fn clear_list(list: &mut [u64])
-    ensures { λ _. ⌜ now (list .exit) ≡ replicate (length (now (list .entry))) 0 ⌝ }
-{
-    let mut i = 0;
-    while i < list.len() {
-        list[i] = 0;
-        i += 1;
-    }
-}
 
 fn set_word(list: &mut [u64], p: usize, w: u64)
     ensures { λ _. ⌜ now (list .exit) ≡ set (now (list .entry)) p w ⌝ }

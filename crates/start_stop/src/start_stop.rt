@@ -105,8 +105,8 @@ fn finish(
     } = l {
         words::bytes::clear(arena);
         words::bytes::clear_words(report);
-        crate::fill::clear_list(start);
-        crate::fill::clear_list(stop);
+        words::bytes::clear_addresses(start);
+        words::bytes::clear_addresses(stop);
     }
     l
 }
@@ -127,8 +127,8 @@ pub fn start_stop(
     ensures { λ r. ⌜ listing r (now (arena .exit)) (now (report .exit)) (now (start .exit)) (now (stop .exit)) ≡ startStopOf (settingOf address (now (types .entry))) (now (sheet .entry)) (now (bytes .entry)) (length (now (arena .entry))) policy (length (now (report .entry))) (length (now (start .entry))) (length (now (stop .entry))) ⌝ }
 {
     words::bytes::clear_words(report);
-    crate::fill::clear_list(start);
-    crate::fill::clear_list(stop);
+    words::bytes::clear_addresses(start);
+    words::bytes::clear_addresses(stop);
     let parts = sheet::sheet::parts_of(sheet, bytes.len());
     if parts.count < 2 {
         let one = Lists::Refused {

@@ -307,6 +307,17 @@ pub fn clear_words(s: &mut [u32])
     }
 }
 
+// Zeros to all words of 64 bits.
+pub fn clear_addresses(list: &mut [u64])
+    ensures { λ _. ⌜ now (list .exit) ≡ replicate (length (now (list .entry))) 0 ⌝ }
+{
+    let mut i = 0;
+    while i < list.len() {
+        list[i] = 0;
+        i += 1;
+    }
+}
+
 // `n` bytes of `src` from `start` to the places of `dst` from `at`, all of them in the slices. The compiler makes it a loop over vectors,
 // which is as fast as memcpy (docs/BENCHMARKS.md, "ii").
 fn copy_part(dst: &mut [u8], at: usize, src: &[u8], start: usize, n: usize)

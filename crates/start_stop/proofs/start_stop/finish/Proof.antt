@@ -4,7 +4,7 @@ use Rattle.start_stop.proofs.start_stop.finish.Statement.{statement}
 use Rattle.start_stop.proofs.start_stop.finish.Tie as tie
 use Rattle.start_stop.proofs.start_stop.finish.Reads as reads
 use Rattle.start_stop.proofs.start_stop.finish.Lts as lts
-use Rattle.start_stop.proofs.fill.clear_list.Reads as clear-list-reads
+use Rattle.words.proofs.bytes.clear_addresses.Reads as clear-addresses-reads
 use Rattle.words.proofs.bytes.clear.Reads as clear-reads
 use Rattle.words.proofs.bytes.clear_words.Reads as clear-words-reads
 
@@ -17,11 +17,11 @@ clear-requires c κs = search needs
 clear-words-requires : tie.Need-clear-words-requires
 clear-words-requires c κs = search needs
 
-clear-list-requires : tie.Need-clear-list-requires
-clear-list-requires c κs = search needs
+clear-addresses-requires : tie.Need-clear-addresses-requires
+clear-addresses-requires c κs = search needs
 
-clear-list-requires-2 : tie.Need-clear-list-requires-2
-clear-list-requires-2 c κs = search needs
+clear-addresses-requires-2 : tie.Need-clear-addresses-requires-2
+clear-addresses-requires-2 c κs = search needs
 
 enum-told-2 : tie.Need-enum-told-2
 enum-told-2 c = search needs
@@ -41,7 +41,7 @@ same-length-4 c = search needs
 returns : tie.Need-returns
 unfolding finishedOf
 returns c =
-    rw (c .before .before .before .before .before .before .before .before .before .before .before .before .before .before .before .before .enum-told .given .1, c .before .before .before .before .before .before .before .before .before .before .before .before .before .before .clear .ensures, c .before .before .before .before .before .before .before .before .before .before .clear-words .ensures, c .before .before .before .before .before .before .clear-list .ensures, c .before .before .clear-list2 .ensures)
+    rw (c .before .before .before .before .before .before .before .before .before .before .before .before .before .before .before .before .enum-told .given .1, c .before .before .before .before .before .before .before .before .before .before .before .before .before .before .clear .ensures, c .before .before .before .before .before .before .before .before .before .before .clear-words .ensures, c .before .before .before .before .before .before .clear-addresses .ensures, c .before .before .clear-addresses2 .ensures)
 
 returns-2 : tie.Need-returns-2
 unfolding finishedOf
@@ -55,8 +55,8 @@ finish-spec =
     enum-told
     clear-requires
     clear-words-requires
-    clear-list-requires
-    clear-list-requires-2
+    clear-addresses-requires
+    clear-addresses-requires-2
     enum-told-2
     same-length
     same-length-2

@@ -1,43 +1,24 @@
--- `words::hash::gnu_hash` meets its contract. The invariant: the hash of the whole is that of the rest, from `h`.
--- Assumes nothing.
-use Prim.Native.Nat.{_≤_, _-_}
-use mathlib.Core.Path.{_≡_}
+-- `words::hash::gnu_hash` meets its contract. Assumes nothing.
+use Prim.Native.Nat.{_-_}
 use native.Mathlib.Omega.{arith}
 use borrow.Author.Needs.{needs}
-use lib.ListN.{length, drop}
-use Rattle.words.specs.Hash.{hashBy, gnuStep, gnuHash}
-use Rattle.words.proofs.HashLaws.{hash-more, hash-end}
+use lib.ListN.{length}
+use Rattle.words.specs.Hash.{gnuStep, gnuHash}
+use Rattle.words.proofs.HashLaws.{Hashed, hash-turn, hash-end}
 use Rattle.words.proofs.hash.gnu_hash.Statement.{statement}
 use Rattle.words.proofs.hash.gnu_hash.Tie as tie
-
-abbrev Inv-loop : tie.InvT-loop
-Inv-loop name h₀ i₀ h i = (i ≤ length name) × (hashBy gnuStep 5381 name ≡ hashBy gnuStep h (drop i name))
-
-abbrev μ-loop : tie.MeasureT-loop
-μ-loop name h₀ i₀ h i = length name - i
-
-loop-again : tie.Need-loop-again Inv-loop μ-loop
-loop-again c =
-    let l = c .before .before .before .loop in
-    (search needs, hash-more gnuStep (l .h) (l .i) _ (l .inv .1) (c .wrapping-mul33-add .ensures) (omega arith))
-
-returns : tie.Need-returns Inv-loop μ-loop
-unfolding gnuHash
-returns c =
-    let l = c .before .loop in
-    hash-end gnuStep (l .h) (l .i) _ (l .inv .1) (omega arith)
 
 pub gnu-hash-spec : {M : Type 1} → statement M
 unfolding gnuHash
 gnu-hash-spec =
     tie.close
     (tie.spec
-    Inv-loop
-    μ-loop
+    (λ name h₀ i₀ h i. Hashed gnuStep 5381 name h i)
+    (λ name h₀ i₀ h i. length name - i)
     (λ c. search needs)
     (λ c. search needs)
     (λ c κs. search needs)
     (λ c. search needs)
     (λ c. search needs)
-    loop-again
-    returns)
+    (λ c. hash-turn (c .before .before .before .loop .inv) (c .wrapping-mul33-add .ensures) (omega arith))
+    (λ c. hash-end (c .before .loop .inv) (omega arith)))
