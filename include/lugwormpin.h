@@ -6,8 +6,8 @@
  * - answer every call that keeps to "What the caller owes"; what they answer is proved, for any contents of the slices, refused calls too
  *   (crates/export/src/lib.rt, crates/export/specs/Calls.antt);
  * - keep no pointer, allocate nothing, have no global state, and may run in several threads at once over different memory;
- * - use about 54 KiB of stack (lugwormpin_bind) or 45 KiB (lugwormpin_query, lugwormpin_query_all), whatever the set: the sum of the compiled frames.
- *   lugwormpin_bind_ordered and lugwormpin_start_stop take some 5 and 7 KiB more than lugwormpin_bind, by the stack that a call was seen to touch;
+ * - use about 82 KiB of stack (lugwormpin_bind) or 45 KiB (lugwormpin_query, lugwormpin_query_all), whatever the set: the sum of the compiled frames.
+ *   lugwormpin_bind_ordered and lugwormpin_start_stop take some 5 and 7 KiB more than lugwormpin_bind;
  * - end on every input, but a file can be made so that a call takes seconds (docs/BENCHMARKS.md): bound the size of files of unknown origin,
  *   or the time of the call.
  *
@@ -63,6 +63,7 @@ extern "C" {
  *   25  not 0     an entry of another type that is marked refuse
  *   17  not 0     what an applied entry writes is not inside one writable segment of its object, or a RELR bitmap has a bit set before any address
  *   18  not 0     the bytes that a COPY entry reads are at an absolute symbol, outside the object that defines it, or overlap what it writes
+ *   28  not 0     a COPY entry writes a byte that an earlier one, of any object, writes or reads, or reads one that an earlier one writes
  *   19  not 0     the call is strict and an entry is undefined: the first such object in binding order
  *   20  0         the report is too short
  *   22  not 0     after 17: a result of 32 bits (types 2, 10 and 11) does not fit
@@ -70,7 +71,7 @@ extern "C" {
  *                 program DT_PREINIT_ARRAY) are not all inside the object: the first such object in binding order
  *   27  0         lugwormpin_start_stop only, after 26: a list is too short
  *
- * The first refusal in this order is answered: 4 to 12 and 21 object by object, 14 to 18, 22 and 25 entry by entry in binding order, which is the
+ * The first refusal in this order is answered: 4 to 12 and 21 object by object, 14 to 18, 22, 25 and 28 entry by entry in binding order, which is the
  * order that is handed in where one is. lugwormpin_bind answers all but 13, 23, 26, 27 and 35, lugwormpin_bind_ordered these and 35,
  * lugwormpin_start_stop these and 26 and 27 but not 35, lugwormpin_query 1 to 13 and 21, lugwormpin_query_all these and 23. */
 #define LUGWORMPIN_NUMBER(answer) ((uint32_t)(answer))

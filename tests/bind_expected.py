@@ -169,6 +169,9 @@ class Set:
             need(not absolute and value + n <= self.objects[definer].span, 18)
             to, start = self.offsets[k] + place, self.offsets[definer] + value
             need(to + n <= start or start + n <= to, 18)
+            apart = lambda a, b: a + n <= b[0] or b[0] + b[1] <= a
+            need(all(apart(to, (t, m)) and apart(to, (s, m)) and apart(start, (t, m)) for t, s, m in self.copies), 28)
+            self.copies.append((to, start, n))
             self.arena[to : to + n] = self.arena[start : start + n]
 
     def may_take(self, order):
@@ -180,6 +183,7 @@ class Set:
     def relocate(self, order=None):
         if order is not None and not self.may_take(order):
             raise Stop(35, 0)
+        self.copies = []
         for k in order or self.order():
             o = self.objects[k]
             self.report.append(5 << 28 | k)

@@ -204,7 +204,7 @@ fn compare(set: &Set, rust: &mut Rust, random: &mut Random, counts: &mut Counts)
             return Verdict { outcome: format!("refused {}", a.0), compared: false, difference: None, twin: None };
         }
         (Ok(()), Ok(_)) => (),
-        (Err(Refusal(14..=20 | 22, _)), Ok(_)) => (),
+        (Err(Refusal(14..=20 | 22 | 28, _)), Ok(_)) => (),
         _ => return differs("bind and query", format!("bind: {bound:?}, query: {asked:?}")),
     }
 

@@ -20,14 +20,15 @@ use Rattle.sheet.specs.declared.sheet.Parts.{Parts}
 use Rattle.sheet.proofs.PartLaws.{handed-in}
 use Rattle.binder.specs.Setting.{Setting}
 use Rattle.binder.specs.Instance.{File, objectFrom}
-use Rattle.binder.specs.Verdict.{noFile, orderVerdict}
+use Rattle.binder.specs.Verdict.{first, noFile, orderVerdict}
+use Rattle.binder.specs.Steps.PlainVerdict.{plainOrder}
 use Rattle.binder.specs.declared.Verdict.{Verdict}
 use Rattle.binder.specs.declared.Verdict.the-variants.{Passed, Refused}
 use Rattle.binder.specs.Report.{orderWords, firstUndefined}
 use Rattle.binder.specs.SetOrder.{setOrder}
 use Rattle.binder.specs.Bind.{filesOf, namesOf, objectsOf, unless, allows, prepareVerdict, typesVerdict, relocateVerdict, refusedBind, outcomeOf, bindIn, bindSet, bindOf}
 use Rattle.binder.specs.Steps.Prepared.{Prepared}
-use Rattle.binder.specs.Steps.Finished.{endsBy, finishedOf, Relocated, BoundSet}
+use Rattle.binder.specs.Steps.Finished.{endsBy, finishedOf, RelocatedOr, BoundSet}
 use Rattle.binder.specs.Steps.Relocating.{rowAt}
 use Rattle.binder.specs.Steps.Needed.{Arranged}
 use Rattle.model.specs.Order.{OnceEach}
@@ -39,8 +40,9 @@ use Rattle.binder.proofs.OutcomeLaws.{refused-not, first-passed, unless
 use Rattle.binder.proofs.SoundLaws.{count-is}
 use Rattle.binder.proofs.QueryLaws.{placed-is}
 use Rattle.binder.proofs.PrepareLaws.{Ready, passes, sheet-refused, sheet-passed}
-use Rattle.binder.proofs.Steady.{LoadedSet}
+use Rattle.binder.proofs.Steady.{fileAt, LoadedSet}
 use Rattle.binder.proofs.RelocatedIs as relocated
+use Rattle.binder.proofs.CrossingIs.{can-read, can-read-then, none-crosses, one-crosses}
 use Rattle.binder.proofs.ReportFill as fills
 use Rattle.binder.proofs.ReportFill.{fillOf, Going}
 use Rattle.binder.proofs.FileLaws.{hostFile, fileOf}
@@ -99,23 +101,24 @@ module _ (setting : Setting) (size : ℕ) (table : List ℕ) (hf pf : File) (fs 
   abbrev files : List File
   files = hf ∷ (pf ∷ fs)
 
-  module _ (p : Progress) (a report : List ℕ) (ended : relocated.Ended setting size table hf pf fs order words p a report) where
+  module _ (p : Progress) (a report : List ℕ) (ended : relocated.Ended setting size table hf pf fs order words p a report)
+      (same : orderVerdict (setting .row) S files [] order ≡ plainOrder (setting .row) S files order) where
     ends : endsBy policy p ≡ relocateVerdict (setting .row) S files order policy words
     unfolding endsBy relocateVerdict
-    ends = go (orderVerdict (setting .row) S files order) refl
+    ends = go (plainOrder (setting .row) S files order) refl
       where
-        go : (v : Verdict) → orderVerdict (setting .row) S files order ≡ v → endsBy policy p ≡ relocateVerdict (setting .row) S files order policy words
+        go : (v : Verdict) → plainOrder (setting .row) S files order ≡ v → endsBy policy p ≡ relocateVerdict (setting .row) S files order policy words
         go Passed q =
             let g = ended .bound-is q .2 in
-            rw (ended .verdict-is, q, g .undefined, g .full, not-full (length (orderWords (setting .row) S files order)) words)
-        go (Refused n k) q = rw (ended .verdict-is, q)
+            rw (same, ended .verdict-is, q, g .undefined, g .full, not-full (length (orderWords (setting .row) S files order)) words)
+        go (Refused n k) q = rw (same, ended .verdict-is, q)
 
-    room : relocateVerdict (setting .row) S files order policy words ≡ Passed → (orderVerdict (setting .row) S files order ≡ Passed) × (length (orderWords (setting .row) S files order) ≤ words)
+    room : relocateVerdict (setting .row) S files order policy words ≡ Passed → (plainOrder (setting .row) S files order ≡ Passed) × (length (orderWords (setting .row) S files order) ≤ words)
     unfolding relocateVerdict
     room e =
-        let a = first-passed (orderVerdict (setting .row) S files order) _ e in
+        let a = first-passed (orderVerdict (setting .row) S files [] order) _ e in
         let b = first-passed (unless (allows policy (firstUndefined (setting .row) S files order)) 19 (firstUndefined (setting .row) S files order)) _ (a .1) in
-        (a .0, leb-true _ _ (unless-passed (leb (length (orderWords (setting .row) S files order)) words) 20 0 (b .1)))
+        (sym same ∙ a .0, leb-true _ _ (unless-passed (leb (length (orderWords (setting .row) S files order)) words) 20 0 (b .1)))
 
     pub relocated-set :
         (m : Verdict) → m ≡ endsBy policy p → finishedOf m a report
@@ -126,6 +129,25 @@ module _ (setting : Setting) (size : ℕ) (table : List ℕ) (hf pf : File) (fs 
         let q = room z in
         let g = ended .bound-is (q .0) in
         (sym (tab-mem a) ∙ (ap (λ (n : ℕ). tab n (mem a)) (g .1) ∙ ap (tab size) (g .0)), g .2 .report-is ∙ filled words _ (q .1)))
+
+  -- 28, or what is met before it
+  pub crossed-set :
+      (m : Verdict) (a report : List ℕ) → (m ≡ orderVerdict (setting .row) S files [] order) × (m ≡ Passed → ⊥) → length a ≡ size → length report ≡ words
+      → finishedOf m a report ≡ outcomeOf size words (relocateVerdict (setting .row) S files order policy words) (tab size (bound S order)) (orderWords (setting .row) S files order)
+  unfolding relocateVerdict
+  crossed-set m a report e la lr =
+      let rest : Verdict = first (unless (allows policy (firstUndefined (setting .row) S files order)) 19 (firstUndefined (setting .row) S files order)) (unless (leb (length (orderWords (setting .row) S files order)) words) 20 0) in
+      let met : m ≡ first (orderVerdict (setting .row) S files [] order) rest =
+      sym (kept m (e .1) rest) ∙ ap (λ (v : Verdict). first v rest) (e .0) in
+      finished-by size words m _ _ _ a report met la lr (λ z. absurd (e .1 (met ∙ z)))
+    where
+      kept : (m : Verdict) → (m ≡ Passed → ⊥) → (v : Verdict) → first m v ≡ m
+      kept Passed h v = absurd (h refl)
+      kept (Refused n k) h v = refl
+
+zeros-long : (n : ℕ) → length {A = ℕ} (replicate n 0) ≡ n
+zeros-long zero = refl
+zeros-long (suc n) = ap suc (zeros-long n)
 
 -- ---- 2 to 20
 
@@ -213,15 +235,32 @@ module _
     -- 14 to 20: the objects were relocated in an order that has each once
     pub bound-in :
         (policy : Policy) (words : ℕ) (order : List ℕ) → OnceEach (objects.count made-set) order → (report : List ℕ) → report ≡ replicate words 0
-        → (a′ report′ : List ℕ) (m : Verdict) → Relocated (h ∷ (p ∷ ls)) table order a policy report a′ report′ m
+        → (a′ report′ : List ℕ) (m : Verdict) → RelocatedOr (h ∷ (p ∷ ls)) table order a policy report a′ report′ m
         → finishedOf m a′ report′ ≡ bindIn setting (prepareVerdict setting (typesVerdict setting) (h ∷ (p ∷ ls)) size) (filesOf (h ∷ (p ∷ ls))) order size policy words
     unfolding filesOf bindIn objectsOf
-    bound-in policy words order once report zeros a′ report′ m g =
+    bound-in policy words order once report zeros a′ report′ m whole =
         let n : length a ≡ size = kept ∙ len in
-        let ended = relocated.relocated-is setting size table (hostFile h) (fileOf p) fs loaded (h ∷ (p ∷ ls)) (λ k l. files-are k (omega (arith, many)))
+        let inputs : (k : ℕ) → k < objects.count made-set → getD (h ∷ (p ∷ ls)) k noInput .file ≡ fileAt setting size table (hostFile h) (fileOf p) fs k .bytes =
+        λ k l. files-are k (omega (arith, many)) in
+        let r = whole (can-read setting size table (hostFile h) (fileOf p) fs loaded a n placed-arena (h ∷ (p ∷ ls)) inputs order once)
+        (can-read-then setting size table (hostFile h) (fileOf p) fs loaded a n placed-arena (h ∷ (p ∷ ls)) inputs order once words report zeros) in
+        ⊎-elim
+        (λ (hit : r .2 .hit ≡ true).
+        crossed-set setting size table (hostFile h) (fileOf p) fs policy order words m a′ report′
+        (one-crosses setting size table (hostFile h) (fileOf p) fs loaded a n placed-arena (h ∷ (p ∷ ls)) inputs order once words report zeros (r .2) (r .3) hit m (r .5 hit))
+        (r .0 ∙ n) (r .1 ∙ long words report zeros)
+        ∙ rw (passed-it .verdict-is))
+        (λ (none : r .2 .hit ≡ false).
+        let g = r .4 none in
+        let ended = relocated.relocated-is setting size table (hostFile h) (fileOf p) fs loaded (h ∷ (p ∷ ls)) inputs
         order once words a report placed-arena n zeros (g .progress) a′ report′ (g .leaves) in
-        relocated-set setting size table (hostFile h) (fileOf p) fs policy order words (g .progress) a′ report′ ended m (g .met)
-        ∙ rw (passed-it .verdict-is)
+        relocated-set setting size table (hostFile h) (fileOf p) fs policy order words (g .progress) a′ report′ ended
+        (none-crosses setting size table (hostFile h) (fileOf p) fs loaded a n placed-arena (h ∷ (p ∷ ls)) inputs order once (r .2) (r .3) none) m (g .met)
+        ∙ rw (passed-it .verdict-is))
+        (decide (r .2 .hit))
+      where
+        long : (words : ℕ) (report : List ℕ) → report ≡ replicate words 0 → length report ≡ words
+        long words report e = ap length e ∙ zeros-long words
 
     -- the order of the set does
     pub in-order : (order : List ℕ) → order ≡ setOrder (filesOf (h ∷ (p ∷ ls))) (namesOf (h ∷ (p ∷ ls))) → OnceEach (objects.count made-set) order
@@ -235,7 +274,7 @@ pub bind-is :
     (setting : Setting) (os : List Input) (count : ℕ) (arena a table : List ℕ) (r : Verdict) → 2 ≤ count → length os ≡ count → length a ≡ length arena
     → Prepared setting (typesVerdict setting) os arena a table r → r ≡ Passed → ((rtype : ℕ) → rowAt table rtype ≡ setting .row rtype) → (order : Order) → Arranged os count a table order
     → (policy : Policy) (report : List ℕ) → report ≡ replicate (length report) 0
-    → (a′ report′ : List ℕ) (m : Verdict) → Relocated os table (take (order .count) (order .list)) a policy report a′ report′ m
+    → (a′ report′ : List ℕ) (m : Verdict) → RelocatedOr os table (take (order .count) (order .list)) a policy report a′ report′ m
     → BoundSet setting os (length arena) policy (length report) a′ report′ m
 unfolding bindSet
 bind-is setting [] count arena a table r two many kept made z typed order o policy report zeros a′ report′ m g =

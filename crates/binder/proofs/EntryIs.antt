@@ -53,13 +53,13 @@ use Rattle.binder.proofs.Runs.{Ran, verdict-none, ran-refused, ran-pass
 -- ---- symbols
 
 -- the symbol of an entry is checked, or refused by a number that is not 0
-abbrev SymbolCase : List ℕ → Record → ℕ → Type 0
+abbrev pub SymbolCase : List ℕ → Record → ℕ → Type 0
 SymbolCase image r index =
     ((checkedSymbol image r index ≡ Checked (symbolAt image (r .symbols) index))
     × (symbolOk (isTableOf r) image (r .symbols) (r .strings) index ≡ true))
     ⊎ ((z : ℕ) × (z ≡ 0 → ⊥) × (checkedSymbol image r index ≡ Refused z))
 
-symbol-case : (image : List ℕ) (r : Record) (index : ℕ) → SymbolCase image r index
+pub symbol-case : (image : List ℕ) (r : Record) (index : ℕ) → SymbolCase image r index
 unfolding checkedSymbol
 symbol-case image r index =
     ⊎-elim
@@ -70,7 +70,7 @@ symbol-case image r index =
     (λ (s : indexOk (r .known) index ≡ false). inr (14, (λ e. omega arith), rw s))
     (decide (indexOk (r .known) index))
 
-refused-checked : {P : Type 0} (z : ℕ) (y : Symbol) → Refused z ≡ Checked y → P
+pub refused-checked : {P : Type 0} (z : ℕ) (y : Symbol) → Refused z ≡ Checked y → P
 refused-checked z y e = let z : _≡_ {A = ℕ} 0 1 = cc in absurd (omega arith)
 
 checked-same : (x y : Symbol) → Checked x ≡ Checked y → x ≡ y

@@ -43,7 +43,8 @@ use Rattle.object.specs.declared.program_header.Dynamic.{Dynamic}
 use Rattle.object.specs.declared.program_header.Dynamic.the-variants.{Missing, At}
 use Rattle.object.proofs.RefusalLaws.{required}
 use Rattle.binder.specs.Instance.{fileRecord, placesOf, wantedBy, entryBy, entryOf}
-use Rattle.binder.specs.Verdict.{verdict, wordRefusal, copyOk, copyRefusal, fieldRefusal, symbolThen, refusalBy, entryRefusal, wordsVerdict, entriesVerdict}
+use Rattle.binder.specs.Verdict.{verdict, wordRefusal, copyOk, copyRefusal, fieldRefusal, symbolThen, refusalBy, entryRefusal, wordsVerdict}
+use Rattle.binder.specs.Steps.PlainVerdict.{plainEntries}
 use Rattle.binder.specs.declared.Verdict.the-variants.{Passed}
 use Rattle.binder.proofs.OutcomeLaws.{first-passed, verdict-passed}
 
@@ -164,12 +165,12 @@ module _ (row : ℕ → Row) (S : Objs) (k : ℕ) (image : List ℕ) (r : Record
       (checked-then (e .symbol) (λ y. copyRefusal S k r (e .place) (y .size) found) z)
 
   pub entries-inside :
-      (es : List Rela) → entriesVerdict row S k image r es ≡ Passed → (x : Entry) → List·Memᴰ x (map (entryOf row image r base) es)
+      (es : List Rela) → plainEntries row S k image r es ≡ Passed → (x : Entry) → List·Memᴰ x (map (entryOf row image r base) es)
       → Inside S k x
-  unfolding entriesVerdict
+  unfolding plainEntries
   entries-inside [] v x m = absurd (List·Memᴰ·not-nil m)
   entries-inside (e ∷ es) v x m =
-      let a = first-passed (verdict (entryRefusal row S k image r e) k) (entriesVerdict row S k image r es) v in
+      let a = first-passed (verdict (entryRefusal row S k image r e) k) (plainEntries row S k image r es) v in
       ⊎-elim
       (λ (t : x ≡ entryOf row image r base e).
       subst (λ (y : Entry). Inside S k y) (sym t) (entry-inside e (row (e .rtype)) (verdict-passed (entryRefusal row S k image r e) k (a .0))))

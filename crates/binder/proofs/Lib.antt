@@ -29,6 +29,7 @@ pub mod RelocatedIs
 pub mod LoopLaws
 pub mod PartLaws
 pub mod RunLaws
+pub mod UntilLaws
 pub mod KeptLaws
 pub mod RelativeLaws
 pub mod SymbolicLaws
@@ -39,3 +40,11 @@ pub mod OwnOrderIs
 pub mod LoadsSame
 pub mod TypesLaws
 pub mod TypeWords
+pub mod ApartLaws
+pub mod CrossLaws
+pub mod WalkLaws
+pub mod SeenIs
+pub mod CrossingIs
+pub mod CrossCode
+pub mod ClaimLaws
+pub mod PlainLaws

@@ -1,12 +1,12 @@
 -- What a call to `bind` that is not refused has passed, and what it leaves. Assumes nothing.
 use mathlib.Core.Path.{_≡_, refl, sym, _∙_}
 use mathlib.Core.Bool.{Bool, true, false}
-use mathlib.Core.List.{List, _++_}
+use mathlib.Core.List.{List, [], _∷_, _++_}
 use Prim.Native.Nat.{ℕ, _-_}
 use native.Mathlib.Omega.{arith}
 use borrow.Author.Tests.{eqb-true}
 use lib.Dec.{eqb, ltb}
-use lib.ListN.{length, replicate}
+use lib.ListN.{length, getD, replicate}
 use Rattle.words.specs.Choice.{pick}
 use Rattle.words.specs.Memory.{tab}
 use Rattle.model.specs.Objects.{Objs}
@@ -17,7 +17,14 @@ use Rattle.binder.specs.declared.Policy.{Policy}
 use Rattle.binder.specs.declared.Answer.the-variants.{Bound}
 use Rattle.sheet.specs.Sheet.{Input, sheetOk, setOf, arenaOk, duplicateOf}
 use Rattle.binder.specs.Setting.{Setting}
-use Rattle.binder.specs.Verdict.{first, verdict, loadVerdict, orderVerdict}
+use Rattle.binder.specs.Instance.{File, fileImage, fileRecord, namedWords, relasOf}
+use Rattle.binder.specs.Copies.{entryCopy, objectCopies}
+use Rattle.binder.specs.Verdict.{first, verdict, noFile, loadVerdict, entryRefusal, crossRefusal, wordsVerdict, entriesVerdict, objectVerdict, orderVerdict}
+use Rattle.binder.specs.Steps.PlainVerdict.{plainEntries, plainObject, plainOrder}
+use Rattle.binder.specs.declared.crossing.Copy.{Copy}
+use Rattle.object.specs.RelocationTypes.{Row}
+use Rattle.object.specs.Record.{Record}
+use Rattle.object.specs.declared.relocate.Rela.{Rela}
 use Rattle.binder.specs.declared.Verdict.{Verdict}
 use Rattle.binder.specs.declared.Verdict.the-variants.{Passed, Refused}
 use Rattle.binder.specs.Steps.Prepared.{loadFrom}
@@ -46,6 +53,38 @@ unless-passed t n k e = picked t n k e
 pub verdict-passed : (n k : ℕ) → verdict n k ≡ Passed → n ≡ 0
 unfolding verdict
 verdict-passed n k e = eqb-true n 0 (picked (eqb n 0) n k e)
+
+-- ---- what passes with 28 passes without it
+
+pub entries-plain :
+    (row : ℕ → Row) (S : Objs) (k : ℕ) (image : List ℕ) (r : Record) (earlier : List Copy) (es : List Rela) → entriesVerdict row S k image r earlier es ≡ Passed
+    → plainEntries row S k image r es ≡ Passed
+unfolding entriesVerdict plainEntries
+entries-plain row S k image r earlier [] v = refl
+entries-plain row S k image r earlier (e ∷ es) v =
+    let a = first-passed (verdict (entryRefusal row S k image r e) k) _ v in
+    let b = first-passed (verdict (crossRefusal earlier (entryCopy row S k image r e)) k) _ (a .1) in
+    let c = entries-plain row S k image r (earlier ++ entryCopy row S k image r e) es (b .1) in
+    rw (a .0) c
+
+object-plain :
+    (row : ℕ → Row) (S : Objs) (earlier : List Copy) (k : ℕ) (f : File) → objectVerdict row S earlier k f ≡ Passed → plainObject row S k f ≡ Passed
+unfolding objectVerdict plainObject
+object-plain row S earlier k f v =
+    let a = first-passed (wordsVerdict k (fileRecord f) (namedWords (fileImage f) (fileRecord f))) _ v in
+    let b = entries-plain row S k (fileImage f) (fileRecord f) earlier (relasOf (fileImage f) (fileRecord f)) (a .1) in
+    rw (a .0) b
+
+pub order-plain :
+    (row : ℕ → Row) (S : Objs) (files : List File) (earlier : List Copy) (order : List ℕ) → orderVerdict row S files earlier order ≡ Passed
+    → plainOrder row S files order ≡ Passed
+unfolding orderVerdict plainOrder
+order-plain row S files earlier [] v = refl
+order-plain row S files earlier (k ∷ ks) v =
+    let a = first-passed (objectVerdict row S earlier k (getD files k noFile)) _ v in
+    let b = object-plain row S earlier k (getD files k noFile) (a .0) in
+    let c = order-plain row S files (earlier ++ objectCopies row S k (getD files k noFile)) ks (a .1) in
+    rw b c
 
 -- ---- the answer `Bound`
 
@@ -112,7 +151,8 @@ pub record AllPassed (setting : Setting) (sheet bytes : List ℕ) (size words : 
   pub typed-ok : setting .typed ≡ true
   pub no-duplicate : duplicateOf (setOf sheet bytes) ≡ 0
   pub loads : loadFrom setting size 0 0 (filesOf (setOf sheet bytes)) ≡ Passed
-  pub relocates : orderVerdict (setting .row) (objectsIn setting (setOf sheet bytes)) (filesOf (setOf sheet bytes)) (orderIn (setOf sheet bytes)) ≡ Passed
+  pub uncrossed : orderVerdict (setting .row) (objectsIn setting (setOf sheet bytes)) (filesOf (setOf sheet bytes)) [] (orderIn (setOf sheet bytes)) ≡ Passed
+  pub relocates : plainOrder (setting .row) (objectsIn setting (setOf sheet bytes)) (filesOf (setOf sheet bytes)) (orderIn (setOf sheet bytes)) ≡ Passed
   pub arena-is : arena ≡ tab size (bound (objectsIn setting (setOf sheet bytes)) (orderIn (setOf sheet bytes)))
   pub report-is :
       report
@@ -133,14 +173,15 @@ bound-passed setting sheet bytes size policy words arena report e =
     let b = first-passed (unless (arenaOk size (setting .address)) 2 0) _ (a .1) in
     let y = first-passed (typesVerdict setting) _ (b .1) in
     let c = first-passed (unless (eqb (duplicateOf os) 0) 3 (duplicateOf os)) (loadVerdict S size 0 (filesOf os)) (y .1) in
-    let d = first-passed (orderVerdict (setting .row) S (filesOf os) (orderIn os)) _ (p .1) in
+    let d = first-passed (orderVerdict (setting .row) S (filesOf os) [] (orderIn os)) _ (p .1) in
     record {
       sheet-ok = unless-passed (sheetOk sheet (length bytes)) 1 0 (a .0);
       arena-ok = unless-passed (arenaOk size (setting .address)) 2 0 (b .0);
       typed-ok = unless-passed (setting .typed) 24 0 (y .0);
       no-duplicate = eqb-true (duplicateOf os) 0 (unless-passed (eqb (duplicateOf os) 0) 3 (duplicateOf os) (c .0));
       loads = sym (loads-same setting size (filesOf os)) ∙ c .1;
-      relocates = d .0;
+      uncrossed = d .0;
+      relocates = order-plain (setting .row) S (filesOf os) [] (orderIn os) (d .0);
       arena-is = o .1;
       report-is = o .2;
     }

@@ -28,7 +28,7 @@ use Rattle.binder.specs.Bind.{filesOf, namesOf, unless, prepareVerdict, 
 use Rattle.binder.specs.OwnOrder.{isOrder, isCopy, hasCopy, libraryCopies, mayTake, bindOrderedSet, bindOrderedOf}
 use Rattle.binder.specs.Steps.Prepared.{Prepared}
 use Rattle.binder.specs.Steps.Relocating.{cutTo32, imageIn, turnOf, againRefusal, againRecord, rowAt}
-use Rattle.binder.specs.Steps.Finished.{finishedOf, Relocated}
+use Rattle.binder.specs.Steps.Finished.{finishedOf, RelocatedOr}
 use Rattle.binder.specs.Steps.OrderTaken.{Held, copyIn, copyAgain, copyAt, copiesAt, Taken, BoundOrdered}
 use Rattle.scope.specs.Steps.Links.{linkAt}
 use Rattle.scope.specs.Steps.ScopeCode.{imageAt}
@@ -136,7 +136,7 @@ module _
       -- 14 to 20, in that order
       pub order-bound :
           t ≡ true → (o : Order) → Held order o → (report : List ℕ) → report ≡ replicate words 0
-          → (a′ report′ : List ℕ) (m : Verdict) → Relocated os table (take (o .count) (o .list)) a policy report a′ report′ m
+          → (a′ report′ : List ℕ) (m : Verdict) → RelocatedOr os table (take (o .count) (o .list)) a policy report a′ report′ m
           → BoundOrdered setting os size policy words order a′ report′ m
       unfolding bindOrderedSet unless mayTake
       order-bound f o held report zeros a′ report′ m g =
@@ -144,7 +144,8 @@ module _
           let is = both-true (isOrder (length (namesOf os)) order) _ e .0 in
           let n : length (namesOf os) + 2 ≡ count (objsOf (objectFrom setting) (hostFile h) (fileOf p) fs) = omega (arith, many, names-length h p ls) in
           let once = subst (λ (i : ℕ). OnceEach i order) n (order-once (length (namesOf os)) order is) in
-          bound-in setting size table h p ls arena a r len kept made z typed policy words order once report zeros a′ report′ m (rw (held .list) at g)
+          bound-in setting size table h p ls arena a r len kept made z typed policy words order once report zeros a′ report′ m
+          (subst (λ (ks : List ℕ). RelocatedOr os table ks a policy report a′ report′ m) (held .list) g)
           ∙ rw (passed-it, e)
 
 -- refusals 2 to 12
@@ -183,13 +184,13 @@ module _
 
     pub set-bound :
         t ≡ true → (o : Order) → Held order o → (report : List ℕ) → report ≡ replicate (length report) 0
-        → (a′ report′ : List ℕ) (m : Verdict) → Relocated os table (take (o .count) (o .list)) a policy report a′ report′ m
+        → (a′ report′ : List ℕ) (m : Verdict) → RelocatedOr os table (take (o .count) (o .list)) a policy report a′ report′ m
         → BoundOrdered setting os (length arena) policy (length report) order a′ report′ m
     set-bound f o held report zeros a′ report′ m g = go os count many two made k g
       where
         go :
             (xs : List Input) (n : ℕ) → length xs ≡ n → 2 ≤ n → Prepared setting (typesVerdict setting) xs arena a table r → Taken xs n a table order t
-            → Relocated xs table (take (o .count) (o .list)) a policy report a′ report′ m
+            → RelocatedOr xs table (take (o .count) (o .list)) a policy report a′ report′ m
             → BoundOrdered setting xs (length arena) policy (length report) order a′ report′ m
         go [] n e l q y w = absurd (omega arith)
         go (h ∷ []) n e l q y w = absurd (omega arith)

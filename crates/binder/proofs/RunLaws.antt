@@ -1,12 +1,14 @@
 -- One turn of the runs of specs/Relocating.antt: over the entries of a table, and over the objects of an order; the ways out of a symbol's entry
 -- and of an object; and what an object's turn comes to once its record is read again. Assumes nothing.
 use mathlib.Core.Bool.{Bool, true, false}
+use mathlib.Core.Logic.{⊎-elim}
 use mathlib.Core.List.{List}
 use mathlib.Core.Path.{_≡_, sym, ap, _∙_}
 use Prim.Native.Nat.{ℕ, suc, _+_, _-_, _%_, _^_, _≤_, _<_, min}
 use native.Mathlib.Omega.{arith}
 use native.Mathlib.Numerals.{add-one}
-use borrow.Author.Tests.{eq-eqb, ne-eqb, le-leb, lt-leb}
+use borrow.Author.Tests.{eqb-true, eqb-false, eq-eqb, ne-eqb, le-leb, lt-leb}
+use lib.Dec.{eqb}
 use lib.ListN.{length, getD, take, drop, length-take, drop-of-length-le}
 use lib.Seq.{drop-cons, getD-take}
 use Rattle.object.specs.Steps.LoadTable.{SegmentsIn, segmentsIn}
@@ -14,7 +16,8 @@ use Rattle.object.specs.ProgramHeader.{loadsOf, dynamicOf}
 use Rattle.object.specs.RelocationTypes.{Calculation, Row}
 use Rattle.object.specs.Entries.{relaAt}
 use Rattle.object.specs.TableBytes.{inWritable}
-use Rattle.object.specs.Record.{Record, ReadBy, heldBy, checkedSymbol, nameOf}
+use Rattle.object.specs.Record.{Record, ReadBy, heldBy, readRefusal, checkedSymbol, nameOf}
+use Rattle.object.specs.Steps.FieldsRead.{FieldsRead}
 use Rattle.object.specs.declared.program_header.Segment.{Segment}
 use Rattle.object.specs.declared.symbol.Symbol.{Symbol}
 use Rattle.object.specs.declared.entry_symbol.CheckedSymbol.{CheckedSymbol}
@@ -23,6 +26,7 @@ use Rattle.object.specs.declared.program_header.Dynamic.{Dynamic}
 use Rattle.object.specs.declared.program_header.Loads.{Loads}
 use Rattle.object.specs.declared.dynamic_fields.Read.{Read}
 use Rattle.object.specs.declared.relocate.Rela.{Rela}
+use Rattle.model.proofs.OrderLaws.{decide}
 use Rattle.sheet.specs.Sheet.{Input, noInput}
 use Rattle.binder.specs.declared.report.Progress.{Progress}
 use Rattle.object.specs.declared.hash_tables.Definition.{Definition}
@@ -198,6 +202,27 @@ module _ (image file : List ℕ) (l : Loads) (loaded : SegmentsIn (loadsOf file)
 
     pub again-record : r .refusal ≡ 0 → heldBy (r .object) ≡ againRecord image file
     again-record z = rw (← found, ← loaded .list few-loads) (read .object z)
+
+  -- the same of a record whose tables are not looked at again
+  module _ (few : l .count ≤ 16) (d : Dynamic) (found : d ≡ dynamicOf file) (r : Read) (read : FieldsRead image (segmentsIn l) d r) where
+    loads-few : length (loadsOf file) ≤ 16
+    loads-few = omega (arith, loaded .count)
+
+    fields-refusal : readRefusal false image (segmentsIn l) d ≡ againRefusal image file
+    unfolding againRefusal
+    fields-refusal = rw (le-leb _ _ loads-few, ← found, ← loaded .list loads-few)
+
+    not-refused : againRefusal image file ≡ 0 → r .refusal ≡ 0
+    not-refused z =
+        ⊎-elim
+        (λ (t : eqb (r .refusal) 0 ≡ true). eqb-true (r .refusal) 0 t)
+        (λ (t : eqb (r .refusal) 0 ≡ false).
+        let ne : r .refusal ≡ 0 → ⊥ = eqb-false (r .refusal) 0 t in
+        absurd (ne (sym (read .refused ne false) ∙ (fields-refusal ∙ z))))
+        (decide (eqb (r .refusal) 0))
+
+    pub fields-record : againRefusal image file ≡ 0 → heldBy (r .object) ≡ againRecord image file
+    fields-record z = rw (← found, ← loaded .list loads-few) (read .object (not-refused z))
 
 module _ (table : List ℕ) (k : ℕ) (file : List ℕ) (p : Progress) (a report : List ℕ) where
   pub turn-stops : {t : Turn} {n : ℕ} → t ≡ turnOf table k → againRefusal (imageIn a t) file ≡ n → (n ≡ 0 → ⊥) → left (refusedBy t n p) a report ≡ runAt table k file p a report

@@ -23,7 +23,8 @@ use Rattle.object.specs.RelocationTypes.{Row}
 use Rattle.object.specs.Loaded.{objectRefusal}
 use Rattle.binder.specs.Setting.{Setting}
 use Rattle.binder.specs.Instance.{File, fileImage, fileRecord, placesOf, namedWords, relasOf, entryOf, objectAt, offsetOf, objectFrom}
-use Rattle.binder.specs.Verdict.{verdict, noFile, wordsVerdict, entriesVerdict, objectVerdict, orderVerdict}
+use Rattle.binder.specs.Verdict.{verdict, noFile, wordsVerdict}
+use Rattle.binder.specs.Steps.PlainVerdict.{plainEntries, plainObject, plainOrder}
 use Rattle.binder.specs.declared.Verdict.the-variants.{Passed}
 use Rattle.binder.specs.Steps.Prepared.{loadFrom}
 use Rattle.binder.proofs.OutcomeLaws.{first-passed, verdict-passed}
@@ -82,14 +83,14 @@ module _ (setting : Setting) (size : ℕ) where
 -- ---- every object of the order is checked
 
 pub order-checked :
-    (row : ℕ → Row) (S : Objs) (files : List File) (order : List ℕ) → orderVerdict row S files order ≡ Passed → (k : ℕ) → 0 < times k order
-    → objectVerdict row S k (getD files k noFile) ≡ Passed
-unfolding orderVerdict
+    (row : ℕ → Row) (S : Objs) (files : List File) (order : List ℕ) → plainOrder row S files order ≡ Passed → (k : ℕ) → 0 < times k order
+    → plainObject row S k (getD files k noFile) ≡ Passed
+unfolding plainOrder
 order-checked row S files [] v k h = absurd (omega arith)
 order-checked row S files (j ∷ js) v k h =
-    let a = first-passed (objectVerdict row S j (getD files j noFile)) (orderVerdict row S files js) v in
+    let a = first-passed (plainObject row S j (getD files j noFile)) (plainOrder row S files js) v in
     ⊎-elim
-    (λ (t : eqb j k ≡ true). subst (λ (i : ℕ). objectVerdict row S i (getD files i noFile) ≡ Passed) (eqb-true j k t) (a .0))
+    (λ (t : eqb j k ≡ true). subst (λ (i : ℕ). plainObject row S i (getD files i noFile) ≡ Passed) (eqb-true j k t) (a .0))
     (λ (t : eqb j k ≡ false). order-checked row S files js (a .1) k (rw t at h))
     (decide (eqb j k))
 
@@ -121,7 +122,7 @@ from-pick false xs m = m
 
 module _ (setting : Setting) (size : ℕ) (h p : File) (fs : List File) (v : loadFrom setting size 0 0 (h ∷ (p ∷ fs)) ≡ Passed) (order : List ℕ)
     (once : OnceEach (count (objsOf (objectFrom setting) h p fs)) order)
-    (w : orderVerdict (setting .row) (objsOf (objectFrom setting) h p fs) (h ∷ (p ∷ fs)) order ≡ Passed) where
+    (w : plainOrder (setting .row) (objsOf (objectFrom setting) h p fs) (h ∷ (p ∷ fs)) order ≡ Passed) where
   abbrev set : Objs
   set = objsOf (objectFrom setting) h p fs
 
@@ -131,8 +132,8 @@ module _ (setting : Setting) (size : ℕ) (h p : File) (fs : List File) (v : loa
   checked :
       (k : ℕ) → 1 ≤ k → k < count set
       → (wordsVerdict k (fileRecord (file k)) (namedWords (fileImage (file k)) (fileRecord (file k))) ≡ Passed)
-      × (entriesVerdict (setting .row) set k (fileImage (file k)) (fileRecord (file k)) (relasOf (fileImage (file k)) (fileRecord (file k))) ≡ Passed)
-  unfolding objectVerdict
+      × (plainEntries (setting .row) set k (fileImage (file k)) (fileRecord (file k)) (relasOf (fileImage (file k)) (fileRecord (file k))) ≡ Passed)
+  unfolding plainObject
   checked k a b =
       first-passed (wordsVerdict k (fileRecord (file k)) (namedWords (fileImage (file k)) (fileRecord (file k)))) _
       (order-checked (setting .row) set (h ∷ (p ∷ fs)) order w k (in-order (count set) order once k a b))

@@ -252,7 +252,7 @@ module _ (setting : Setting) (size : ℕ) (table : List ℕ) (h p : File) (fs : 
   writable-inside k q n e = inside.writable-inside (fileAt k .host) (fileAt k .bytes) q n e
 
   -- spans of two objects lie apart
-  apart :
+  pub apart :
       LoadedSet → (j k : ℕ) → j < count set → k < count set → (j ≡ k → ⊥)
       → ((obj set j) .offset + spanAt j ≤ (obj set k) .offset) ⊎ ((obj set k) .offset + spanAt k ≤ (obj set j) .offset)
   unfolding objectAt

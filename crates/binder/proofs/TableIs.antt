@@ -16,10 +16,11 @@ use Rattle.object.specs.Record.{Record}
 use Rattle.object.specs.declared.relocate.Rela.{Rela}
 use Rattle.binder.specs.Instance.{File, fileImage, fileRecord, relasOf, entryOf}
 use Rattle.binder.specs.Setting.{Setting}
-use Rattle.binder.specs.Verdict.{first, verdict, entryRefusal, entriesVerdict}
+use Rattle.binder.specs.Verdict.{first, verdict, entryRefusal}
+use Rattle.binder.specs.Steps.PlainVerdict.{plainEntries}
 use Rattle.binder.specs.declared.Verdict.the-variants.{Passed}
 use Rattle.binder.specs.Report.{reportWord, isUndefined, isPassed, entryReport}
-use Rattle.binder.specs.Steps.Relocating.{left, imageIn, cutTo32, turnOf, runAction, runTable, runTables, rowAt}
+use Rattle.binder.specs.Steps.Relocating.{left, unlessRefused, imageIn, cutTo32, turnOf, runAction, runTable, runTables, rowAt}
 use Rattle.binder.specs.declared.turn.Turn.{Turn}
 use Rattle.binder.specs.declared.report.Progress.{Progress}
 use Rattle.binder.proofs.Steady.{set, fileAt, LoadedSet, Steady}
@@ -30,7 +31,7 @@ use Rattle.binder.proofs.EntryIs.{Doing, plain, entry-ran}
 
 -- ---- two lists of entries
 
-rela-at : (image : List ℕ) (at i c j : ℕ) (d : Rela) → j < c → getD (relasFrom image at i c) j d ≡ relaAt image at (i + j)
+pub rela-at : (image : List ℕ) (at i c j : ℕ) (d : Rela) → j < c → getD (relasFrom image at i c) j d ≡ relaAt image at (i + j)
 unfolding relasFrom
 rela-at image at i zero j d h = absurd (omega arith)
 rela-at image at i (suc c) zero d h = ap (relaAt image at) (omega arith)
@@ -46,7 +47,7 @@ entry-same image image′ at c e j l =
     sym (ap (relaAt image′ at) z)
     ∙ (sym (rela-at image′ at 0 c j d l) ∙ (ap (λ (es : List Rela). getD es j d) e ∙ (rela-at image at 0 c j d l ∙ ap (relaAt image at) z)))
 
-relas-length : (image : List ℕ) (at i c : ℕ) → length (relasFrom image at i c) ≡ c
+pub relas-length : (image : List ℕ) (at i c : ℕ) → length (relasFrom image at i c) ≡ c
 unfolding relasFrom
 relas-length image at i zero = refl
 relas-length image at i (suc c) = ap suc (relas-length image at (i + 1) c)
@@ -62,12 +63,12 @@ entryWord row S k image r i e =
     pick (isUndefined row S k image r e) (reportWord 6 i ∷ []) (pick (isPassed (row (e .rtype))) (reportWord 7 i ∷ []) [])
 
 module _ (row : ℕ → Row) (S : Objs) (k : ℕ) (image : List ℕ) (r : Record) where
-  verdicts-append : (xs ys : List Rela) → entriesVerdict row S k image r (xs ++ ys) ≡ first (entriesVerdict row S k image r xs) (entriesVerdict row S k image r ys)
-  unfolding entriesVerdict
+  pub verdicts-append : (xs ys : List Rela) → plainEntries row S k image r (xs ++ ys) ≡ first (plainEntries row S k image r xs) (plainEntries row S k image r ys)
+  unfolding plainEntries
   verdicts-append [] ys = refl
   verdicts-append (x ∷ xs) ys =
       ap (first (verdict (entryRefusal row S k image r x) k)) (verdicts-append xs ys)
-      ∙ sym (first-assoc (verdict (entryRefusal row S k image r x) k) (entriesVerdict row S k image r xs) (entriesVerdict row S k image r ys))
+      ∙ sym (first-assoc (verdict (entryRefusal row S k image r x) k) (plainEntries row S k image r xs) (plainEntries row S k image r ys))
 
   words-append :
       (i j : ℕ) (xs ys : List Rela) → j ≡ i + length xs → entryReport row S k image r i (xs ++ ys) ≡ entryReport row S k image r i xs ++ entryReport row S k image r j ys
@@ -165,19 +166,19 @@ module _ (setting : Setting) (size : ℕ) (table : List ℕ) (h pr : File) (fs :
 
     pub table-ran :
         (c i j : ℕ) → i ≡ start + j → j + c ≤ c′ → (ws : List ℕ) (u : ℕ) (m : Mem) (p : Progress) (a report : List ℕ) → Does ws u m p a report
-        → Ran size n (entriesVerdict row S k image r (relasFrom image at j c)) (Entered ws u m i (relasFrom image at j c))
+        → Ran size n (plainEntries row S k image r (relasFrom image at j c)) (Entered ws u m i (relasFrom image at j c))
         (runTable table t r at start c j (left p a report))
-    unfolding runTable relasFrom entriesVerdict entryReport some effects
+    unfolding runTable relasFrom plainEntries entryReport some effects
     table-ran zero i j e b ws u m p a report d =
         plain setting size table h pr fs L k lo hi n a₀ ws u m p a report d Passed m a refl (d .written) (d .memory)
     table-ran (suc c) i j e b ws u m p a report d =
-        ran-then size n (verdict (entryRefusal row S k image r (relaAt image at j)) k) (entriesVerdict row S k image r (relasFrom image at (j + 1) c))
+        ran-then size n (verdict (entryRefusal row S k image r (relaAt image at j)) k) (plainEntries row S k image r (relasFrom image at (j + 1) c))
         (Does (ws ++ entryWord row S k image r i (relaAt image at j)) (earlier u (pick (isUndefined row S k image r (relaAt image at j)) k 0))
         (effect S k (entryOf row image r ((obj S k) .base) (relaAt image at j)) m))
         (Entered ws u m i (relaAt image at j ∷ relasFrom image at (j + 1) c))
         (runTable table t r at start c (j + 1))
         (λ p′ a′ report′ d′.
-        ran-weaker size n (entriesVerdict row S k image r (relasFrom image at (j + 1) c))
+        ran-weaker size n (plainEntries row S k image r (relasFrom image at (j + 1) c))
         (Entered (ws ++ entryWord row S k image r i (relaAt image at j)) (earlier u (pick (isUndefined row S k image r (relaAt image at j)) k 0))
         (effect S k (entryOf row image r ((obj S k) .base) (relaAt image at j)) m) (i + 1) (relasFrom image at (j + 1) c))
         (Entered ws u m i (relaAt image at j ∷ relasFrom image at (j + 1) c))
@@ -196,7 +197,7 @@ module _ (setting : Setting) (size : ℕ) (table : List ℕ) (h pr : File) (fs :
 
   pub tables-ran :
       (ws : List ℕ) (u : ℕ) (m : Mem) (p : Progress) (a report : List ℕ) → Does ws u m p a report
-      → Ran size n (entriesVerdict row S k image r (relasOf image r)) (Entered ws u m 0 (relasOf image r))
+      → Ran size n (plainEntries row S k image r (relasOf image r)) (Entered ws u m 0 (relasOf image r))
       (runTables table t r (left p a report))
   unfolding relasOf runTables
   tables-ran ws u m p a report d =
@@ -205,10 +206,10 @@ module _ (setting : Setting) (size : ℕ) (table : List ℕ) (h pr : File) (fs :
       let xs : List Rela = relasFrom image (r .rela) 0 (r .relas) in
       let ys : List Rela = relasFrom image (r .plt) 0 (r .plts) in
       rw (cut-is (r .relas) (few .0), cut-is (r .plts) (few .1), verdicts-append row S k image r xs ys)
-      (ran-then size n (entriesVerdict row S k image r xs) (entriesVerdict row S k image r ys) (Entered ws u m 0 xs) (Entered ws u m 0 (xs ++ ys))
+      (ran-then size n (plainEntries row S k image r xs) (plainEntries row S k image r ys) (Entered ws u m 0 xs) (Entered ws u m 0 (xs ++ ys))
       (runTable table t r (r .plt) (r .relas) (r .plts) 0)
       (λ p′ a′ report′ d′.
-      ran-weaker size n (entriesVerdict row S k image r ys)
+      ran-weaker size n (plainEntries row S k image r ys)
       (Entered (ws ++ entryReport row S k image r 0 xs) (earlier u (pick (some (isUndefined row S k image r) xs) k 0))
       (effects S k (map (entryOf row image r ((obj S k) .base)) xs) m) (r .relas) ys)
       (Entered ws u m 0 (xs ++ ys))
@@ -219,3 +220,30 @@ module _ (setting : Setting) (size : ℕ) (table : List ℕ) (h pr : File) (fs :
       (effects S k (map (entryOf row image r ((obj S k) .base)) xs) m) p′ a′ report′ d′))
       (runTable table t r (r .rela) 0 (r .relas) 0 (left p a report))
       (table-ran (r .rela) 0 (r .relas) (omega (arith, few .0)) (λ a s. entry-same image (imageIn a t) (r .rela) (r .relas) (readings setting size table h pr fs L a s k hi .relas o)) (r .relas) 0 0 (omega arith) (omega arith) ws u m p a report d))
+
+  -- ---- the first `x` of RELA, then the first `y` of PLT
+
+  pub tables-until :
+      (x y : ℕ) → x ≤ r .relas → y ≤ r .plts → (ws : List ℕ) (u : ℕ) (m : Mem) (p : Progress) (a report : List ℕ) → Does ws u m p a report
+      → Ran size n (first (plainEntries row S k image r (relasFrom image (r .rela) 0 x)) (plainEntries row S k image r (relasFrom image (r .plt) 0 y))) (λ _ _ _. Unit {0})
+      (unlessRefused (runTable table t r (r .plt) (cutTo32 (r .relas)) y 0) (runTable table t r (r .rela) 0 x 0 (left p a report)))
+  tables-until x y lx ly ws u m p a report d =
+      let few = counts setting size table h pr fs L k lo hi in
+      let o = L .others k lo hi in
+      let xs : List Rela = relasFrom image (r .rela) 0 x in
+      let ys : List Rela = relasFrom image (r .plt) 0 y in
+      rw (cut-is (r .relas) (few .0))
+      (ran-then size n (plainEntries row S k image r xs) (plainEntries row S k image r ys) (Entered ws u m 0 xs) (λ _ _ _. Unit {0})
+      (runTable table t r (r .plt) (r .relas) y 0)
+      (λ p′ a′ report′ d′.
+      ran-weaker size n (plainEntries row S k image r ys)
+      (Entered (ws ++ entryReport row S k image r 0 xs) (earlier u (pick (some (isUndefined row S k image r) xs) k 0))
+      (effects S k (map (entryOf row image r ((obj S k) .base)) xs) m) (r .relas) ys)
+      (λ _ _ _. Unit {0})
+      (λ _ _ _ _. Prim.tt {0})
+      (runTable table t r (r .plt) (r .relas) y 0 (left p′ a′ report′))
+      (table-ran (r .plt) (r .relas) (r .plts) (omega (arith, few .0, few .1)) (λ a s. entry-same image (imageIn a t) (r .plt) (r .plts) (readings setting size table h pr fs L a s k hi .plts o)) y (r .relas) 0 (omega arith) (omega arith)
+      (ws ++ entryReport row S k image r 0 xs) (earlier u (pick (some (isUndefined row S k image r) xs) k 0))
+      (effects S k (map (entryOf row image r ((obj S k) .base)) xs) m) p′ a′ report′ d′))
+      (runTable table t r (r .rela) 0 x 0 (left p a report))
+      (table-ran (r .rela) 0 (r .relas) (omega (arith, few .0)) (λ a s. entry-same image (imageIn a t) (r .rela) (r .relas) (readings setting size table h pr fs L a s k hi .relas o)) x 0 0 (omega arith) (omega arith) ws u m p a report d))

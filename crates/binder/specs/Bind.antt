@@ -67,10 +67,10 @@ abbrev pub allows : Policy → ℕ → Bool
 allows Strict undefined = eqb undefined 0
 allows Lenient undefined = true
 
--- 14 to 20, 22 and 25 of a set's objects in an order
+-- 14 to 20, 22, 25 and 28 of a set's objects in an order
 unfoldable pub relocateVerdict : (ℕ → Row) → Objs → List File → List ℕ → Policy → ℕ → Verdict
 relocateVerdict row S files order policy words =
-    first (orderVerdict row S files order)
+    first (orderVerdict row S files [] order)
     (first (unless (allows policy (firstUndefined row S files order)) 19 (firstUndefined row S files order))
     (unless (leb (length (orderWords row S files order)) words) 20 0))
 

@@ -1,5 +1,6 @@
 pub mod Setting
 pub mod Instance
+pub mod Copies
 pub mod Verdict
 pub mod Report
 pub mod SetOrder

@@ -11,3 +11,5 @@ pub mod Finished
 pub mod AllNames
 pub mod TypesBefore
 pub mod OrderTaken
+pub mod PlainVerdict
+pub mod Crossing

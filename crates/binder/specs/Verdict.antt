@@ -1,7 +1,7 @@
--- Refusals of a set, each with its object: 4 to 12 and 21 object by object, 14 to 18, 22 and 25 entry by entry in binding order. Document
--- 01, "Refused, in checking order"; document 02, (a), (b) and (f). All are functions of the placed images. Assumes nothing.
+-- Refusals of a set, each with its object: 4 to 12 and 21 object by object, 14 to 18, 22, 25 and 28 entry by entry in binding order. Document
+-- 01, "Refused, in checking order"; document 02, (a), (b), (f) and (h). All are functions of the placed images. Assumes nothing.
 use mathlib.Core.Bool.{Bool, true, false, not}
-use mathlib.Core.List.{List, [], _∷_}
+use mathlib.Core.List.{List, [], _∷_, _++_}
 use Prim.Native.Nat.{ℕ, zero, suc, _+_, _-_, min}
 use lib.Dec.{eqb, leb}
 use lib.ListN.{getD}
@@ -24,6 +24,8 @@ use Rattle.object.specs.declared.entry_symbol.CheckedSymbol as checked
 use Rattle.binder.specs.declared.Verdict.{Verdict}
 use Rattle.binder.specs.declared.Verdict.the-variants.{Passed, Refused}
 use Rattle.binder.specs.Instance.{File, fileImage, fileRecord, namedWords, relasOf, wantedBy}
+use Rattle.binder.specs.declared.crossing.Copy.{Copy}
+use Rattle.binder.specs.Copies.{crossesOne, entryCopy, objectCopies}
 
 -- the first refusal of two
 abbrev pub first : Verdict → Verdict → Verdict
@@ -42,7 +44,7 @@ loadVerdict S size k [] = Passed
 loadVerdict S size k (f ∷ fs) =
     first (verdict (objectRefusal (f .host) (size - (obj S k) .offset) (f .bytes)) k) (loadVerdict S size (k + 1) fs)
 
--- ---- 14 to 18, 22 and 25: "entry by entry in binding order"
+-- ---- 14 to 18, 22, 25 and 28: "entry by entry in binding order"
 
 -- 17: "A written place .. not inside one writable PT_LOAD of its object, or a RELR bit set before any address"
 abbrev pub wordRefusal : Record → Word → ℕ
@@ -95,20 +97,34 @@ unfoldable pub wordsVerdict : ℕ → Record → List Word → Verdict
 wordsVerdict k r [] = Passed
 wordsVerdict k r (w ∷ ws) = first (verdict (wordRefusal r w) k) (wordsVerdict k r ws)
 
-unfoldable pub entriesVerdict : (ℕ → Row) → Objs → ℕ → List ℕ → Record → List Rela → Verdict
-entriesVerdict row S k image r [] = Passed
-entriesVerdict row S k image r (e ∷ es) = first (verdict (entryRefusal row S k image r e) k) (entriesVerdict row S k image r es)
+-- 28, after 18 in the entry's turn: "an entry that breaks this with an earlier one", `earlier` being the copies so far
+abbrev pub crossRefusal : List Copy → List Copy → ℕ
+crossRefusal earlier cs = pick (crossesOne earlier cs) 28 0
 
-unfoldable pub objectVerdict : (ℕ → Row) → Objs → ℕ → File → Verdict
-objectVerdict row S k f =
+unfoldable pub entriesVerdict : (ℕ → Row) → Objs → ℕ → List ℕ → Record → List Copy → List Rela → Verdict
+entriesVerdict row S k image r earlier [] = Passed
+entriesVerdict row S k image r earlier (e ∷ es) =
+    first (verdict (entryRefusal row S k image r e) k)
+    (first (verdict (crossRefusal earlier (entryCopy row S k image r e)) k)
+    (entriesVerdict row S k image r (earlier ++ entryCopy row S k image r e) es))
+
+unfoldable pub objectVerdict : (ℕ → Row) → Objs → List Copy → ℕ → File → Verdict
+objectVerdict row S earlier k f =
     first (wordsVerdict k (fileRecord f) (namedWords (fileImage f) (fileRecord f)))
-    (entriesVerdict row S k (fileImage f) (fileRecord f) (relasOf (fileImage f) (fileRecord f)))
+    (entriesVerdict row S k (fileImage f) (fileRecord f) earlier (relasOf (fileImage f) (fileRecord f)))
 
 -- what a number that is no object's stands for
 abbrev pub noFile : File
 noFile = record { host = true; bytes = [] }
 
 -- the objects of an order, one after another
-unfoldable pub orderVerdict : (ℕ → Row) → Objs → List File → List ℕ → Verdict
-orderVerdict row S files [] = Passed
-orderVerdict row S files (k ∷ ks) = first (objectVerdict row S k (getD files k noFile)) (orderVerdict row S files ks)
+unfoldable pub orderVerdict : (ℕ → Row) → Objs → List File → List Copy → List ℕ → Verdict
+orderVerdict row S files earlier [] = Passed
+orderVerdict row S files earlier (k ∷ ks) =
+    first (objectVerdict row S earlier k (getD files k noFile))
+    (orderVerdict row S files (earlier ++ objectCopies row S k (getD files k noFile)) ks)
+
+-- the copies of a set in an order
+unfoldable pub orderCopies : (ℕ → Row) → Objs → List File → List ℕ → List Copy
+orderCopies row S files [] = []
+orderCopies row S files (k ∷ ks) = objectCopies row S k (getD files k noFile) ++ orderCopies row S files ks

@@ -1,16 +1,18 @@
 // The public call that binds a set.
 ghost use mathlib.Core.Path.{_≡_};
-ghost use Prim.Native.Nat.{_≤_};
+ghost use Prim.Native.Nat.{_^_, _≤_, _<_};
 ghost use lib.Dec.{eqb};
-ghost use lib.ListN.{length, replicate, take};
+ghost use lib.ListN.{length, getD, replicate, take};
+ghost use Rattle.sheet.specs.Sheet.{noInput};
 ghost use Rattle.sheet.specs.Steps.Parts.{inputsIn};
 ghost use Rattle.binder.specs.Setting.{settingOf};
 ghost use Rattle.binder.specs.Bind.{outcome, bindOf, allows};
 ghost use Rattle.scope.specs.Steps.Links.{Filtered};
-ghost use Rattle.binder.specs.Steps.Finished.{endsBy, Relocated, BoundSet, finishedOf};
+ghost use Rattle.binder.specs.Steps.Finished.{endsBy, UntilReadable, Crossed, RelocatedOr, BoundSet, finishedOf};
 use crate::Answer;
 use crate::Policy;
 use crate::Verdict;
+use crate::crossing::Crossing;
 use crate::order::Order;
 use crate::report::Progress;
 use sheet::sheet::Parts;
@@ -59,7 +61,54 @@ fn end(p: Progress, policy: Policy) -> Verdict
     Verdict::Passed
 }
 
-// Refusals 14 to 20, 22 and 25 of the objects that the table of parts names, which are loaded: they are relocated in any order of them.
+fn file_by<'a>(bytes: &'a [u8], parts: Parts, k: u32) -> &'a [u8]
+    ensures { λ r. ⌜ now r ≡ getD (inputsIn (now (bytes .entry)) parts) k noInput .file ⌝ }
+{
+    sheet::sheet::file_of(bytes, parts, k as usize)
+}
+
+// Refusal 28 at the first entry whose copy crosses an earlier one, or what is met before it, at that entry too.
+fn crossed(
+    bytes: &[u8],
+    parts: Parts,
+    arena: &mut [u8],
+    report: &mut [u32],
+    table: &[u64],
+    order: Order,
+    m: Crossing,
+) -> Verdict
+    requires { ⌜ (order .count ≤ 64) × (m .index < order .count) × (m .entry ≤ 2 ^ 33) × Filtered (now table) ⌝ }
+    ensures { λ r. ⌜ (UntilReadable (inputsIn (now (bytes .entry)) parts) (now (table .entry)) (take (order .count) (order .list)) (m .index) (now (arena .entry)) (now (report .entry)) → Crossed (inputsIn (now (bytes .entry)) parts) (now (table .entry)) (take (order .count) (order .list)) (m .index) (m .entry) (now (arena .entry)) (now (report .entry)) r) ⌝ }
+{
+    let list = order.list;
+    let i = m.index;
+    let front = Order {
+        list: list,
+        count: i,
+    };
+    let p = crate::relocate::run_order(bytes, parts, arena, report, table, front);
+    if p.refusal != 0 {
+        return Verdict::Refused {
+            number: p.refusal,
+            object: p.object,
+        };
+    }
+    let k = list[i];
+    let file = file_by(bytes, parts, k);
+    let q = crate::relocate::run_until(arena, report, p, table, k, file, m.entry + 1);
+    if q.refusal != 0 {
+        return Verdict::Refused {
+            number: q.refusal,
+            object: q.object,
+        };
+    }
+    Verdict::Refused {
+        number: 28,
+        object: k,
+    }
+}
+
+// Refusals 14 to 20, 22, 25 and 28 of the objects that the table of parts names, which are loaded: they are relocated in any order of them.
 pub fn bind_in(
     bytes: &[u8],
     parts: Parts,
@@ -70,8 +119,12 @@ pub fn bind_in(
     order: Order,
 ) -> Verdict
     requires { ⌜ (order .count ≤ 64) × Filtered (now table) ⌝ }
-    ensures { λ r. ⌜ Relocated (inputsIn (now (bytes .entry)) parts) (now (table .entry)) (take (order .count) (order .list)) (now (arena .entry)) policy (now (report .entry)) (now (arena .exit)) (now (report .exit)) r ⌝ }
+    ensures { λ r. ⌜ RelocatedOr (inputsIn (now (bytes .entry)) parts) (now (table .entry)) (take (order .count) (order .list)) (now (arena .entry)) policy (now (report .entry)) (now (arena .exit)) (now (report .exit)) r ⌝ }
 {
+    let m = crate::crossing::crossing_in(bytes, parts, arena, table, order);
+    if m.hit {
+        return crossed(bytes, parts, arena, report, table, order, m);
+    }
     let p = crate::relocate::run_order(bytes, parts, arena, report, table, order);
     end(p, policy)
 }

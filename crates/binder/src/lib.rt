@@ -1,6 +1,7 @@
 // Ordering the objects of a set, and binding them.
 pub mod bind;
 pub mod copy;
+pub mod crossing;
 pub mod needs;
 pub mod order;
 pub mod own_order;

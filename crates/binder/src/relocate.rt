@@ -2,7 +2,7 @@
 // by entry.
 ghost use mathlib.Core.Path.{_≡_};
 ghost use mathlib.Core.Bool.{true};
-ghost use Prim.Native.Nat.{_+_, _-_, _*_, _≤_};
+ghost use Prim.Native.Nat.{_+_, _-_, _*_, _^_, _≤_, _<_};
 ghost use lib.Dec.{eqb};
 ghost use lib.ListN.{length, take};
 ghost use Rattle.words.specs.Choice.{pick};
@@ -13,7 +13,7 @@ ghost use Rattle.object.specs.Record.{heldBy, checkedSymbol};
 ghost use Rattle.object.specs.Steps.WritableRange.{WritableRange};
 ghost use Rattle.sheet.specs.Steps.Parts.{inputsIn};
 ghost use Rattle.scope.specs.Steps.Links.{Filtered};
-ghost use Rattle.binder.specs.Steps.Relocating.{left, wrote, started, imageIn, fieldOf, fixedOf, symbolRefusal, soughtFor, soughtForCopy, soughtOf, writeSought, copyingOf, runAction, runTable, runTables, runObject, runAt, runOrder, rowAt};
+ghost use Rattle.binder.specs.Steps.Relocating.{left, wrote, started, imageIn, fieldOf, fixedOf, symbolRefusal, soughtFor, soughtForCopy, soughtOf, writeSought, copyingOf, runAction, runTable, runTables, runObject, runAt, runOrder, runUntil, turnOf, againRefusal, rowAt};
 ghost use Rattle.binder.specs.Steps.RunSteps.{InReach, RelativesWritten, EntriesPassed, SymbolsOf, EntryRead, addressFound, SymbolsPassed};
 ghost use Rattle.binder.specs.declared.relocate.Address.the-variants.{At};
 use crate::order::Order;
@@ -49,7 +49,7 @@ fn relative(arena: &mut [u8], p: Progress, t: Turn, b: Bounds, e: Rela) -> Progr
 }
 
 // The symbol of an entry, or refusal 14 or 15.
-fn symbol_of(arena: &[u8], t: Turn, o: ObjectData, index: u32) -> CheckedSymbol
+pub(crate) fn symbol_of(arena: &[u8], t: Turn, o: ObjectData, index: u32) -> CheckedSymbol
     ensures { λ r. ⌜ r ≡ checkedSymbol (imageIn (now (arena .entry)) t) (heldBy o) index ⌝ }
 {
     object::entry_symbol::checked_symbol(crate::turn::image_of(arena, t), o, index)
@@ -66,7 +66,13 @@ fn search(arena: &[u8], table: &[u64], t: Turn, strings: usize, name: u32) -> Re
 }
 
 // COPY's search.
-fn search_copy(arena: &[u8], table: &[u64], t: Turn, strings: usize, name: u32) -> Resolved
+pub(crate) fn search_copy(
+    arena: &[u8],
+    table: &[u64],
+    t: Turn,
+    strings: usize,
+    name: u32,
+) -> Resolved
     requires { ⌜ Filtered (now table) ⌝ }
     ensures { λ r. ⌜ r ≡ soughtForCopy (now (table .entry)) (now (arena .entry)) (nameAt (imageIn (now (arena .entry)) t) (strings + name)) ⌝ }
 {
@@ -242,7 +248,7 @@ fn run_action(
     }
 }
 
-fn rela_in(arena: &[u8], t: Turn, table: usize, i: u32) -> Rela
+pub(crate) fn rela_in(arena: &[u8], t: Turn, table: usize, i: u32) -> Rela
     ensures { λ r. ⌜ r ≡ relaAt (imageIn (now (arena .entry)) t) table i ⌝ }
 {
     object::relocate::rela_at(crate::turn::image_of(arena, t), table, i)
@@ -664,6 +670,46 @@ fn run_at(
     }
     let o = r.object;
     run_object(arena, report, p, table, t, o)
+}
+
+// Object `k`, whose file is given, as far as its first `entries` entries of RELA and PLT; its word of the report is left out.
+pub(crate) fn run_until(
+    arena: &mut [u8],
+    report: &mut [u32],
+    p: Progress,
+    table: &[u64],
+    k: u32,
+    file: &[u8],
+    entries: usize,
+) -> Progress
+    requires { ⌜ Filtered (now table) ⌝ }
+    ensures { λ r. ⌜ (againRefusal (imageIn (now (arena .entry)) (turnOf (now (table .entry)) k)) (now (file .entry)) ≡ 0 → left r (now (arena .exit)) (now (report .exit)) ≡ runUntil (now (table .entry)) k (now (file .entry)) entries p (now (arena .entry)) (now (report .entry))) ⌝ }
+{
+    let t = crate::turn::turn_of(table, k);
+    let o = crate::crossing::record_again(arena, t, file);
+    let number = crate::relr::run_relrs(arena, t, o);
+    if number != 0 {
+        return crate::report::refused(p, t, number);
+    }
+    let relas = crate::relr::cut_to_32(o.relas);
+    let front = words::bytes::smaller(relas as usize, entries);
+    let rela = Entries {
+        at: o.rela,
+        first: 0,
+        count: front as u32,
+    };
+    let fresh = crate::report::keep(p, 0, 0);
+    let q = run_table(arena, report, fresh, table, t, o, rela);
+    if q.refusal != 0 {
+        return q;
+    }
+    let back = words::bytes::smaller(crate::relr::cut_to_32(o.plts) as usize, entries - front);
+    let plt = Entries {
+        at: o.plt,
+        first: relas,
+        count: back as u32,
+    };
+    run_table(arena, report, q, table, t, o, plt)
 }
 
 // ---- the objects

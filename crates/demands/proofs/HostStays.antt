@@ -24,7 +24,7 @@ use Rattle.binder.specs.declared.Reply as replies
 use Rattle.binder.specs.declared.Reply.{Reply}
 use Rattle.binder.specs.Setting.{Setting}
 use Rattle.binder.specs.Instance.{File, objectAt, nextOffset, offsetOf, objectFrom}
-use Rattle.binder.specs.Verdict.{orderVerdict}
+use Rattle.binder.specs.Steps.PlainVerdict.{plainOrder}
 use Rattle.binder.specs.declared.Verdict.{Verdict}
 use Rattle.binder.specs.declared.Verdict.the-variants.{Passed, Refused}
 use Rattle.binder.specs.SetOrder.{setOrder}
@@ -100,7 +100,7 @@ module _ (setting : Setting) (size : ℕ) (h p : Input) (ls : List Input) (v : l
   placed-host i l = rw (files-are h p ls) (placed-first setting h (fileOf p) fs i l)
 
   bound-host :
-      orderVerdict (setting .row) (objectsIn setting (h ∷ (p ∷ ls))) (filesOf (h ∷ (p ∷ ls))) (orderIn (h ∷ (p ∷ ls))) ≡ Passed
+      plainOrder (setting .row) (objectsIn setting (h ∷ (p ∷ ls))) (filesOf (h ∷ (p ∷ ls))) (orderIn (h ∷ (p ∷ ls))) ≡ Passed
       → (i : ℕ) → i < length (h .file)
       → bound (objectsIn setting (h ∷ (p ∷ ls))) (orderIn (h ∷ (p ∷ ls))) i ≡ mem (h .file) i
   unfolding objectsOf objectSpan objectFrom objectAt nextOffset layouts.objsOf
@@ -126,7 +126,7 @@ module _ (setting : Setting) (size : ℕ) (os : List Input) (s : Shape os) (v : 
       (λ i l. rw (s .is) (placed-host setting size (s .host) (s .program) (s .libs) (rw (s .is) at v) i l))
 
   bound-in :
-      orderVerdict (setting .row) (objectsIn setting os) (filesOf os) (orderIn os) ≡ Passed → HostIn os (tab size (bound (objectsIn setting os) (orderIn os)))
+      plainOrder (setting .row) (objectsIn setting os) (filesOf os) (orderIn os) ≡ Passed → HostIn os (tab size (bound (objectsIn setting os) (orderIn os)))
   bound-in w =
       host-in (bound (objectsIn setting os) (orderIn os))
       (λ i l. rw (s .is) (bound-host setting size (s .host) (s .program) (s .libs) (rw (s .is) at v) (rw (s .is) at w) i l))

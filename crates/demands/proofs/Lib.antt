@@ -6,12 +6,14 @@ pub mod CasesHold
 pub mod FieldCasesHold
 pub mod RefusalCasesHold
 pub mod TypesHold
+pub mod CopyCasesHold
 pub mod OrderReported
 pub mod RefusalNumbers
 pub mod RefusalsHold
 pub mod AllNamesHold
 pub mod HostStays
 pub mod LargePagesHold
+pub mod CopiesApartLaw
 pub mod PairFiles
 pub mod PairHolds
 pub mod ObjectRunsHold

@@ -11,7 +11,7 @@ use Rattle.model.proofs.Files.{longer-files}
 use Rattle.sheet.specs.Sheet.{Input, setOf}
 use Rattle.binder.specs.Setting.{Setting}
 use Rattle.binder.specs.Instance.{File, objectFrom}
-use Rattle.binder.specs.Verdict.{orderVerdict}
+use Rattle.binder.specs.Steps.PlainVerdict.{plainOrder}
 use Rattle.binder.specs.declared.Verdict.the-variants.{Passed}
 use Rattle.binder.specs.Steps.Prepared.{loadFrom}
 use Rattle.binder.specs.SetOrder.{setOrder}
@@ -28,7 +28,7 @@ abbrev Loads : Setting → ℕ → List File → Type 0
 Loads setting size files = loadFrom setting size 0 0 files ≡ Passed
 
 abbrev Relocates : Setting → List File → List (List ℕ) → Type 0
-Relocates setting files names = orderVerdict (setting .row) (objectsOf setting files) files (setOrder files names) ≡ Passed
+Relocates setting files names = plainOrder (setting .row) (objectsOf setting files) files (setOrder files names) ≡ Passed
 
 -- what is claimed, of two sets in arenas of `size` and `size′` bytes
 abbrev Keeps : Setting → ℕ → List File → List (List ℕ) → ℕ → List File → List (List ℕ) → Type 0

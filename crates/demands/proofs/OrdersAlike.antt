@@ -18,10 +18,13 @@ use Rattle.object.specs.RelocationTypes.{Row}
 use Rattle.object.specs.Record.{Record}
 use Rattle.object.specs.declared.relocate.Rela.{Rela}
 use Rattle.binder.specs.Instance.{File, fileImage, fileRecord, relasOf}
-use Rattle.binder.specs.Verdict.{noFile, objectVerdict, orderVerdict}
+use Rattle.binder.specs.declared.crossing.Copy.{Copy}
+use Rattle.binder.specs.Copies.{objectCopies}
+use Rattle.binder.specs.Verdict.{first, noFile, objectVerdict, orderVerdict}
+use Rattle.binder.specs.declared.Verdict.{Verdict}
 use Rattle.binder.specs.declared.Verdict.the-variants.{Passed}
 use Rattle.binder.specs.Report.{reportWord, isUndefined, isPassed, entryReport, objectWords, orderWords, hasUndefined, firstUndefined}
-use Rattle.binder.proofs.SoundLaws.{order-checked}
+use Rattle.binder.proofs.OutcomeLaws.{first-passed}
 use Rattle.binder.proofs.RelocatedIs.{times-end}
 use Rattle.demands.specs.OwnOrders.{wordsOfObject}
 
@@ -111,16 +114,49 @@ sums-same g (x ∷ xs) ys same =
 -- ---- refusals
 
 module _ (row : ℕ → Row) (S : Objs) (files : List File) where
-  all-checked :
-      (ks : List ℕ) → ((k : ℕ) → 0 < times k ks → objectVerdict row S k (getD files k noFile) ≡ Passed) → orderVerdict row S files ks ≡ Passed
-  unfolding orderVerdict
+  -- 14 to 18, 22, 25 and 28 of each object by itself
+  unfoldable singly : List ℕ → Verdict
+  singly [] = Passed
+  singly (k ∷ ks) = first (objectVerdict row S [] k (getD files k noFile)) (singly ks)
+
+  -- so it is where only the last object of an order has copies
+  order-singly :
+      (ks : List ℕ) (l : ℕ) → ((k : ℕ) → 0 < times k ks → objectCopies row S k (getD files k noFile) ≡ [])
+      → orderVerdict row S files [] (ks ++ (l ∷ [])) ≡ singly (ks ++ (l ∷ []))
+  unfolding orderVerdict singly
+  order-singly [] l none = refl
+  order-singly (k ∷ ks) l none =
+      let v : Verdict = objectVerdict row S [] k (getD files k noFile) in
+      ap (λ (cs : List Copy). first v (orderVerdict row S files cs (ks ++ (l ∷ [])))) (none k (times-head k ks))
+      ∙ ap (λ (w : Verdict). first v w) (order-singly ks l (λ j h. none j (omega (arith, times-tail j k ks))))
+
+  singly-checked : (ks : List ℕ) → singly ks ≡ Passed → (k : ℕ) → 0 < times k ks → objectVerdict row S [] k (getD files k noFile) ≡ Passed
+  unfolding singly
+  singly-checked [] v k h = absurd (omega arith)
+  singly-checked (j ∷ js) v k h =
+      let a = first-passed (objectVerdict row S [] j (getD files j noFile)) (singly js) v in
+      ⊎-elim
+      (λ (t : eqb j k ≡ true). subst (λ (i : ℕ). objectVerdict row S [] i (getD files i noFile) ≡ Passed) (eqb-true j k t) (a .0))
+      (λ (t : eqb j k ≡ false). singly-checked js (a .1) k (rw t at h))
+      (decide (eqb j k))
+
+  all-checked : (ks : List ℕ) → ((k : ℕ) → 0 < times k ks → objectVerdict row S [] k (getD files k noFile) ≡ Passed) → singly ks ≡ Passed
+  unfolding singly
   all-checked [] h = refl
   all-checked (k ∷ ks) h = rw (h k (times-head k ks)) (all-checked ks (λ j l. h j (omega (arith, times-tail j k ks))))
 
-  -- 14 to 18, 22 and 25
+  -- of two orders, where no library has copies
   pub verdicts-same :
-      (xs ys : List ℕ) → ((k : ℕ) → times k xs ≡ times k ys) → orderVerdict row S files xs ≡ Passed → orderVerdict row S files ys ≡ Passed
-  verdicts-same xs ys same v = all-checked ys (λ k h. order-checked row S files xs v k (omega (arith, same k)))
+      (n : ℕ) (xs ys : List ℕ) → OnceEach n xs → OnceEach n ys → ((k : ℕ) → 2 ≤ k → k < n → objectCopies row S k (getD files k noFile) ≡ [])
+      → orderVerdict row S files [] xs ≡ Passed → orderVerdict row S files [] ys ≡ Passed
+  verdicts-same n xs ys o o′ none v =
+      by-itself ys o′
+      ∙ all-checked ys (λ k h. singly-checked xs (sym (by-itself xs o) ∙ v) k (omega (arith, once-times n xs ys o o′ k)))
+    where
+      by-itself : (zs : List ℕ) → OnceEach n zs → orderVerdict row S files [] zs ≡ singly zs
+      by-itself zs x =
+          subst (λ (l : List ℕ). orderVerdict row S files [] l ≡ singly l) (sym (x .split))
+          (order-singly (x .front) 1 (λ k h. let a = x .only k h in none k (a .0) (a .1)))
 
   none-undefined :
       (ks : List ℕ) → ((k : ℕ) → 0 < times k ks → hasUndefined row S k (getD files k noFile) ≡ false) → firstUndefined row S files ks ≡ 0

@@ -30,10 +30,12 @@ use Rattle.binder.specs.declared.Verdict.{Verdict}
 use Rattle.binder.specs.declared.Verdict.the-variants.{Passed, Refused}
 use Rattle.binder.specs.Setting.{Setting, settingOf}
 use Rattle.binder.specs.Instance.{File, objectFrom}
+use Rattle.binder.specs.Copies.{objectCopies}
 use Rattle.binder.specs.Verdict.{first, noFile, orderVerdict}
 use Rattle.binder.specs.Report.{objectWords, orderWords, firstUndefined}
 use Rattle.binder.specs.SetOrder.{setOrder}
 use Rattle.binder.specs.Steps.Prepared.{loadFrom}
+use Rattle.binder.specs.Steps.PlainVerdict.{plainOrder}
 use Rattle.binder.specs.Bind.{
   filesOf,
   namesOf,
@@ -55,7 +57,8 @@ use Rattle.binder.specs.OwnOrder.{isOrder, libraryCopies, mayTake, bindOrderedS
 use Rattle.binder.proofs.FileLaws.{hostFile, fileOf, files-are}
 use Rattle.binder.proofs.SoundLaws.{count-is, set-sound}
 use Rattle.binder.proofs.OrderIs.{set-order, names-length}
-use Rattle.binder.proofs.OutcomeLaws.{refused-not, first-passed, unless-passed, objectsIn, orderIn, sheetVerdict, bind-one, bound-outcome}
+use Rattle.binder.proofs.OutcomeLaws.{refused-not, first-passed, unless-passed, order-plain, objectsIn, orderIn, sheetVerdict, bind-one, bound-outcome}
+use Rattle.binder.proofs.PrepareLaws.{files-length}
 use Rattle.binder.proofs.OwnOrderLaws.{count-has, order-once, once-order}
 use Rattle.demands.specs.LongerSet.{PassesLoading, setObjects}
 use Rattle.demands.specs.OrderReport.{numbersOf}
@@ -71,7 +74,7 @@ use Rattle.demands.specs.OwnOrders.{
   OrderedRefused,
 }
 use Rattle.demands.proofs.PassedSet.{prepared, sheet-prepared, counts}
-use Rattle.demands.proofs.ProgramCopies.{Plain, row-plain, only-program}
+use Rattle.demands.proofs.ProgramCopies.{Plain, row-plain, only-program, library-none}
 use Rattle.demands.proofs.OrdersAlike.{once-times, once-among, verdicts-same, undefined-same, lengths-same, again, order-words}
 use Rattle.demands.proofs.OrderReported.{reported-numbers}
 use Rattle.demands.proofs.RefusalNumbers.{Meets, first-then, unless-meets}
@@ -166,28 +169,29 @@ taken-none : (v : Verdict) {t : Bool} → t ≡ true → first v (unless t 35 0)
 unfolding unless
 taken-none v e = rw e (first-none v)
 
-module _ (row : ℕ → Row) (S : Objs) (files : List File) (policy : Policy) (words : ℕ) (xs ys : List ℕ) (same : (k : ℕ) → times k xs ≡ times k ys)
-    (pos : (k : ℕ) → 0 < times k xs → 1 ≤ k) where
+-- two orders of the same objects, of which only the program has copies
+module _ (row : ℕ → Row) (S : Objs) (files : List File) (policy : Policy) (words n : ℕ) (xs ys : List ℕ) (o : OnceEach n xs) (o′ : OnceEach n ys)
+    (pos : (k : ℕ) → 0 < times k xs → 1 ≤ k) (none : (k : ℕ) → 2 ≤ k → k < n → objectCopies row S k (getD files k noFile) ≡ []) where
   allowed : (p : Policy) → allows p (firstUndefined row S files xs) ≡ true → allows p (firstUndefined row S files ys) ≡ true
-  allowed Strict e = eq-eqb _ 0 (undefined-same row S files xs ys same pos (eqb-true _ 0 e))
+  allowed Strict e = eq-eqb _ 0 (undefined-same row S files xs ys (once-times n xs ys o o′) pos (eqb-true _ 0 e))
   allowed Lenient e = refl
 
-  -- 14 to 20, and 22
+  -- 14 to 20, 22, 25 and 28
   relocates-same : relocateVerdict row S files xs policy words ≡ Passed → relocateVerdict row S files ys policy words ≡ Passed
   unfolding relocateVerdict unless
   relocates-same v =
-      let a = first-passed (orderVerdict row S files xs) _ v in
+      let a = first-passed (orderVerdict row S files [] xs) _ v in
       let b = first-passed (unless (allows policy (firstUndefined row S files xs)) 19 (firstUndefined row S files xs)) _ (a .1) in
       let c = unless-passed (leb (length (orderWords row S files xs)) words) 20 0 (b .1) in
-      let d : leb (length (orderWords row S files ys)) words ≡ true = ap (λ (n : ℕ). leb n words) (sym (lengths-same row S files xs ys same)) ∙ c in
-      rw (verdicts-same row S files xs ys same (a .0), allowed policy (unless-passed (allows policy (firstUndefined row S files xs)) 19 _ (b .0)), d)
+      let d : leb (length (orderWords row S files ys)) words ≡ true = ap (λ (n : ℕ). leb n words) (sym (lengths-same row S files xs ys (once-times n xs ys o o′))) ∙ c in
+      rw (verdicts-same row S files n xs ys o o′ none (a .0), allowed policy (unless-passed (allows policy (firstUndefined row S files xs)) 19 _ (b .0)), d)
 
 -- the bytes
 bytes-same :
     (setting : Setting) → ((t : ℕ) → eqb t 5 ≡ false → Plain (setting .row t)) → (size : ℕ) (h p : File) (fs : List File) → loadFrom setting size 0 0 (h ∷ (p ∷ fs)) ≡ Passed
     → libraryCopies (h ∷ (p ∷ fs)) ≡ false
     → (xs ys : List ℕ) → OnceEach (count (objsOf (objectFrom setting) h p fs)) xs → OnceEach (count (objsOf (objectFrom setting) h p fs)) ys
-    → orderVerdict (setting .row) (objsOf (objectFrom setting) h p fs) (h ∷ (p ∷ fs)) xs ≡ Passed
+    → plainOrder (setting .row) (objsOf (objectFrom setting) h p fs) (h ∷ (p ∷ fs)) xs ≡ Passed
     → bound (objsOf (objectFrom setting) h p fs) xs ≡ bound (objsOf (objectFrom setting) h p fs) ys
 bytes-same setting plain size h p fs v none xs ys o o′ w =
     fun-ext
@@ -196,7 +200,7 @@ bytes-same setting plain size h p fs v none xs ys o o′ w =
 set-bytes :
     (setting : Setting) → ((t : ℕ) → eqb t 5 ≡ false → Plain (setting .row t)) → (size : ℕ) (os : List Input) → Shape os → loadFrom setting size 0 0 (filesOf os) ≡ Passed → libraryCopies (filesOf os) ≡ false
     → (xs ys : List ℕ) → OnceEach (length (namesOf os) + 2) xs → OnceEach (length (namesOf os) + 2) ys
-    → orderVerdict (setting .row) (objectsIn setting os) (filesOf os) xs ≡ Passed
+    → plainOrder (setting .row) (objectsIn setting os) (filesOf os) xs ≡ Passed
     → bound (objectsIn setting os) xs ≡ bound (objectsIn setting os) ys
 unfolding objectsOf
 set-bytes setting plain size os s v none xs ys o o′ w =
@@ -237,6 +241,14 @@ module _ (setting : Setting) (plain : (t : ℕ) → eqb t 5 ≡ false → Plain 
   pos : (xs : List ℕ) → OnceEach (length (namesOf os) + 2) xs → (k : ℕ) → 0 < times k xs → 1 ≤ k
   pos xs o k h = once-among (length (namesOf os) + 2) xs (omega arith) o k h .0
 
+  -- no library has copies
+  no-copies :
+      sheetVerdict setting (typesVerdict setting) sheet bytes size ≡ Passed → (k : ℕ) → 2 ≤ k → k < length (namesOf os) + 2
+      → objectCopies (setting .row) S k (getD (filesOf os) k noFile) ≡ []
+  no-copies v k l h =
+      let c = counts sheet bytes (sheet-prepared sheet bytes setting (typesVerdict setting) size v .0) in
+      library-none (setting .row) plain S (filesOf os) none k l (omega (arith, files-length os, c .all))
+
   loaded-same :
       sheetVerdict setting (typesVerdict setting) sheet bytes size ≡ Passed → (w w′ : Verdict) → relocateVerdict (setting .row) S (filesOf os) order policy words ≡ w
       → relocateVerdict (setting .row) S (filesOf os) own policy words ≡ w′
@@ -245,9 +257,9 @@ module _ (setting : Setting) (plain : (t : ℕ) → eqb t 5 ≡ false → Plain 
   unfolding outcomeOf relocateVerdict
   loaded-same v (Refused n k) (Refused n′ k′) e e′ = record { bound = refl; arena = refl; words = λ j. refl }
   loaded-same v Passed (Refused n k) e e′ =
-      refused-not n k (sym e′ ∙ relocates-same (setting .row) S (filesOf os) policy words order own same (pos order once) e)
+      refused-not n k (sym e′ ∙ relocates-same (setting .row) S (filesOf os) policy words (length (namesOf os) + 2) order own once once-own (pos order once) (no-copies v) e)
   loaded-same v (Refused n k) Passed e e′ =
-      refused-not n k (sym e ∙ relocates-same (setting .row) S (filesOf os) policy words own order (λ j. sym (same j)) (pos own once-own) e′)
+      refused-not n k (sym e ∙ relocates-same (setting .row) S (filesOf os) policy words (length (namesOf os) + 2) own order once-own once (pos own once-own) (no-copies v) e′)
   loaded-same v Passed Passed e e′ =
       let p = prepared sheet bytes setting size (sheet-prepared sheet bytes setting (typesVerdict setting) size v) in
       let c = counts sheet bytes (p .sheet-ok) in
@@ -257,7 +269,7 @@ module _ (setting : Setting) (plain : (t : ℕ) → eqb t 5 ≡ false → Plain 
         bound = refl;
         arena = ap (tab size)
             (set-bytes setting plain size os (sheet-shape sheet bytes (length bytes) (p .sheet-ok)) (p .loads) none order own once once-own
-            (first-passed (orderVerdict (setting .row) S (filesOf os) order) _ e .0));
+            (order-plain (setting .row) S (filesOf os) [] order (first-passed (orderVerdict (setting .row) S (filesOf os) [] order) _ e .0)));
         words = λ k.
             order-words k (setting .row) S (filesOf os) false order (words - length (orderWords (setting .row) S (filesOf os) order)) (small order once)
             ∙ (ap (λ (n : ℕ). again n (objectWords (setting .row) S k (getD (filesOf os) k noFile))) (same k)
@@ -324,7 +336,7 @@ ordered-right setting sheet bytes size policy words order =
     let t = unless-passed taken 35 0 (a .1) in
     let once = order-once (length (namesOf os)) order (both-true (isOrder (length (namesOf os)) order) _ t .0) in
     weaker (length os) (relocateVerdict (setting .row) (objectsIn setting os) (filesOf os) order policy words)
-    (relocate-right setting sheet bytes size BindNumber (λ n l h ne not-23 not-24. omega arith) (sheet-prepared sheet bytes setting (typesVerdict setting) size (a .0) .0) order
+    (relocate-right setting sheet bytes size (sheet-prepared sheet bytes setting (typesVerdict setting) size (a .0) .0) order
     (λ k h. once-among (length (namesOf os) + 2) order (omega arith) once k (count-has k order h)) policy words))
 
 pub ordered-answers : OrderedAnswers

@@ -37,6 +37,7 @@ use Rattle.sheet.specs.Sheet as sheets
 use Rattle.binder.specs.declared.Policy.the-variants.{Lenient}
 use Rattle.binder.specs.declared.Answer.the-variants.{Bound}
 use Rattle.binder.specs.Instance.{File, exportedOf, placesOf, namedWords, relasOf, entryBy, objectAt, multipleFrom, nextOffset, objectFrom}
+use Rattle.binder.specs.Copies.{crossesOne, copyBy, entriesCopies, objectCopies}
 use Rattle.binder.specs.Verdict.{verdict, refusalBy, wordsVerdict, entriesVerdict, objectVerdict, orderVerdict}
 use Rattle.binder.specs.declared.Verdict.{Verdict}
 use Rattle.binder.specs.declared.Verdict.the-variants.{Passed}
@@ -217,24 +218,35 @@ T-order : setOrder longerFiles ((108 ∷ []) ∷ ((109 ∷ []) ∷ [])) ≡ 2 �
 unfolding setOrder neededObjects
 T-order = order-two _ (rw (a-reads .record-is)) (rw (b-reads .record-is))
 
--- ---- refusals 14 to 18: none reads another object
+-- ---- refusals 14 to 18, and 28: none reads another object
 
-program-verdict : (A : Objs) → objectVerdict (setting .row) A 1 (file false programFile) ≡ Passed
-unfolding objectVerdict wordsVerdict entriesVerdict verdict refusalBy wordBytes every some tab mem byteOf leAt untilZero namedWords relrWords relrsFrom
-    relasOf relasFrom relaAt rowIn rowUnder appliedRow suppliedTypes mayApply checkedSymbol indexOk symbolOk isTable tableBytes tableName inWritable require below
+program-verdict : (A : Objs) → objectVerdict (setting .row) A [] 1 (file false programFile) ≡ Passed
+unfolding objectVerdict wordsVerdict entriesVerdict crossesOne copyBy verdict refusalBy wordBytes every some tab mem byteOf leAt untilZero namedWords
+    relrWords relrsFrom relasOf relasFrom relaAt rowIn rowUnder appliedRow suppliedTypes mayApply checkedSymbol indexOk symbolOk isTable tableBytes
+    tableName inWritable require below
 program-verdict A = rw (program-reads .image-is, program-reads .record-is)
 
-library-verdict : (A : Objs) (k c : ℕ) → Reads false (libraryFile c) 0x1000 (libraryImage c) libraryRecord → objectVerdict (setting .row) A k (file false (libraryFile c)) ≡ Passed
+library-verdict :
+    (A : Objs) (k c : ℕ) → Reads false (libraryFile c) 0x1000 (libraryImage c) libraryRecord
+    → objectVerdict (setting .row) A [] k (file false (libraryFile c)) ≡ Passed
 unfolding objectVerdict wordsVerdict entriesVerdict namedWords relrWords relrsFrom relasOf relasFrom
 library-verdict A k c reads = rw (reads .image-is, reads .record-is)
 
-S-entries : orderVerdict (setting .row) S files (2 ∷ 1 ∷ []) ≡ Passed
-unfolding orderVerdict
-S-entries = rw (library-verdict S 2 97 a-reads, program-verdict S)
+-- a library has no entries
+library-copies :
+    (A : Objs) (k c : ℕ) → Reads false (libraryFile c) 0x1000 (libraryImage c) libraryRecord
+    → objectCopies (setting .row) A k (file false (libraryFile c)) ≡ []
+unfolding entriesCopies relasOf relasFrom
+library-copies A k c reads = rw (reads .image-is, reads .record-is)
 
-T-entries : orderVerdict (setting .row) T longerFiles (2 ∷ 3 ∷ 1 ∷ []) ≡ Passed
+S-entries : orderVerdict (setting .row) S files [] (2 ∷ 1 ∷ []) ≡ Passed
 unfolding orderVerdict
-T-entries = rw (library-verdict T 2 97 a-reads, library-verdict T 3 98 b-reads, program-verdict T)
+S-entries = rw (library-verdict S 2 97 a-reads, library-copies S 2 97 a-reads, program-verdict S)
+
+T-entries : orderVerdict (setting .row) T longerFiles [] (2 ∷ 3 ∷ 1 ∷ []) ≡ Passed
+unfolding orderVerdict
+T-entries =
+    rw (library-verdict T 2 97 a-reads, library-copies T 2 97 a-reads, library-verdict T 3 98 b-reads, library-copies T 3 98 b-reads, program-verdict T)
 
 -- ---- lookups
 
@@ -290,7 +302,7 @@ prepared-typed sheet bytes size v = ap (λ (t : Verdict). prepareVerdict setting
 bind-passed :
     (sheet bytes : List ℕ) (size : ℕ) (os : List Input) (order ws : List ℕ) (A : Objs) → setOf sheet bytes ≡ os
     → PassesLoading setting sheet bytes size → objectsOf setting (filesOf os) ≡ A → setOrder (filesOf os) (namesOf os) ≡ order
-    → orderVerdict (setting .row) A (filesOf os) order ≡ Passed → orderWords (setting .row) A (filesOf os) order ≡ ws → leb (length ws) 16 ≡ true
+    → orderVerdict (setting .row) A (filesOf os) [] order ≡ Passed → orderWords (setting .row) A (filesOf os) order ≡ ws → leb (length ws) 16 ≡ true
     → bindOf setting sheet bytes size Lenient 16 ≡ outcome Bound (tab size (bound A order)) (ws ++ replicate (16 - length ws) 0)
 unfolding bindOf bindSet bindIn relocateVerdict unless outcomeOf
 bind-passed sheet bytes size os order ws A s v o r e w l = rw (v .0, prepared-typed sheet bytes size v, s, o, r, e, w, l)

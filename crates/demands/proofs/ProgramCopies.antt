@@ -1,14 +1,14 @@
--- A set of whose libraries none has an entry of type 5: no library's entry copies. Assumes nothing.
+-- A set of whose libraries none has an entry of type 5: no library's entry copies, and no library has a copy. Assumes nothing.
 use mathlib.Core.Path.{_≡_, refl, sym, ap, subst, _∙_}
 use mathlib.Core.Bool.{Bool, true, false, true≢false}
 use mathlib.Core.Logic.{⊎-elim}
-use mathlib.Core.List.{List, [], _∷_, map, List·Memᴰ, List·Memᴰ·not-nil, List·Memᴰ·cases-cons}
+use mathlib.Core.List.{List, [], _∷_, _++_, map, List·Memᴰ, List·Memᴰ·not-nil, List·Memᴰ·cases-cons}
 use Prim.Native.Nat.{ℕ, zero, suc, _+_, _≤_, _<_}
 use native.Mathlib.Omega.{arith}
 use lib.Dec.{eqb, ltb}
 use lib.ListN.{length, getD}
 use Rattle.words.specs.Choice.{pick, either, some}
-use Rattle.model.specs.Objects.{Entry, fixed, symbol, Obj, count, obj}
+use Rattle.model.specs.Objects.{Entry, fixed, symbol, Obj, Objs, count, obj}
 use Rattle.model.specs.Longer.{NotCopy, OnlyProgramCopies}
 use Rattle.model.specs.Layout.{objsOf}
 use Rattle.object.specs.RelocationTypes.{Calculation, Search, Row, noSearch, inScope, ignored, passedOver, turnedAway, markedRefuse, copies, writes, appliedRow, typeWord, rowUnder, rowIn}
@@ -16,6 +16,8 @@ use Rattle.object.specs.Record.{Record}
 use Rattle.object.specs.declared.relocate.Rela.{Rela}
 use Rattle.binder.specs.Setting.{Setting}
 use Rattle.binder.specs.Instance.{File, fileImage, fileRecord, relasOf, wantedBy, entryBy, entryOf, objectAt, objectFrom}
+use Rattle.binder.specs.declared.crossing.Copy.{Copy}
+use Rattle.binder.specs.Copies.{copyBy, entriesCopies, objectCopies}
 use Rattle.binder.specs.Verdict.{noFile}
 use Rattle.binder.specs.declared.Verdict.the-variants.{Passed}
 use Rattle.binder.specs.OwnOrder.{isCopy, hasCopy, libraryCopies}
@@ -58,7 +60,7 @@ row-plain types t h =
     (pick-plain (eqb (getD types t 0) (typeWord 10 t)) (pick-plain (eqb t 0) is-ignored is-passed) (pick-plain (eqb t 37) is-away is-refused)))
     is-passed
 
-neither : (a b : Bool) → either a b ≡ false → (a ≡ false) × (b ≡ false)
+pub neither : (a b : Bool) → either a b ≡ false → (a ≡ false) × (b ≡ false)
 neither true b e = absurd (true≢false e)
 neither false b e = (refl, e)
 
@@ -114,3 +116,33 @@ only-program setting plain size h p fs v none (suc (suc j)) lo hi e m =
     from-pick (f .host) es (subst (λ (l : List Entry). List·Memᴰ e l) (ap (λ (o : Obj). o .entries) (s .is)) m) in
     entries-not (setting .row) plain (fileImage f) (fileRecord f) (setting .address + s .off) (relasOf (fileImage f) (fileRecord f))
     (none-at fs j none (omega (arith, count-is setting size h p fs))) e in-file
+
+-- ---- the copies of a library
+
+module _ (row : ℕ → Row) (plain : (t : ℕ) → eqb t 5 ≡ false → Plain (row t)) (S : Objs) (k : ℕ) (image : List ℕ) (r : Record) where
+  copy-none : (e : Rela) {x : Row} → Plain x → copyBy S k image r e x ≡ []
+  unfolding copyBy
+  copy-none e is-ignored = refl
+  copy-none e is-passed = refl
+  copy-none e is-away = refl
+  copy-none e is-refused = refl
+  copy-none e (is-written s f) = refl
+
+  copies-none : (es : List Rela) → some isCopy es ≡ false → entriesCopies row S k image r es ≡ []
+  unfolding some entriesCopies
+  copies-none [] z = refl
+  copies-none (e ∷ es) z =
+      let a = neither (isCopy e) (some isCopy es) z in
+      ap (λ (c : List Copy). c ++ entriesCopies row S k image r es) (copy-none e (plain (e .rtype) (a .0))) ∙ copies-none es (a .1)
+
+pub library-none :
+    (row : ℕ → Row) → ((t : ℕ) → eqb t 5 ≡ false → Plain (row t)) → (S : Objs) (files : List File) → libraryCopies files ≡ false
+    → (k : ℕ) → 2 ≤ k → k < length files → objectCopies row S k (getD files k noFile) ≡ []
+unfolding libraryCopies hasCopy
+library-none row plain S [] none k lo hi = absurd (omega arith)
+library-none row plain S (h ∷ []) none k lo hi = absurd (omega arith)
+library-none row plain S (h ∷ (p ∷ fs)) none zero lo hi = absurd (omega arith)
+library-none row plain S (h ∷ (p ∷ fs)) none (suc zero) lo hi = absurd (omega arith)
+library-none row plain S (h ∷ (p ∷ fs)) none (suc (suc j)) lo hi =
+    let f : File = getD fs j noFile in
+    copies-none row plain S (suc (suc j)) (fileImage f) (fileRecord f) (relasOf (fileImage f) (fileRecord f)) (none-at fs j none (omega arith))

@@ -2,7 +2,7 @@
 use mathlib.Core.Path.{_≡_, refl}
 use mathlib.Core.Bool.{Bool, true, false}
 use mathlib.Core.Logic.{_⊎_, inl, inr, ⊎-elim, _≢_}
-use mathlib.Core.List.{List, [], _∷_}
+use mathlib.Core.List.{List, [], _∷_, _++_}
 use Prim.Native.Nat.{ℕ, zero, suc, _+_, _-_, _≤_, _<_, min}
 use native.Mathlib.Omega.{arith}
 use native.Mathlib.Decide.{decLe}
@@ -39,7 +39,9 @@ use Rattle.object.specs.RelocationTypes.{Calculation, Row, noSearch, inScope, i
 use Rattle.object.specs.declared.entry_symbol.CheckedSymbol as checked
 use Rattle.sheet.specs.Sheet.{Input, noInput, named, duplicateFrom, duplicateOf}
 use Rattle.binder.specs.Instance.{File, fileImage, fileRecord, namedWords, relasOf, wantedBy}
-use Rattle.binder.specs.Verdict.{first, verdict, noFile, loadVerdict, wordRefusal, copyOk, copyRefusal, fieldRefusal, symbolThen, refusalBy, entryRefusal, wordsVerdict, entriesVerdict, objectVerdict, orderVerdict}
+use Rattle.binder.specs.declared.crossing.Copy.{Copy}
+use Rattle.binder.specs.Copies.{crossesOne, entryCopy, objectCopies}
+use Rattle.binder.specs.Verdict.{crossRefusal, first, verdict, noFile, loadVerdict, wordRefusal, copyOk, copyRefusal, fieldRefusal, symbolThen, refusalBy, entryRefusal, wordsVerdict, entriesVerdict, objectVerdict, orderVerdict}
 use Rattle.binder.specs.declared.Verdict.{Verdict}
 use Rattle.binder.specs.declared.Verdict.the-variants.{Passed, Refused}
 use Rattle.binder.specs.Report.{hasUndefined, firstUndefined}
@@ -137,10 +139,10 @@ object-number host room file =
     after-told (LoadNumber host) (placeRefusal host room file) _ (place-number host room file)
     (from-range host _ (read-range host (objectImage host file) (segmentsOf host file) (dynamicOf file)))
 
--- ---- 14 to 18, 22 and 25
+-- ---- 14 to 18, 22, 25 and 28
 
 abbrev pub EntryNumber : ℕ → Type 0
-EntryNumber n = (14 ≤ n) × (n ≤ 25) × (n ≢ 19) × (n ≢ 20) × (n ≢ 21) × (n ≢ 23) × (n ≢ 24)
+EntryNumber n = (14 ≤ n) × (n ≤ 28) × (n ≢ 19) × (n ≢ 20) × (n ≢ 21) × (n ≢ 23) × (n ≢ 24) × (n ≢ 26) × (n ≢ 27)
 
 abbrev EntryRange : ℕ → Type 0
 EntryRange n = 0 < n → EntryNumber n
@@ -265,7 +267,7 @@ module _ (P : ℕ → ℕ → Type 0) where
       not-first (yes l) e = l
       not-first (no l) e = absurd (clash (first (omega arith)) e)
 
-  -- 14 to 18, 22 and 25, of object `k`
+  -- 14 to 18, 22, 25 and 28, of object `k`
   module _ (row : ℕ → Row) (S : Objs) (k : ℕ) (h : (n : ℕ) → EntryNumber n → P n k) where
     words-meets : (r : Record) (ws : List Word) → Meets P (wordsVerdict k r ws)
     unfolding wordsVerdict
@@ -273,30 +275,38 @@ module _ (P : ℕ → ℕ → Type 0) where
     words-meets r (w ∷ ws) =
         first-meets (verdict (wordRefusal r w) k) _ (verdict-meets _ (wordRefusal r w) k (word-range r w) (h _)) (words-meets r ws)
 
-    entries-meets : (image : List ℕ) (r : Record) (es : List Rela) → Meets P (entriesVerdict row S k image r es)
-    unfolding entriesVerdict
-    entries-meets image r [] = tt
-    entries-meets image r (e ∷ es) =
-        first-meets (verdict (entryRefusal row S k image r e) k) _
-        (verdict-meets _ (entryRefusal row S k image r e) k (entry-range S k image r e (row (e .rtype))) (h _)) (entries-meets image r es)
+    cross-range : (t : Bool) → EntryRange (pick t 28 0)
+    cross-range true = λ z. omega arith
+    cross-range false = λ z. absurd (omega arith)
 
-    object-meets : (f : File) → Meets P (objectVerdict row S k f)
+    entries-meets : (image : List ℕ) (r : Record) (earlier : List Copy) (es : List Rela) → Meets P (entriesVerdict row S k image r earlier es)
+    unfolding entriesVerdict
+    entries-meets image r earlier [] = tt
+    entries-meets image r earlier (e ∷ es) =
+        let c : List Copy = entryCopy row S k image r e in
+        first-meets (verdict (entryRefusal row S k image r e) k) _
+        (verdict-meets _ (entryRefusal row S k image r e) k (entry-range S k image r e (row (e .rtype))) (h _))
+        (first-meets (verdict (crossRefusal earlier c) k) _
+        (verdict-meets _ (crossRefusal earlier c) k (cross-range (crossesOne earlier c)) (h _)) (entries-meets image r (earlier ++ c) es))
+
+    object-meets : (earlier : List Copy) (f : File) → Meets P (objectVerdict row S earlier k f)
     unfolding objectVerdict
-    object-meets f =
+    object-meets earlier f =
         first-meets (wordsVerdict k (fileRecord f) (namedWords (fileImage f) (fileRecord f))) _
         (words-meets (fileRecord f) (namedWords (fileImage f) (fileRecord f)))
-        (entries-meets (fileImage f) (fileRecord f) (relasOf (fileImage f) (fileRecord f)))
+        (entries-meets (fileImage f) (fileRecord f) earlier (relasOf (fileImage f) (fileRecord f)))
 
   -- of the objects of an order
   pub order-meets :
-      (row : ℕ → Row) (S : Objs) (files : List File) (order : List ℕ) → ((n k : ℕ) → EntryNumber n → has k order ≡ true → P n k)
-      → Meets P (orderVerdict row S files order)
+      (row : ℕ → Row) (S : Objs) (files : List File) (earlier : List Copy) (order : List ℕ)
+      → ((n k : ℕ) → EntryNumber n → has k order ≡ true → P n k)
+      → Meets P (orderVerdict row S files earlier order)
   unfolding orderVerdict
-  order-meets row S files [] h = tt
-  order-meets row S files (k ∷ ks) h =
-      first-meets (objectVerdict row S k (getD files k noFile)) _
-      (object-meets row S k (λ n l. h n k l (has-head k ks)) (getD files k noFile))
-      (order-meets row S files ks (λ n j l m. h n j l (has-cons j k ks m)))
+  order-meets row S files earlier [] h = tt
+  order-meets row S files earlier (k ∷ ks) h =
+      first-meets (objectVerdict row S earlier k (getD files k noFile)) _
+      (object-meets row S k (λ n l. h n k l (has-head k ks)) earlier (getD files k noFile))
+      (order-meets row S files (earlier ++ objectCopies row S k (getD files k noFile)) ks (λ n j l m. h n j l (has-cons j k ks m)))
 
 -- ---- 19: an object of the order, or none
 

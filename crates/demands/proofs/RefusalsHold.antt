@@ -101,6 +101,9 @@ pub types-right : (setting : Setting) (count : ℕ) → Meets (Right BindNumber 
 types-right setting count =
     unless-meets (Right BindNumber count) (setting .typed) 24 0 (λ _. (omega arith, without count 24 refl (λ e. omega arith) (λ l h i. i refl)))
 
+numbered : (n : ℕ) → 14 ≤ n → n ≤ 28 → n ≢ 23 → n ≢ 26 → n ≢ 27 → BindNumber n
+numbered n low high a b c = omega arith
+
 module _ (setting : Setting) (sheet bytes : List ℕ) (size : ℕ) where
   abbrev os : List Input
   os = setOf sheet bytes
@@ -141,26 +144,26 @@ module _ (setting : Setting) (sheet bytes : List ℕ) (size : ℕ) where
       ))
       q)))))
 
-  -- 14 to 20, 22 and 25, in any order
+  -- 14 to 20, 22, 25 and 28, in any order
   pub relocate-right :
-      (N : ℕ → Type 0) → ((n : ℕ) → 14 ≤ n → n ≤ 25 → n ≢ 21 → n ≢ 23 → n ≢ 24 → N n) → sheetOk sheet (length bytes) ≡ true
-      → (order : List ℕ) → ((k : ℕ) → has k order ≡ true → (1 ≤ k) × (k < length (namesOf os) + 2)) → (policy : Policy) (words : ℕ)
-      → Meets (Right N (length os)) (relocateVerdict (setting .row) (objectsIn setting os) (filesOf os) order policy words)
+      sheetOk sheet (length bytes) ≡ true → (order : List ℕ) → ((k : ℕ) → has k order ≡ true → (1 ≤ k) × (k < length (namesOf os) + 2))
+      → (policy : Policy) (words : ℕ)
+      → Meets (Right BindNumber (length os)) (relocateVerdict (setting .row) (objectsIn setting os) (filesOf os) order policy words)
   unfolding relocateVerdict
-  relocate-right N ok good order among policy words =
-      first-meets (Right N (length os)) (orderVerdict (setting .row) (objectsIn setting os) (filesOf os) order) _
-      (order-meets (Right N (length os)) (setting .row) (objectsIn setting os) (filesOf os) order
+  relocate-right good order among policy words =
+      first-meets (Right BindNumber (length os)) (orderVerdict (setting .row) (objectsIn setting os) (filesOf os) [] order) _
+      (order-meets (Right BindNumber (length os)) (setting .row) (objectsIn setting os) (filesOf os) [] order
       (λ n k x m.
       let b : (1 ≤ k) × (k < length (namesOf os) + 2) = among k m in
-      (ok n (x .0) (x .1) (x .4) (x .5) (x .6), entry-of n k (x .0) (x .3) (x .6) (b .0) (b .1))))
-      (first-meets (Right N (length os)) (unless (allows policy u) 19 u) _
-      (unless-meets (Right N (length os)) (allows policy u) 19 u
+      (numbered n (x .0) (x .1) (x .5) (x .7) (x .8), entry-of n k (x .0) (x .3) (x .6) (b .0) (b .1))))
+      (first-meets (Right BindNumber (length os)) (unless (allows policy u) 19 u) _
+      (unless-meets (Right BindNumber (length os)) (allows policy u) 19 u
       (λ e.
       let m = first-undefined (setting .row) (objectsIn setting os) (filesOf os) order (undefined policy e) in
       let b : (1 ≤ u) × (u < length (namesOf os) + 2) = among u m in
-      (ok 19 (omega arith) (omega arith) (λ e. omega arith) (λ e. omega arith) (λ e. omega arith), entry-of 19 u (omega arith) (λ e. omega arith) (λ e. omega arith) (b .0) (b .1))))
-      (unless-meets (Right N (length os)) (leb (length (orderWords (setting .row) (objectsIn setting os) (filesOf os) order)) words) 20 0
-      (λ _. (ok 20 (omega arith) (omega arith) (λ e. omega arith) (λ e. omega arith) (λ e. omega arith), without (length os) 20 refl (λ e. omega arith) (λ l h i. omega arith)))))
+      (omega arith, entry-of 19 u (omega arith) (λ e. omega arith) (λ e. omega arith) (b .0) (b .1))))
+      (unless-meets (Right BindNumber (length os)) (leb (length (orderWords (setting .row) (objectsIn setting os) (filesOf os) order)) words) 20 0
+      (λ _. (omega arith, without (length os) 20 refl (λ e. omega arith) (λ l h i. omega arith)))))
     where
       u : ℕ
       u = firstUndefined (setting .row) (objectsIn setting os) (filesOf os) order
@@ -182,7 +185,7 @@ module _ (setting : Setting) (sheet bytes : List ℕ) (size : ℕ) where
       first-then (Right BindNumber (length os)) (sheetVerdict setting (typesVerdict setting) sheet bytes size) _
       (prepare-right BindNumber (λ n l h. omega arith) (omega arith) (typesVerdict setting) (types-right setting (length os)))
       (λ v.
-      relocate-right BindNumber (λ n l h ne not-23 not-24. omega arith) (sheet-prepared sheet bytes setting (typesVerdict setting) size v .0) (orderIn os)
+      relocate-right (sheet-prepared sheet bytes setting (typesVerdict setting) size v .0) (orderIn os)
       (order-objects (filesOf os) (namesOf os)) policy words)
 
   query-right :
@@ -299,7 +302,7 @@ pub room :
 unfolding relocateVerdict
 room row S files order policy words v e =
     let a = first-passed v _ e in
-    let b = first-passed (orderVerdict row S files order) _ (a .1) in
+    let b = first-passed (orderVerdict row S files [] order) _ (a .1) in
     let c = first-passed (unless (allows policy (firstUndefined row S files order)) 19 (firstUndefined row S files order)) _ (b .1) in
     leb-true _ _ (unless-passed (leb (length (orderWords row S files order)) words) 20 0 (c .1))
 

@@ -5,9 +5,11 @@ pub mod Cases
 pub mod FieldCases
 pub mod RefusalCases
 pub mod TypeCases
+pub mod CopyCases
 pub mod Refusals
 pub mod AllNames
 pub mod LargePages
+pub mod CopiesApart
 pub mod PairOfSheets
 pub mod ObjectRuns
 pub mod WalksEnd

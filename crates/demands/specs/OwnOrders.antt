@@ -65,7 +65,7 @@ pub record OrderRefused : Type 0 where
       → prepareVerdict setting (typesVerdict setting) (setOf sheet bytes) size ≡ Passed
       → mayTake (filesOf (setOf sheet bytes)) (namesOf (setOf sheet bytes)) order ≡ false
       → bindOrderedOf setting sheet bytes size policy words order ≡ refusedBind size words 35 0
-  -- then 14 to 20, 22 and 25, in that order
+  -- then 14 to 20, 22, 25 and 28, in that order
   pub entries :
       (setting : Setting) (sheet bytes : List ℕ) (size : ℕ) (policy : Policy) (words : ℕ) (order : List ℕ) (n k : ℕ)
       → sheetOk sheet (length bytes) ≡ true

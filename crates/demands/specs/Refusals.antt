@@ -2,7 +2,7 @@
 -- report, or one numbered refusal with an object number; a refusal leaves zeros in arena and report". Document 01, "Refused, in checking
 -- order": "Object number 0 for 1, 2, 13, 20"; "What is handed in": "The host plays the part of `miros`: already mapped, never written".
 -- Document 02, (a): "21, after 7, a PT_LOAD p_align, the host's excepted, ..; a query meets it too"; (f): "24, after 2, .. (object 0); 25, after
--- 16, an entry of another type marked refuse". Assumes nothing.
+-- 16, an entry of another type marked refuse"; (h): "28, after 18 in the entry's turn". Assumes nothing.
 use mathlib.Core.Bool.{true, false}
 use mathlib.Core.List.{List, [], _∷_}
 use mathlib.Core.Logic.{_⊎_, _≢_}
@@ -35,12 +35,12 @@ pub record ObjectOf (count n k : ℕ) : Type 0 where
   pub object : has n withoutObject ≡ false → k < count
   -- 3: "A library name that an earlier library has": not the first library
   pub later : n ≡ 3 → 3 ≤ k
-  -- 14 to 19, 22 and 25 are of entries, and the host's are not read; 21: "the host's excepted"
+  -- 14 to 19, 22, 25 and 28 are of entries, and the host's are not read; 21: "the host's excepted"
   pub entry : 14 ≤ n → n ≢ 20 → n ≢ 24 → 1 ≤ k
 
--- the numbers of `bind`: 1 to 12, 14 to 22, 24 and 25
+-- the numbers of `bind`: 1 to 12, 14 to 22, 24, 25 and 28
 abbrev pub BindNumber : ℕ → Type 0
-BindNumber n = (1 ≤ n) × (n ≤ 25) × (n ≢ 13) × (n ≢ 23)
+BindNumber n = (1 ≤ n) × (n ≤ 28) × (n ≢ 13) × (n ≢ 23) × (n ≢ 26) × (n ≢ 27)
 
 -- what a refused call to `bind` answers, and leaves
 pub record BindRefused (sheet bytes : List ℕ) (size words n k : ℕ) (arena report : List ℕ) : Type 0 where

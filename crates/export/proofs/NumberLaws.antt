@@ -1,7 +1,7 @@
 -- No refusal of `bind`, `bind_ordered`, `query`, `query_all` or `start_stop` has the number 0. Assumes nothing.
 use mathlib.Core.Path.{_≡_, refl, sym, _∙_}
 use mathlib.Core.Bool.{Bool, true, false}
-use mathlib.Core.List.{List, [], _∷_}
+use mathlib.Core.List.{List, [], _∷_, _++_}
 use Prim.Native.Nat.{ℕ, _+_, _-_, _<_}
 use native.Mathlib.Omega.{arith}
 use borrow.Author.Tests.{eqb-false}
@@ -22,7 +22,9 @@ use Rattle.binder.specs.declared.Reply as replies
 use Rattle.binder.specs.Setting.{Setting}
 use Rattle.binder.specs.Instance.{File, fileImage, fileRecord, namedWords, relasOf}
 use Rattle.binder.specs.Verdict as verdicts
-use Rattle.binder.specs.Verdict.{first, verdict, noFile, loadVerdict, wordRefusal, wordsVerdict, entryRefusal, entriesVerdict, objectVerdict, orderVerdict}
+use Rattle.binder.specs.declared.crossing.Copy.{Copy}
+use Rattle.binder.specs.Copies.{entryCopy, objectCopies}
+use Rattle.binder.specs.Verdict.{crossRefusal, first, verdict, noFile, loadVerdict, wordRefusal, wordsVerdict, entryRefusal, entriesVerdict, objectVerdict, orderVerdict}
 use Rattle.binder.specs.declared.Verdict.{Verdict}
 use Rattle.binder.specs.declared.Verdict.the-variants.{Passed, Refused}
 use Rattle.object.specs.RelocationTypes.{Row}
@@ -78,30 +80,38 @@ of-words k r [] = passing
 of-words k r (w ∷ ws) =
     either-one (verdict (wordRefusal r w) k) (wordsVerdict k r ws) (of-number (wordRefusal r w) k) (of-words k r ws)
 
-of-entries : (row : ℕ → Row) (S : Objs) (k : ℕ) (image : List ℕ) (r : Record) (es : List Rela) → Numbered (entriesVerdict row S k image r es)
+of-entries :
+    (row : ℕ → Row) (S : Objs) (k : ℕ) (image : List ℕ) (r : Record) (earlier : List Copy) (es : List Rela)
+    → Numbered (entriesVerdict row S k image r earlier es)
 unfolding verdicts.entriesVerdict
-of-entries row S k image r [] = passing
-of-entries row S k image r (e ∷ es) =
-    either-one (verdict (entryRefusal row S k image r e) k) (entriesVerdict row S k image r es) (of-number (entryRefusal row S k image r e) k) (of-entries row S k image r es)
+of-entries row S k image r earlier [] = passing
+of-entries row S k image r earlier (e ∷ es) =
+    let c : List Copy = entryCopy row S k image r e in
+    let rest : Verdict = entriesVerdict row S k image r (earlier ++ c) es in
+    either-one (verdict (entryRefusal row S k image r e) k) (first (verdict (crossRefusal earlier c) k) rest) (of-number (entryRefusal row S k image r e) k)
+    (either-one (verdict (crossRefusal earlier c) k) rest (of-number (crossRefusal earlier c) k) (of-entries row S k image r (earlier ++ c) es))
 
-of-object : (row : ℕ → Row) (S : Objs) (k : ℕ) (f : File) → Numbered (objectVerdict row S k f)
+of-object : (row : ℕ → Row) (S : Objs) (earlier : List Copy) (k : ℕ) (f : File) → Numbered (objectVerdict row S earlier k f)
 unfolding verdicts.objectVerdict
-of-object row S k f =
-    either-one (wordsVerdict k (fileRecord f) (namedWords (fileImage f) (fileRecord f))) (entriesVerdict row S k (fileImage f) (fileRecord f) (relasOf (fileImage f) (fileRecord f)))
-    (of-words k (fileRecord f) (namedWords (fileImage f) (fileRecord f))) (of-entries row S k (fileImage f) (fileRecord f) (relasOf (fileImage f) (fileRecord f)))
+of-object row S earlier k f =
+    let es : List Rela = relasOf (fileImage f) (fileRecord f) in
+    either-one (wordsVerdict k (fileRecord f) (namedWords (fileImage f) (fileRecord f))) (entriesVerdict row S k (fileImage f) (fileRecord f) earlier es)
+    (of-words k (fileRecord f) (namedWords (fileImage f) (fileRecord f))) (of-entries row S k (fileImage f) (fileRecord f) earlier es)
 
-of-order : (row : ℕ → Row) (S : Objs) (files : List File) (ks : List ℕ) → Numbered (orderVerdict row S files ks)
+of-order : (row : ℕ → Row) (S : Objs) (files : List File) (earlier : List Copy) (ks : List ℕ) → Numbered (orderVerdict row S files earlier ks)
 unfolding verdicts.orderVerdict
-of-order row S files [] = passing
-of-order row S files (k ∷ ks) =
-    either-one (objectVerdict row S k (getD files k noFile)) (orderVerdict row S files ks) (of-object row S k (getD files k noFile)) (of-order row S files ks)
+of-order row S files earlier [] = passing
+of-order row S files earlier (k ∷ ks) =
+    let more : List Copy = earlier ++ objectCopies row S k (getD files k noFile) in
+    either-one (objectVerdict row S earlier k (getD files k noFile)) (orderVerdict row S files more ks)
+    (of-object row S earlier k (getD files k noFile)) (of-order row S files more ks)
 
 of-relocate : (row : ℕ → Row) (S : Objs) (files : List File) (order : List ℕ) (policy : Policy) (words : ℕ) → Numbered (relocateVerdict row S files order policy words)
 unfolding binding.relocateVerdict
 of-relocate row S files order policy words =
     let u = firstUndefined row S files order in
     let room = leb (length (orderWords row S files order)) words in
-    either-one (orderVerdict row S files order) (first (unless (allows policy u) 19 u) (unless room 20 0)) (of-order row S files order)
+    either-one (orderVerdict row S files [] order) (first (unless (allows policy u) 19 u) (unless room 20 0)) (of-order row S files [] order)
     (either-one (unless (allows policy u) 19 u) (unless room 20 0) (of-test (allows policy u) 19 u (omega arith)) (of-test room 20 0 (omega arith)))
 
 of-set : (setting : Setting) (types : Verdict) (os : List Input) (size : ℕ) → Numbered types → Numbered (prepareVerdict setting types os size)

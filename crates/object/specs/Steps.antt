@@ -6,6 +6,7 @@ pub mod WriteRuns
 pub mod LastZero
 pub mod Slots
 pub mod RecordBounds
+pub mod FieldsRead
 pub mod Marks
 pub mod FineRange
 pub mod Actions

@@ -4,6 +4,7 @@ ghost use Prim.Native.Nat.{ℕ, _*_, _^_, _≤_, _<_};
 ghost use lib.ListN.{take};
 ghost use Rattle.object.specs.Steps.Slots.{fieldIn};
 ghost use Rattle.object.specs.Steps.RecordBounds.{BoundsOf, RelocationCounts};
+ghost use Rattle.object.specs.Steps.FieldsRead.{FieldsRead};
 ghost use Rattle.object.specs.Steps.LoadTable.{segmentsIn};
 ghost use Rattle.object.specs.Record.{heldBy, noRecord, viewOf, entryCount, tableIn, recordIn, fieldsRefusal, fieldIs, needsOk, relocationsOk, tablesOk, sizesRefusal, ReadBy};
 use crate::dynamic_array::DT_GNU_HASH;
@@ -288,6 +289,32 @@ pub(crate) fn refused(number: u32) -> Read
     Read {
         refusal: number,
         object: object,
+    }
+}
+
+// Refusals 9 to 11, and the record where there is none: all that is read of an image, but its tables are not checked. For records that are
+// read again; read_object has the same steps itself, since a record that goes through one more call is copied once more.
+pub fn read_fields(image: &[u8], l: Loads, d: Dynamic) -> Read
+    requires { ⌜ l .count ≤ 16 ⌝ }
+    ensures { λ r. ⌜ FieldsRead (now (image .entry)) (segmentsIn l) d r ⌝ }
+{
+    let Dynamic::At(at) = d else {
+        return refused(9);
+    };
+    let a = crate::dynamic_array::read_array(image, at);
+    let slots = a.slots;
+    let n = a.needs;
+    let number = fields_refusal(image, &slots, a.ended);
+    if number != 0 {
+        return refused(number);
+    }
+    if 64 < n.count {
+        return refused(11);
+    }
+    let o = object_in(image, l, &slots, n);
+    Read {
+        refusal: 0,
+        object: o,
     }
 }
 

@@ -54,7 +54,7 @@ of-bind setting sheet bytes size policy words =
     ∙ of-outcome size words (first (sheetVerdict setting (typesVerdict setting) sheet bytes size) (relocateVerdict (setting .row) S files order policy words)) _ (orderWords (setting .row) S files order)
     (λ e.
     let p = first-passed (sheetVerdict setting (typesVerdict setting) sheet bytes size) (relocateVerdict (setting .row) S files order policy words) e in
-    let q = first-passed (orderVerdict (setting .row) S files order) last (p .1) in
+    let q = first-passed (orderVerdict (setting .row) S files [] order) last (p .1) in
     let r = first-passed (unless (allows policy (firstUndefined (setting .row) S files order)) 19 (firstUndefined (setting .row) S files order)) (unless room 20 0) (q .1) in
     leb-true (length (orderWords (setting .row) S files order)) words (unless-passed room 20 0 (r .1)))
 

@@ -44,7 +44,7 @@ use Rattle.binder.specs.Steps.Relocating as relocating
 use Rattle.binder.specs.Steps.Prepared.{Prepared, linkOf}
 use Rattle.binder.specs.Steps.Needed.{Arranged}
 use Rattle.binder.specs.Steps.Finished as finished
-use Rattle.binder.specs.Steps.Finished.{Relocated, BoundSet}
+use Rattle.binder.specs.Steps.Finished.{RelocatedOr, BoundSet}
 use Rattle.binder.proofs.FileLaws.{hostFile, fileOf}
 use Rattle.binder.proofs.BindIs as binds
 use Rattle.binder.proofs.BindIs.{bind-is}
@@ -234,7 +234,7 @@ pub then-listed :
     → Prepared setting (typesVerdict setting) os arena a table r → r ≡ Passed → ((rtype : ℕ) → relocating.rowAt table rtype ≡ setting .row rtype) → (order : Order) → Arranged os count a table order
     → (rows : List ℕ) → RowsRead os count a table rows
     → (policy : Policy) (report : List ℕ) → report ≡ replicate (length report) 0
-    → (a′ report′ : List ℕ) (m : Verdict) → Relocated os table (take (order .count) (order .list)) a policy report a′ report′ m → m ≡ Passed
+    → (a′ report′ : List ℕ) (m : Verdict) → RelocatedOr os table (take (order .count) (order .list)) a policy report a′ report′ m → m ≡ Passed
     → (start stop : List ℕ) (l : Lists) → ListsMade (callsAt a′ table rows) (take (order .count) (order .list)) a′ start stop l
     → finishedOf l a′ report′ start stop
     ≡ thenList setting os (length start) (length stop) (bindSet setting os (length arena) policy (length report))

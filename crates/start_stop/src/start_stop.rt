@@ -51,7 +51,7 @@ fn list_all(
     Lists::Listed { start: n, stop: m }
 }
 
-// Refusals 2 to 20, 26 and 27 of the objects that the table of parts names; the rows are read before the objects are relocated.
+// Refusals 2 to 28 of the objects that the table of parts names; the rows are read before the objects are relocated.
 fn list_set(
     bytes: &[u8],
     parts: Parts,

@@ -370,3 +370,18 @@ module _ (table : List ℕ) where
   unfoldable pub runOrder : List Input → List ℕ → Left → Left
   runOrder os [] st = st
   runOrder os (k ∷ ks) (left p a report) = unlessRefused (runOrder os ks) (runAt k (getD os k noInput .file) p a report)
+
+  -- ---- an object up to an entry
+
+  -- RELR, then the first `m` entries of RELA and PLT
+  abbrev pub untilTables : Turn → Record → ℕ → Progress → List ℕ → Summed → Left
+  untilTables t r m p report (summed z a) =
+      pick (eqb z 0)
+      (unlessRefused (runTable t r (r .plt) (cutTo32 (r .relas)) (min (cutTo32 (r .plts)) (m - min (cutTo32 (r .relas)) m)) 0)
+      (runTable t r (r .rela) 0 (min (cutTo32 (r .relas)) m) 0 (left (keeps 0 0 p) a report)))
+      (left (refusedBy t z p) a report)
+
+  unfoldable pub runUntil : ℕ → List ℕ → ℕ → Progress → List ℕ → List ℕ → Left
+  runUntil k file m p a report =
+      untilTables (turnOf table k) (againRecord (imageIn a (turnOf table k)) file) m p report
+      (runRelrs (turnOf table k) (againRecord (imageIn a (turnOf table k)) file) a)
