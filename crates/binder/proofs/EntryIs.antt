@@ -44,9 +44,9 @@ use Rattle.scope.specs.declared.scope.Resolved.{Resolved}
 use Rattle.binder.specs.declared.relocate.Sought.the-variants.{Stopped, Known}
 use Rattle.scope.specs.declared.scope.Resolved.the-variants.{Absent, Found}
 use Rattle.binder.specs.declared.report.Progress.{Progress}
-use Rattle.binder.proofs.InsideLaws.{name-is}
+use Rattle.binder.proofs.InsideLaws.{name-is, writable-inside}
 use Rattle.binder.proofs.Steady.{set, fileAt, LoadedSet, Steady, Written}
-use Rattle.binder.proofs.SteadyLaws.{lies, readings, searches, copy-searches, writable-inside, write-steady, copy-tests}
+use Rattle.binder.proofs.SteadyLaws.{lies, readings, searches, copy-searches, written-then, write-steady, copy-tests}
 use Rattle.binder.proofs.ReportFill.{Going, NotedGoing, KeptAs, earlier, earlier-none, going-length, word-going, marked-going, keeps-going, note-kept, unresolved-kept}
 use Rattle.binder.proofs.Runs.{Ran, verdict-none, ran-refused, ran-passed}
 
@@ -103,11 +103,6 @@ module _ (setting : Setting) (size : ℕ) (table : List ℕ) (h pr : File) (fs :
 
   abbrev S : Objs
   S = set setting size table h pr fs
-
-  pub written-then :
-      (a b c : List ℕ) (k : ℕ) → Written setting size table h pr fs a b k → Written setting size table h pr fs b c k
-      → Written setting size table h pr fs a c k
-  written-then a b c k x y = record { steady = y .steady; others = λ j l ne. y .others j l ne ∙ x .others j l ne }
 
   module _ (L : LoadedSet setting size table h pr fs) (k : ℕ) (lo : 1 ≤ k) (hi : k < count (set setting size table h pr fs))
       (n : ℕ) (a₀ : List ℕ) where
@@ -167,7 +162,7 @@ module _ (setting : Setting) (size : ℕ) (table : List ℕ) (h pr : File) (fs :
       wrote-to q w g e =
           let x = write-steady setting size table h pr fs L a steady k hi q w e g in
           rw (link-offset k hi) (
-            written-then a₀ a (patch a ((obj S k) .offset + q) w g) k (d .written) (x .0),
+            written-then setting size table h pr fs a₀ a (patch a ((obj S k) .offset + q) w g) k (d .written) (x .0),
             x .1 ∙ ap (λ (m : Mem). write m ((obj S k) .offset + q) w g) (d .memory),
           )
 
@@ -481,7 +476,7 @@ module _ (setting : Setting) (size : ℕ) (table : List ℕ) (h pr : File) (fs :
           fits-is w =
               ap (λ (s : ℕ). copyFits s t (e .place) (linkAt table o) x many) (steady .size-is)
               ∙ copy-tests setting size table h pr fs L k o hi ol (e .place) many
-              (writable-inside setting size table h pr fs k (e .place) many w) x
+              (writable-inside (f .host) (f .bytes) (e .place) many w) x
 
           copy-writable :
               (b : Bool) → inWritable (r .segments) (e .place) many ≡ b

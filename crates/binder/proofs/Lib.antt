@@ -7,6 +7,7 @@ pub mod PrepareLaws
 pub mod OutcomeLaws
 pub mod FileLaws
 pub mod InsideLaws
+pub mod Lies
 pub mod SoundLaws
 pub mod OrderIs
 pub mod ScopeIs

@@ -2,8 +2,8 @@
 -- nothing.
 use mathlib.Core.Path.{_≡_, refl, sym, ap, _∙_}
 use mathlib.Core.Bool.{Bool}
-use mathlib.Core.List.{List, [], _∷_, map}
-use Prim.Native.Nat.{ℕ, zero, suc, _+_, _-_, _≤_, _<_}
+use mathlib.Core.List.{List, _∷_, map}
+use Prim.Native.Nat.{ℕ, _-_, _≤_, _<_}
 use native.Mathlib.Omega.{arith}
 use borrow.Author.Tests.{leb-true}
 use lib.Dec.{leb}
@@ -21,14 +21,13 @@ use Rattle.object.specs.DynamicFields.{fieldsOf, neededOffsets}
 use Rattle.object.specs.ProgramHeader.{dynamicOf}
 use Rattle.object.specs.Record as records
 use Rattle.object.specs.Record.{viewOf, fieldsRefusal, readRefusal}
-use Rattle.object.specs.Placed.{segmentsOf, objectSpan, placeRefusal}
+use Rattle.object.specs.Placed.{segmentsOf}
 use Rattle.object.specs.Loaded as loading
-use Rattle.object.specs.Loaded.{objectRefusal}
 use Rattle.object.proofs.RefusalLaws.{required, after-zero}
 use Rattle.sheet.specs.Sheet.{Input, noInput}
-use Rattle.binder.specs.Instance.{File, fileImage, fileRecord, objectFrom, offsetOf}
+use Rattle.binder.specs.Instance.{File, fileImage, fileRecord, objectFrom}
 use Rattle.binder.specs.Setting.{Setting}
-use Rattle.binder.specs.Verdict.{verdict, noFile}
+use Rattle.binder.specs.Verdict.{noFile}
 use Rattle.binder.specs.declared.Verdict.the-variants.{Passed}
 use Rattle.binder.specs.Steps.Prepared.{loadFrom}
 use Rattle.binder.specs.Bind.{filesOf, namesOf}
@@ -39,10 +38,10 @@ use Rattle.scope.specs.Steps.ScopeCode.{imageAt}
 use Rattle.binder.specs.Steps.Needed.{neededAt, numbersAt, needsAt, FewNeeds, Arranged}
 use Rattle.binder.specs.declared.order.Order.{Order}
 use Rattle.scope.specs.declared.links.Link.{Link}
-use Rattle.binder.proofs.OutcomeLaws.{first-passed, verdict-passed}
+use Rattle.binder.proofs.OffsetLaws.{load-read}
+use Rattle.binder.proofs.Lies.{file-lies, count-is}
 use Rattle.binder.proofs.PrepareLaws.{file-at, files-length}
 use Rattle.binder.proofs.FileLaws.{hostFile, fileOf}
-use Rattle.binder.proofs.SoundLaws.{count-is}
 use Rattle.binder.proofs.Steady as steady
 use Rattle.binder.proofs.Steady.{LoadedSet, PlacedAt}
 
@@ -51,19 +50,6 @@ use Rattle.binder.proofs.Steady.{LoadedSet, PlacedAt}
 -- its record was read: refusals 9 to 12 were passed
 abbrev ReadFrom : File → Type 0
 ReadFrom f = readRefusal (f .host) (fileImage f) (segmentsOf (f .host) (f .bytes)) (dynamicOf (f .bytes)) ≡ 0
-
-read-passed :
-    (setting : Setting) (size : ℕ) (files : List File) (n off k : ℕ) → loadFrom setting size n off files ≡ Passed → k < length files
-    → ReadFrom (getD files k noFile)
-unfolding loadFrom loading.objectRefusal
-read-passed setting size [] n off k v h = absurd (omega arith)
-read-passed setting size (f ∷ fs) n off zero v h =
-    let a = first-passed (verdict (objectRefusal (f .host) (size - offsetOf setting f off) (f .bytes)) n) _ v in
-    let z = verdict-passed (objectRefusal (f .host) (size - offsetOf setting f off) (f .bytes)) n (a .0) in
-    after-zero (placeRefusal (f .host) (size - offsetOf setting f off) (f .bytes)) _ z .1
-read-passed setting size (f ∷ fs) n off (suc k) v h =
-    let a = first-passed (verdict (objectRefusal (f .host) (size - offsetOf setting f off) (f .bytes)) n) _ v in
-    read-passed setting size fs (n + 1) (offsetOf setting f off + objectSpan (f .host) (f .bytes)) k (a .1) (omega arith)
 
 module _ (host : Bool) (image : List ℕ) (segments : List Segment) where
   -- refusal 11: "over 64 needs"
@@ -100,7 +86,11 @@ module _
     file k = getD (filesOf os) k noFile
 
     read : (k : ℕ) → k < length os → ReadFrom (file k)
-    read k h = read-passed setting size (filesOf os) 0 0 k loads (omega (arith, files-length os))
+    read k h =
+        let t =
+        file-lies setting size (filesOf os) 0 0 k k (objectFrom setting noFile 0) (omega arith) (omega arith) loads
+        (omega (arith, files-length os)) in
+        load-read (file k) _ (t .loads)
 
     dynamic : (k : ℕ) → k < length os → dynamicOf (getD os k noInput .file) ≡ dynamicOf (file k .bytes)
     dynamic k h = ap (λ (f : File). dynamicOf (f .bytes)) (sym (file-at os k h))

@@ -10,22 +10,20 @@ use Rattle.object.specs.DynamicArray.{itemRoom, endIn, endsInside}
 use Rattle.object.specs.DynamicArray as arrays
 use Rattle.object.specs.DynamicFields.{fieldsOf}
 use Rattle.object.specs.ProgramHeader.{dynamicOf}
-use Rattle.object.specs.Placed.{segmentsOf, objectSpan, objectBytes, objectImage, placeRefusal}
+use Rattle.object.specs.Placed.{segmentsOf, objectSpan, objectBytes, objectImage}
 use Rattle.object.specs.Record.{fieldsRefusal, readRefusal}
 use Rattle.object.specs.Record as records
 use Rattle.object.specs.Loaded.{objectRefusal}
-use Rattle.object.specs.Loaded as loading
 use Rattle.object.specs.declared.program_header.Segment.{Segment}
 use Rattle.object.specs.declared.program_header.Dynamic.{Dynamic}
 use Rattle.object.specs.declared.program_header.Dynamic.the-variants.{Missing, At}
 use Rattle.object.proofs.RefusalLaws.{required, after-zero}
 use Rattle.binder.specs.Setting.{Setting}
 use Rattle.binder.specs.Instance.{File, offsetOf}
-use Rattle.binder.specs.Verdict.{verdict}
 use Rattle.binder.specs.declared.Verdict.the-variants.{Passed}
 use Rattle.binder.specs.Steps.Prepared.{loadFrom}
-use Rattle.binder.proofs.OutcomeLaws.{first-passed, verdict-passed}
-use Rattle.binder.proofs.OffsetLaws.{offset-after, link-fits}
+use Rattle.binder.proofs.OffsetLaws.{offset-after, load-read, link-fits}
+use Rattle.binder.proofs.Lies.{first-loaded}
 
 -- the entry of tag 0 is inside the span
 end-room : (n : ℕ) (image : List ℕ) (at : ℕ) → endIn n image at ≡ true → 0 < n
@@ -42,12 +40,10 @@ read-some host image segments (At at) e =
     omega (arith, end-room (itemRoom image at) image at (b .0))
 
 span-some : (f : File) (room : ℕ) → objectRefusal (f .host) room (f .bytes) ≡ 0 → 0 < objectSpan (f .host) (f .bytes)
-unfolding loading.objectRefusal
 span-some f room e =
-    let a = after-zero (placeRefusal (f .host) room (f .bytes)) _ e in
     omega (
       arith,
-      read-some (f .host) (objectImage (f .host) (f .bytes)) (segmentsOf (f .host) (f .bytes)) (dynamicOf (f .bytes)) (a .1),
+      read-some (f .host) (objectImage (f .host) (f .bytes)) (segmentsOf (f .host) (f .bytes)) (dynamicOf (f .bytes)) (load-read f room e),
       length-tab (objectSpan (f .host) (f .bytes)) (objectBytes (f .host) (f .bytes)),
     )
 
@@ -57,11 +53,10 @@ pub few-files :
 unfolding loadFrom
 few-files setting size [] n off l v = omega arith
 few-files setting size (f ∷ fs) n off l v =
-    let a = first-passed (verdict (objectRefusal (f .host) (size - offsetOf setting f off) (f .bytes)) n) _ v in
-    let z = verdict-passed (objectRefusal (f .host) (size - offsetOf setting f off) (f .bytes)) n (a .0) in
+    let a = first-loaded setting size f fs n off v in
     let b = offset-after setting f off in
-    let c = span-some f (size - offsetOf setting f off) z in
+    let c = span-some f (size - offsetOf setting f off) (a .0) in
     omega (
       arith,
-      few-files setting size fs (n + 1) (offsetOf setting f off + objectSpan (f .host) (f .bytes)) (link-fits f setting size off l z) (a .1),
+      few-files setting size fs (n + 1) (offsetOf setting f off + objectSpan (f .host) (f .bytes)) (link-fits f setting size off l (a .0)) (a .1),
     )

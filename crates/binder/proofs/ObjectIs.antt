@@ -55,7 +55,7 @@ module _ (setting : Setting) (size : ℕ) (table : List ℕ) (h pr : File) (fs :
   -- ---- the object of the model
 
   is : obj S k ≡ objectAt setting f ((obj S k) .offset)
-  is = lies setting size table h pr fs L k hi .is
+  is = lies setting size table h pr fs L k hi .object .is
 
   words-are : (obj S k) .words ≡ placesOf (namedWords image r)
   unfolding objectAt

@@ -7,6 +7,8 @@ use Prim.Native.Nat.{ℕ, _+_, _-_, _*_, _/_, _%_, _≤_, _<_}
 use native.Mathlib.Omega.{arith}
 use native.Mathlib.Nat.{lt-div-mul-add, div-mul-le-self, mul-mod-left, div-add-mod', mod-lt, add-mul, one-mul}
 use lib.Arith.{digits-div}
+use Rattle.object.specs.ProgramHeader.{dynamicOf}
+use Rattle.object.specs.Record.{readRefusal}
 use Rattle.object.specs.Placed.{objectSpan, objectAlign, segmentsOf, placeRefusal}
 use Rattle.object.specs.Placed as placing
 use Rattle.object.specs.Loaded.{objectRefusal}
@@ -16,7 +18,7 @@ use Rattle.object.proofs.PlaceLaws.{file-span}
 use Rattle.object.proofs.RefusalLaws.{after-zero}
 use Rattle.object.proofs.LoadedLaws.{place-fits, load-checked}
 use Rattle.binder.specs.Setting.{Setting}
-use Rattle.binder.specs.Instance.{File, objectAt, multipleFrom, nextOffset, offsetOf, objectFrom}
+use Rattle.binder.specs.Instance.{File, fileImage, objectAt, multipleFrom, nextOffset, offsetOf, objectFrom}
 
 -- ---- the least multiple that is no less
 
@@ -101,6 +103,13 @@ made-after setting f free = offset-after setting f free
 pub load-fits : (f : File) (room : ℕ) → objectRefusal (f .host) room (f .bytes) ≡ 0 → objectSpan (f .host) (f .bytes) ≤ room
 unfolding loading.objectRefusal
 load-fits f room e = place-fits (f .host) (f .bytes) room (after-zero (placeRefusal (f .host) room (f .bytes)) _ e .0)
+
+-- refusals 9 to 12 passed
+pub load-read :
+    (f : File) (room : ℕ) → objectRefusal (f .host) room (f .bytes) ≡ 0
+    → readRefusal (f .host) (fileImage f) (segmentsOf (f .host) (f .bytes)) (dynamicOf (f .bytes)) ≡ 0
+unfolding loading.objectRefusal
+load-read f room e = after-zero (placeRefusal (f .host) room (f .bytes)) _ e .1
 
 -- what is loaded ends within the arena, though its offset may pass the arena's end: no span is empty
 pub link-fits :

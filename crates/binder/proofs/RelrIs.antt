@@ -8,7 +8,7 @@ use native.Mathlib.Numerals.{add-one}
 use native.Mathlib.Nat.{div-div-eq-div-mul, pow-suc, zero-add, div-one}
 use native.Mathlib.Omega.{arith}
 use native.Mathlib.Decide.{decLt}
-use borrow.Author.Tests.{eqb-true, eqb-false, ne-eqb}
+use borrow.Author.Tests.{eqb-true, eqb-false}
 use lib.Dec.{eqb}
 use lib.ListN.{length}
 use Rattle.words.specs.Choice.{pick}
@@ -29,17 +29,14 @@ use Rattle.binder.specs.Instance.{File, fileImage, fileRecord, placesOf,
 use Rattle.binder.specs.Setting.{Setting}
 use Rattle.binder.specs.Verdict.{first, verdict, wordRefusal, wordsVerdict}
 use Rattle.binder.specs.declared.Verdict.{Verdict}
-use Rattle.binder.specs.declared.Verdict.the-variants.{Passed, Refused}
 use Rattle.binder.specs.Steps.Relocating.{imageIn, far, cutTo32, Summed, summed, Shifted, shifted, wordAdded, addBits, bitsAdded, addRelr, thenRelr, addRelrs, summedIn, runRelrs, partOf, withPart, turnOf}
+use Rattle.binder.proofs.InsideLaws.{writable-inside}
+use Rattle.binder.proofs.Runs.{first-assoc, first-met}
 use Rattle.binder.proofs.PartLaws.{with-same, part-with, with-again, word-added}
 use Rattle.binder.proofs.Steady as steady
 use Rattle.binder.proofs.SteadyLaws as laws
 
 -- ---- words one after another
-
-pub first-assoc : (u v w : Verdict) → first (first u v) w ≡ first u (first v w)
-first-assoc Passed v w = refl
-first-assoc (Refused n k) v w = refl
 
 verdict-append : (k : ℕ) (r : Record) (ws vs : List Word) → wordsVerdict k r (ws ++ vs) ≡ first (wordsVerdict k r ws) (wordsVerdict k r vs)
 unfolding wordsVerdict
@@ -47,11 +44,6 @@ verdict-append k r [] vs = refl
 verdict-append k r (w ∷ ws) vs =
     ap (λ (v : Verdict). first (verdict (wordRefusal r w) k) v) (verdict-append k r ws vs)
     ∙ sym (first-assoc (verdict (wordRefusal r w) k) (wordsVerdict k r ws) (wordsVerdict k r vs))
-
--- a refusal that was met stays
-verdict-stays : (z k : ℕ) (v : Verdict) → (z ≡ 0 → ⊥) → first (verdict z k) v ≡ verdict z k
-unfolding verdict
-verdict-stays z k v n = rw (ne-eqb z 0 n)
 
 words-append : (o : Obj) (ws vs : List Word) (m : ℕ → ℕ) → addWords o (placesOf (ws ++ vs)) m ≡ addWords o (placesOf vs) (addWords o (placesOf ws) m)
 unfolding addWords placesOf
@@ -99,14 +91,6 @@ module _ (setting : Setting) (size : ℕ) (table : List ℕ) (h p : File) (fs : 
   abbrev Written : List ℕ → List ℕ → ℕ → Type 0
   Written a b k = steady.Written setting size table h p fs a b k
 
-  -- ---- writes one after another
-
-  pub written-none : (a : List ℕ) (k : ℕ) → Steady a → Written a a k
-  written-none a k s = record { steady = s; others = λ j l n. refl }
-
-  pub written-then : (a b c : List ℕ) (k : ℕ) → Written a b k → Written b c k → Written a c k
-  written-then a b c k u v = record { steady = v .steady; others = λ j l n. v .others j l n ∙ u .others j l n }
-
   -- ---- what a part of the words leaves
 
   -- the words `ws` of object `k` were added to the arena `a`: the refusal `z`, 0 for none, and the arena `b`
@@ -117,7 +101,7 @@ module _ (setting : Setting) (size : ℕ) (table : List ℕ) (h p : File) (fs : 
 
   ran-none : (k : ℕ) (a : List ℕ) → Steady a → Ran k [] 0 a a
   unfolding wordsVerdict verdict addWords placesOf
-  ran-none k a s = record { verdict-is = refl; done = λ e. (refl, written-none a k s); length-is = s .size-is }
+  ran-none k a s = record { verdict-is = refl; done = λ e. (refl, laws.written-none setting size table h p fs a k s); length-is = s .size-is }
 
   ran-then : (k : ℕ) (ws vs : List Word) (z : ℕ) (a b c : List ℕ) → Ran k ws 0 a b → Ran k vs z b c → Ran k (ws ++ vs) z a c
   unfolding verdict
@@ -130,7 +114,7 @@ module _ (setting : Setting) (size : ℕ) (table : List ℕ) (h p : File) (fs : 
         done = λ e. (
           v .done e .0
               ∙ (ap (λ (m : ℕ → ℕ). addWords (obj S k) (placesOf vs) m) (u .done refl .0) ∙ sym (words-append (obj S k) ws vs (mem a))),
-          written-then a b c k (u .done refl .1) (v .done e .1),
+          laws.written-then setting size table h p fs a b c k (u .done refl .1) (v .done e .1),
         );
         length-is = v .length-is;
       }
@@ -139,7 +123,7 @@ module _ (setting : Setting) (size : ℕ) (table : List ℕ) (h p : File) (fs : 
   ran-stops k ws vs z a b n u =
       record {
         verdict-is =
-            sym (verdict-stays z k (wordsVerdict k (fileRecord (file k)) vs) n)
+            sym (first-met z k (wordsVerdict k (fileRecord (file k)) vs) n)
             ∙ (ap (λ (x : Verdict). first x (wordsVerdict k (fileRecord (file k)) vs)) (u .verdict-is)
             ∙ sym (verdict-append k (fileRecord (file k)) ws vs));
         done = λ e. absurd (n e);
@@ -164,7 +148,7 @@ module _ (setting : Setting) (size : ℕ) (table : List ℕ) (h p : File) (fs : 
     long : (a : List ℕ) → Steady a → t .offset ≤ length a
     long a s =
         let at = laws.lies setting size table h p fs L k member in
-        omega (arith, at .fits, ap (λ (x : Link). x .offset) (at .link), s .size-is)
+        omega (arith, at .object .fits, ap (λ (x : Link). x .offset) (at .link), s .size-is)
 
     -- the arena in which the word at `q` of the object gained the base
     abbrev added : ℕ → List ℕ → List ℕ
@@ -179,8 +163,8 @@ module _ (setting : Setting) (size : ℕ) (table : List ℕ) (h p : File) (fs : 
         go : (b : Bool) → inWritable (r .segments) q 8 ≡ b → b ≡ false
         go false e = refl
         go true e =
-            let i = laws.writable-inside setting size table h p fs k q 8 e in
-            let f = laws.lies setting size table h p fs L k member .fits in
+            let i = writable-inside (file k .host) (file k .bytes) q 8 e in
+            let f = laws.lies setting size table h p fs L k member .object .fits in
             let s = L .small in
             absurd (omega arith)
 

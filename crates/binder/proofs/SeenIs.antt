@@ -39,9 +39,9 @@ use Rattle.binder.specs.Steps.Relocating.{imageIn, cutTo32, copyFits, so
 use Rattle.binder.specs.Steps.Crossing.{emptyCopy, copyLinked, copyTo, copyChecked, copySeen, oneCopy, entriesBy, seenAt, againOf, entriesAt}
 use Rattle.binder.specs.declared.turn.Turn.{Turn}
 use Rattle.binder.specs.declared.crossing.Copy.{Copy}
-use Rattle.binder.proofs.InsideLaws.{name-is}
+use Rattle.binder.proofs.InsideLaws.{name-is, writable-inside}
 use Rattle.binder.proofs.Steady.{set, fileAt, LoadedSet, PlacedAt, Steady}
-use Rattle.binder.proofs.SteadyLaws.{lies, copy-searches, writable-inside, placed-steady, copy-tests, counts, again}
+use Rattle.binder.proofs.SteadyLaws.{lies, copy-searches, placed-steady, copy-tests, counts, again}
 use Rattle.binder.proofs.EntryIs.{symbol-case}
 use Rattle.binder.proofs.CrossLaws.{Agrees}
 
@@ -99,7 +99,7 @@ module _ (setting : Setting) (size : ℕ) (table : List ℕ) (h pr : File) (fs :
             let ok = passed (copyOk S k p o (definitionOf x) (min (y .size) (x .size))) 17 0 (w .1) in
             let fits : copyFits (length a) t p (linkAt table o) x (min (y .size) (x .size)) ≡ true =
             ap (λ (s : ℕ). copyFits s t p (linkAt table o) x (min (y .size) (x .size))) len
-            ∙ (copy-tests setting size table h pr fs L k o hi ol p (min (y .size) (x .size)) (writable-inside setting size table h pr fs k p (min (y .size) (x .size)) (w .0)) x
+            ∙ (copy-tests setting size table h pr fs L k o hi ol p (min (y .size) (x .size)) (writable-inside (f .host) (f .bytes) p (min (y .size) (x .size)) (w .0)) x
             ∙ ok .0) in
             rw (fits, z, link-offset k hi, link-offset o ol)
 

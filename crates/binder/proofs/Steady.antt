@@ -14,7 +14,7 @@ use Rattle.object.specs.Invariant.{SameReadings}
 use Rattle.object.specs.Placed.{objectSpan}
 use Rattle.object.specs.declared.hash_tables.Definition.{Definition}
 use Rattle.model.specs.Symbols.{byName}
-use Rattle.binder.specs.Instance.{File, fileImage, fileRecord, definitionOf, objectAt, objectFrom}
+use Rattle.binder.specs.Instance.{File, fileImage, fileRecord, definitionOf, objectFrom}
 use Rattle.binder.specs.Setting.{Setting}
 use Rattle.binder.specs.Verdict.{noFile, copyOk}
 use Rattle.binder.specs.declared.Verdict.the-variants.{Passed}
@@ -23,6 +23,7 @@ use Rattle.binder.specs.Steps.Prepared.{loadFrom, linkOf, placeFiles, Li
 use Rattle.scope.specs.Steps.ScopeCode.{imageAt}
 use Rattle.binder.specs.Steps.ScopeModel.{scopedOf}
 use Rattle.binder.specs.Steps.Relocating.{turnOf, imageIn, soughtFor, soughtForCopy, againRefusal, againRecord, copyFits, rowAt}
+use Rattle.binder.proofs.Lies.{ObjectLies}
 
 module _ (setting : Setting) (size : ℕ) (table : List ℕ) (h p : File) (fs : List File) where
   abbrev address : ℕ
@@ -57,10 +58,9 @@ module _ (setting : Setting) (size : ℕ) (table : List ℕ) (h p : File) (fs : 
     pub size-is : length a ≡ size
     pub tables : (k : ℕ) → k < count set → Agree (isTableOf (fileRecord (fileAt k))) (fileImage (fileAt k)) (imageAt a (linkAt table k))
 
-  -- where object `k` lies
+  -- object `k` lies at its link
   pub record At (k : ℕ) : Type 0 where
-    pub is : obj set k ≡ objectAt setting (fileAt k) ((obj set k) .offset)
-    pub fits : (obj set k) .offset + objectSpan (fileAt k .host) (fileAt k .bytes) ≤ size
+    pub object : ObjectLies setting size h p fs k
     pub link : linkAt table k ≡ linkOf (fileAt k) ((obj set k) .offset)
     -- base = address + offset, without wrapping
     pub base : turnOf table k .base ≡ (obj set k) .base
@@ -72,8 +72,8 @@ module _ (setting : Setting) (size : ℕ) (table : List ℕ) (h p : File) (fs : 
 
   -- ---- the laws, as SteadyLaws proves them
 
-  abbrev pub Lies : Type 0
-  Lies = LoadedSet → (k : ℕ) → k < count set → At k
+  abbrev pub EachLies : Type 0
+  EachLies = LoadedSet → (k : ℕ) → k < count set → At k
 
   -- the placed arena
   abbrev pub Starts : Type 0
@@ -97,12 +97,7 @@ module _ (setting : Setting) (size : ℕ) (table : List ℕ) (h p : File) (fs : 
   CopySearches =
       LoadedSet → (a : List ℕ) → Steady a → (name : List ℕ) → scopedOf (soughtForCopy table a name) ≡ resolveCopy set (byName name)
 
-  -- a range in a writable segment ends inside the span
-  abbrev pub WritableInside : Type 0
-  WritableInside =
-      (k q n : ℕ) → inWritable (fileRecord (fileAt k) .segments) q n ≡ true → q + n ≤ objectSpan (fileAt k .host) (fileAt k .bytes)
-
-  -- a write there
+  -- a write to a writable segment
   abbrev pub Writes : Type 0
   Writes =
       LoadedSet → (a : List ℕ) → Steady a → (k : ℕ) → k < count set → (q n : ℕ) → inWritable (fileRecord (fileAt k) .segments) q n ≡ true

@@ -17,7 +17,7 @@ use Rattle.words.specs.Page.{pageSize}
 use Rattle.words.proofs.Choice.{both-true, either-true}
 use Rattle.words.proofs.Memory.{Out, in-or-out, write-out}
 use Rattle.words.proofs.Slices.{mem-ext, mem-part, mem-patch, length-tab, length-patch}
-use Rattle.model.specs.Objects.{Obj, Objs, count, obj}
+use Rattle.model.specs.Objects.{Objs, count, obj}
 use Rattle.model.specs.Layout.{objsOf}
 use Rattle.model.proofs.Laid.{objs-apart}
 use Rattle.object.specs.Header.{headerRefusal}
@@ -41,19 +41,19 @@ use Rattle.object.proofs.LoadedLaws.{record-span}
 use Rattle.object.proofs.Ranges.{spares, seg-in, below-at, table-inside}
 use Rattle.object.proofs.RefusalLaws.{required, after-zero}
 use Rattle.object.proofs.ReadingsSame.{invariance}
-use Rattle.binder.specs.Instance.{File, fileImage, fileRecord, objectAt, objectFrom}
+use Rattle.binder.specs.Instance.{File, fileImage, fileRecord, objectFrom}
 use Rattle.binder.specs.Setting.{Setting}
 use Rattle.binder.specs.Verdict.{noFile, copyOk}
 use Rattle.scope.specs.Steps.Links.{linkAt}
-use Rattle.binder.specs.Steps.Prepared.{linkOf, placeFiles}
 use Rattle.scope.specs.Steps.ScopeCode.{imageAt}
 use Rattle.binder.specs.Steps.ScopeModel.{LinkedFor}
 use Rattle.binder.specs.Steps.Relocating.{copyFits, againRefusal}
 use Rattle.scope.specs.declared.links.Link.{Link}
-use Rattle.binder.proofs.OffsetLaws.{made-after}
+use Rattle.binder.proofs.OffsetLaws.{made-after, load-read}
 use Rattle.binder.proofs.InsideLaws as inside
 use Rattle.binder.proofs.ScopeIs.{resolve-is, resolve-copy-is}
-use Rattle.binder.proofs.QueryLaws.{Sits, sits-at, image-at, link-of}
+use Rattle.binder.proofs.Lies.{ObjectLies, span-is, base-is, object-lies}
+use Rattle.binder.proofs.QueryLaws.{image-at, link-of}
 use Rattle.binder.proofs.Steady as steady
 
 -- ---- table bytes
@@ -103,13 +103,9 @@ read-tables host image ss (At at) e =
     required (tablesOk host image (recordIn image ss (fieldsOf image at) (neededOffsets image at))) 11 0 (b .1) .0
 
 module _ (f : File) (room : ℕ) (e : objectRefusal (f .host) room (f .bytes) ≡ 0) where
-  load-read : readRefusal (f .host) (fileImage f) (segmentsOf (f .host) (f .bytes)) (dynamicOf (f .bytes)) ≡ 0
-  unfolding loading.objectRefusal
-  load-read = after-zero (placeRefusal (f .host) room (f .bytes)) _ e .1
-
   load-tables : tablesOk (f .host) (fileImage f) (fileRecord f) ≡ true
   unfolding loading.objectRecord
-  load-tables = read-tables (f .host) (fileImage f) (segmentsOf (f .host) (f .bytes)) (dynamicOf (f .bytes)) load-read
+  load-tables = read-tables (f .host) (fileImage f) (segmentsOf (f .host) (f .bytes)) (dynamicOf (f .bytes)) (load-read f room e)
 
   -- of a file that is not the host's
   module _ (z : f .host ≡ false) where
@@ -181,40 +177,29 @@ module _ (setting : Setting) (size : ℕ) (table : List ℕ) (h p : File) (fs : 
   abbrev Steady : List ℕ → Type 0
   Steady = steady.Steady setting size table h p fs
 
+  abbrev Written : List ℕ → List ℕ → ℕ → Type 0
+  Written = steady.Written setting size table h p fs
+
   -- ---- where an object lies
 
-  sits : LoadedSet → (m : Mem) (k : ℕ) → k < count set → Sits setting size table (placeFiles setting (h ∷ (p ∷ fs)) 0 m) k (fileAt k) (obj set k)
-  sits s m k l = sits-at setting size table h p fs m (s .loads) (s .links) k l
-
-  pub lies : steady.Lies setting size table h p fs
-  unfolding objectAt
+  pub lies : steady.EachLies setting size table h p fs
   lies s k l =
       record {
-        is = t .is ∙ ap (objectAt setting (fileAt k)) (sym off);
-        fits = omega (arith, off, t .fits);
-        link = t .link ∙ ap (linkOf (fileAt k)) (sym off);
+        object = t;
+        link = t .link table (s .links);
         base =
             ap (λ (n : ℕ). (n + linkAt table k .offset) % 2 ^ 64) (s .addressed)
-            ∙ (ap (λ (x : Link). (address + x .offset) % 2 ^ 64) (t .link)
-            ∙ (mod-eq-of-lt (omega (arith, t .fits, s .end)) ∙ sym (ap (λ (o : Obj). o .base) (t .is))));
+            ∙ (ap (λ (x : Link). (address + x .offset) % 2 ^ 64) (t .link table (s .links))
+            ∙ (mod-eq-of-lt (omega (arith, t .fits, s .end)) ∙ sym (base-is t)));
       }
     where
-      t : Sits setting size table (placeFiles setting (h ∷ (p ∷ fs)) 0 (λ _. 0)) k (fileAt k) (obj set k)
-      t = sits s (λ _. 0) k l
-
-      off : (obj set k) .offset ≡ t .off
-      off = ap (λ (o : Obj). o .offset) (t .is)
-
-  pub loaded-at : LoadedSet → (k : ℕ) → k < count set → objectRefusal (fileAt k .host) (size - (obj set k) .offset) (fileAt k .bytes) ≡ 0
-  unfolding objectAt
-  loaded-at s k l =
-      let t = sits s (λ _. 0) k l in
-      ap (λ (o : Obj). objectRefusal (fileAt k .host) (size - o .offset) (fileAt k .bytes)) (t .is) ∙ t .loads
+      t : ObjectLies setting size h p fs k
+      t = object-lies setting size h p fs (s .loads) k l
 
   -- ---- an arena with the placed bytes
 
   pub starts : steady.Starts setting size table h p fs
-  starts s a m len e k l = image-at setting size table k (fileAt k) (obj set k) (placeFiles setting (h ∷ (p ∷ fs)) 0 m) (sits s m k l) a len e
+  starts s a m len e k l = image-at (lies s k l .object) table (s .links) a m len e
 
   pub placed-steady : steady.PlacedSteady setting size table h p fs
   placed-steady s a len placed =
@@ -226,19 +211,17 @@ module _ (setting : Setting) (size : ℕ) (table : List ℕ) (h p : File) (fs : 
   length-at : LoadedSet → (a : List ℕ) → length a ≡ size → (k : ℕ) → k < count set → length (imageAt a (linkAt table k)) ≡ spanAt k
   length-at s a len k l =
       let t = lies s k l in
-      ap (λ (x : Link). length (imageAt a x)) (t .link) ∙ simp (length-take, length-drop) (omega (arith, t .fits))
+      ap (λ (x : Link). length (imageAt a x)) (t .link) ∙ simp (length-take, length-drop) (omega (arith, t .object .fits))
 
   pub readings : steady.Readings setting size table h p fs
   readings s a st k l =
       invariance (fileAt k .host) (fileRecord (fileAt k)) (fileImage (fileAt k)) (imageAt a (linkAt table k))
-      (load-tables (fileAt k) (size - (obj set k) .offset) (loaded-at s k l))
+      (load-tables (fileAt k) (size - (obj set k) .offset) (lies s k l .object .loads))
       (length-at s a (st .size-is) k l ∙ sym (length-tab (spanAt k) _)) (st .tables k l)
 
   linked : LoadedSet → (a : List ℕ) → Steady a → LinkedFor address a table set
   linked s a st k l =
-      let t = lies s k l in
-      link-of setting size table k (fileAt k) (obj set k) ((obj set k) .offset) a (t .is) (t .link) (omega (arith, t .fits, s .end))
-      (λ name. readings s a st k l .answers name _ _)
+      link-of (lies s k l .object) table (s .links) a (omega (arith, s .end)) (λ name. readings s a st k l .answers name _ _)
 
   pub searches : steady.Searches setting size table h p fs
   searches s a st k l name = resolve-is address a table name set (s .addressed) (s .counted) (linked s a st) k l
@@ -248,22 +231,21 @@ module _ (setting : Setting) (size : ℕ) (table : List ℕ) (h p : File) (fs : 
 
   -- ---- a write
 
-  pub writable-inside : steady.WritableInside setting size table h p fs
-  writable-inside k q n e = inside.writable-inside (fileAt k .host) (fileAt k .bytes) q n e
+  pub written-none : (a : List ℕ) (k : ℕ) → Steady a → Written a a k
+  written-none a k s = record { steady = s; others = λ j l n. refl }
+
+  pub written-then : (a b c : List ℕ) (k : ℕ) → Written a b k → Written b c k → Written a c k
+  written-then a b c k u v = record { steady = v .steady; others = λ j l n. v .others j l n ∙ u .others j l n }
 
   -- spans of two objects lie apart
   pub apart :
       LoadedSet → (j k : ℕ) → j < count set → k < count set → (j ≡ k → ⊥)
       → ((obj set j) .offset + spanAt j ≤ (obj set k) .offset) ⊎ ((obj set k) .offset + spanAt k ≤ (obj set j) .offset)
-  unfolding objectAt
   apart s j k l g ne = go (decLt j k)
     where
-      span : (i : ℕ) → i < count set → (obj set i) .span ≡ spanAt i
-      span i x = ap (λ (o : Obj). o .span) (lies s i x .is)
-
       go : Dec (j < k) → ((obj set j) .offset + spanAt j ≤ (obj set k) .offset) ⊎ ((obj set k) .offset + spanAt k ≤ (obj set j) .offset)
-      go (yes x) = inl (omega (arith, span j l, objs-apart (objectFrom setting) (made-after setting) h p fs j k x g))
-      go (no x) = inr (omega (arith, span k g, objs-apart (objectFrom setting) (made-after setting) h p fs k j (omega arith) l))
+      go (yes x) = inl (omega (arith, span-is (lies s j l .object), objs-apart (objectFrom setting) (made-after setting) h p fs j k x g))
+      go (no x) = inr (omega (arith, span-is (lies s k g .object), objs-apart (objectFrom setting) (made-after setting) h p fs k j (omega arith) l))
 
   -- a byte of object `j`, in an arena
   byte-at :
@@ -289,10 +271,10 @@ module _ (setting : Setting) (size : ℕ) (table : List ℕ) (h p : File) (fs : 
       after = patch a to n g
 
       room : to + n ≤ (obj set k) .offset + spanAt k
-      room = omega (arith, writable-inside k q n w)
+      room = omega (arith, inside.writable-inside (fileAt k .host) (fileAt k .bytes) q n w)
 
       written : mem after ≡ write (mem a) to n g
-      written = mem-patch a to n g (omega (arith, room, lies s k l .fits, st .size-is))
+      written = mem-patch a to n g (omega (arith, room, lies s k l .object .fits, st .size-is))
 
       -- a byte of object `j` that the write leaves
       kept :
@@ -364,22 +346,21 @@ module _ (setting : Setting) (size : ℕ) (table : List ℕ) (h p : File) (fs : 
   -- ---- refusal 18
 
   pub copy-tests : steady.CopyTests setting size table h p fs
-  unfolding copyFits copyOk objectAt
+  unfolding copyFits copyOk
   copy-tests s k d l m q n fits x =
       let t = lies s k l in
       let u = lies s d m in
-      let span : (obj set d) .span ≡ spanAt d = ap (λ (o : Obj). o .span) (u .is) in
-      rw (t .link, u .link, span)
+      rw (t .link, u .link, span-is (u .object))
       (copy-same (not (x .absolute))
       (either (leb ((obj set k) .offset + q + n) ((obj set d) .offset + x .value)) (leb ((obj set d) .offset + x .value + n) ((obj set k) .offset + q)))
-      size ((obj set k) .offset) q ((obj set d) .offset) (x .value) n (spanAt d) (omega (arith, t .fits)) (u .fits))
+      size ((obj set k) .offset) q ((obj set d) .offset) (x .value) n (spanAt d) (omega (arith, t .object .fits)) (u .object .fits))
 
   -- ---- an object's turn
 
   pub counts : steady.Counts setting size table h p fs
   counts s k g l =
-      let c = load-counts (fileAt k) (size - (obj set k) .offset) (loaded-at s k l) (s .others k g l) in
-      let e : fileRecord (fileAt k) .span ≤ 2 ^ 28 = omega (arith, file-span (fileAt k), lies s k l .fits, s .small) in
+      let c = load-counts (fileAt k) (size - (obj set k) .offset) (lies s k l .object .loads) (s .others k g l) in
+      let e : fileRecord (fileAt k) .span ≤ 2 ^ 28 = omega (arith, file-span (fileAt k), lies s k l .object .fits, s .small) in
       (omega (arith, c .0), omega (arith, c .1), omega (arith, c .2))
 
   pub again : steady.Again setting size table h p fs
@@ -388,7 +369,7 @@ module _ (setting : Setting) (size : ℕ) (table : List ℕ) (h p : File) (fs : 
       let f : File = fileAt k in
       let d : Dynamic = dynamicOf (f .bytes) in
       let host : f .host ≡ false = s .others k g l in
-      let loaded = loaded-at s k l in
+      let loaded = lies s k l .object .loads in
       let room : ℕ = size - (obj set k) .offset in
       let ss : loadsOf (f .bytes) ≡ segmentsOf (f .host) (f .bytes) = load-segments f room loaded host in (
         rw (load-few f room loaded host)

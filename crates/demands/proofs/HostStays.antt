@@ -1,13 +1,13 @@
 -- The host's part of the arena is the host's file. Assumes nothing.
 use mathlib.Core.Path.{_≡_, refl, sym, ap, _∙_}
-use mathlib.Core.Logic.{inl, _≢_}
+use mathlib.Core.Logic.{_≢_}
 use mathlib.Core.Bool.{true}
 use mathlib.Core.List.{List, [], _∷_, map}
 use Prim.Native.Nat.{ℕ, _+_, _-_, _≤_, _<_}
 use native.Mathlib.Omega.{arith}
 use lib.ListN.{length, take, length-take, length-map}
 use Rattle.words.specs.Memory.{Mem, mem, tab}
-use Rattle.words.proofs.Memory.{write-in, write-out}
+use Rattle.words.proofs.Memory.{write-in}
 use Rattle.words.proofs.Slices.{mem-take, mem-tab, mem-ext, length-tab}
 use Rattle.model.specs.Objects.{Objs, count, obj}
 use Rattle.model.specs.Relocation.{placed, bound, run}
@@ -23,7 +23,7 @@ use Rattle.binder.specs.declared.Policy.{Policy}
 use Rattle.binder.specs.declared.Reply as replies
 use Rattle.binder.specs.declared.Reply.{Reply}
 use Rattle.binder.specs.Setting.{Setting}
-use Rattle.binder.specs.Instance.{File, objectAt, nextOffset, offsetOf, objectFrom}
+use Rattle.binder.specs.Instance.{File, objectAt, nextOffset, objectFrom}
 use Rattle.binder.specs.Steps.PlainVerdict.{plainOrder}
 use Rattle.binder.specs.declared.Verdict.{Verdict}
 use Rattle.binder.specs.declared.Verdict.the-variants.{Passed, Refused}
@@ -31,9 +31,9 @@ use Rattle.binder.specs.SetOrder.{setOrder}
 use Rattle.binder.specs.Steps.Prepared.{loadFrom, placeFiles}
 use Rattle.binder.specs.Bind.{filesOf, namesOf, objectsOf, replied, repliedOf, queryOf}
 use Rattle.binder.proofs.FileLaws.{hostFile, fileOf, files-are}
-use Rattle.binder.proofs.OffsetLaws.{offset-after}
 use Rattle.binder.proofs.OutcomeLaws.{objectsIn, orderIn, sheetVerdict, query-one, bound-passed, first-passed}
 use Rattle.binder.proofs.OrderIs.{names-length, order-is}
+use Rattle.binder.proofs.Lies.{place-before}
 use Rattle.binder.proofs.QueryLaws.{placed-is}
 use Rattle.binder.proofs.SoundLaws.{set-sound, set-fits}
 use Rattle.demands.proofs.PassedSet.{prepared, sheet-prepared}
@@ -42,14 +42,6 @@ use Rattle.demands.specs.Refusals.{HostIn, HostKept}
 
 -- ---- placing and binding leave the bytes of the first object
 
-place-below : (setting : Setting) (fs : List File) (off : ℕ) (m : Mem) (i : ℕ) → i < off → placeFiles setting fs off m i ≡ m i
-unfolding placeFiles
-place-below setting [] off m i h = refl
-place-below setting (f ∷ fs) off m i h =
-    let l = offset-after setting f off in
-    place-below setting fs (offsetOf setting f off + objectSpan (f .host) (f .bytes)) _ i (omega arith)
-    ∙ write-out m (offsetOf setting f off) (objectSpan (f .host) (f .bytes)) (objectBytes (f .host) (f .bytes)) i (inl (omega arith))
-
 placed-first :
     (setting : Setting) (h : Input) (p : File) (fs : List File) (i : ℕ) → i < objectSpan true (h .file)
     → placed (objsOf (objectFrom setting) (hostFile h) p fs) i ≡ objectBytes true (h .file) i
@@ -57,7 +49,7 @@ unfolding placeFiles nextOffset
 placed-first setting h p fs i l =
     let start : i - 0 ≡ i = omega arith in
     ap (λ (m : Mem). m i) (placed-is setting (hostFile h) p fs)
-    ∙ (place-below setting (p ∷ fs) (0 + objectSpan true (h .file)) _ i (omega arith)
+    ∙ (place-before setting (p ∷ fs) (0 + objectSpan true (h .file)) _ i (omega arith)
     ∙ (write-in (λ _. 0) 0 (objectSpan true (h .file)) (objectBytes true (h .file)) i (omega arith)
     ∙ ap (objectBytes true (h .file)) start))
 

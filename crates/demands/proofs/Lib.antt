@@ -7,6 +7,7 @@ pub mod FieldCasesHold
 pub mod RefusalCasesHold
 pub mod TypesHold
 pub mod CopyCasesHold
+pub mod StartStopCasesHold
 pub mod OrderReported
 pub mod RefusalNumbers
 pub mod RefusalsHold

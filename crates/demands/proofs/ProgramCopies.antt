@@ -22,7 +22,8 @@ use Rattle.binder.specs.Verdict.{noFile}
 use Rattle.binder.specs.declared.Verdict.the-variants.{Passed}
 use Rattle.binder.specs.OwnOrder.{isCopy, hasCopy, libraryCopies}
 use Rattle.binder.specs.Steps.Prepared.{loadFrom}
-use Rattle.binder.proofs.SoundLaws.{count-is, object-is, from-pick}
+use Rattle.binder.proofs.Lies.{count-is, object-lies}
+use Rattle.binder.proofs.SoundLaws.{from-pick}
 
 -- ---- one entry
 
@@ -110,11 +111,11 @@ only-program setting plain size h p fs v none zero lo hi e m = absurd (omega ari
 only-program setting plain size h p fs v none (suc zero) lo hi e m = absurd (omega arith)
 only-program setting plain size h p fs v none (suc (suc j)) lo hi e m =
     let f : File = getD fs j noFile in
-    let s = object-is setting size h p fs v (suc (suc j)) hi in
-    let es : List Entry = map (entryOf (setting .row) (fileImage f) (fileRecord f) (setting .address + s .off)) (relasOf (fileImage f) (fileRecord f)) in
+    let o : Obj = obj (objsOf (objectFrom setting) h p fs) (suc (suc j)) in
+    let es : List Entry = map (entryOf (setting .row) (fileImage f) (fileRecord f) (setting .address + o .offset)) (relasOf (fileImage f) (fileRecord f)) in
     let in-file : List·Memᴰ e es =
-    from-pick (f .host) es (subst (λ (l : List Entry). List·Memᴰ e l) (ap (λ (o : Obj). o .entries) (s .is)) m) in
-    entries-not (setting .row) plain (fileImage f) (fileRecord f) (setting .address + s .off) (relasOf (fileImage f) (fileRecord f))
+    from-pick (f .host) es (subst (λ (l : List Entry). List·Memᴰ e l) (ap (λ (x : Obj). x .entries) (object-lies setting size h p fs v (suc (suc j)) hi .is)) m) in
+    entries-not (setting .row) plain (fileImage f) (fileRecord f) (setting .address + o .offset) (relasOf (fileImage f) (fileRecord f))
     (none-at fs j none (omega (arith, count-is setting size h p fs))) e in-file
 
 -- ---- the copies of a library

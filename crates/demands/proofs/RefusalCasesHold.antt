@@ -7,14 +7,14 @@ use Prim.Native.Nat.{ℕ, suc, _%_}
 use native.Mathlib.Omega.{arith}
 use lib.Dec.{eqb, leb, ltb}
 use lib.ListN.{length}
-use borrow.Author.Tests.{le-ltb}
+use borrow.Author.Tests.{le-ltb, le-leb}
 use Rattle.words.specs.Choice.{both, every}
 use Rattle.words.specs.Page.{pageSize}
 use Rattle.object.specs.Refusal.{require, after}
 use Rattle.object.specs.Header.{magic, class, encoding, headerSize, headerCount, tableEnd, fileType, machine, isSharedObject, isX86, headersInside, headerRefusal}
 use Rattle.object.specs.Segments.{flagsOk}
 use Rattle.object.specs.Alignment.{powerUpTo, alignOk, alignOf}
-use Rattle.object.specs.Placed.{segmentsOf, objectAlign, fileRefusal, placeRefusal}
+use Rattle.object.specs.Placed.{segmentsOf, objectSpan, objectAlign, fileRefusal, placeRefusal}
 use Rattle.object.specs.Loaded.{objectRefusal}
 use Rattle.object.specs.Record.{sizesRefusal, fieldsRefusal, readRefusal, indexOk, checkedSymbol}
 use Rattle.object.specs.HashTable.{isHit, isExportedHit, firstIn}
@@ -86,6 +86,7 @@ file-cases =
       host-not-21 = λ file passed h. seven-or-none (eqb (length file % pageSize) 0) (sym (host-refusal file passed) ∙ h);
       align-before-8 = λ host room file h. from-file host room file 20 h;
       no-room = λ host room file passed h. rw (passed, h);
+      room-to-the-end = λ host file passed. rw (passed, le-leb (objectSpan host file) (objectSpan host file) (omega arith));
     }
 
 pub record-cases : RecordCases

@@ -6,6 +6,7 @@ pub mod FieldCases
 pub mod RefusalCases
 pub mod TypeCases
 pub mod CopyCases
+pub mod StartStopCases
 pub mod Refusals
 pub mod AllNames
 pub mod LargePages

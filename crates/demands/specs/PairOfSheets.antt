@@ -42,8 +42,8 @@ abbrev pub symbol : ℕ → ℕ → ℕ → List ℕ → List ℕ
 symbol name section value ws = pair name (0x10 + section * 2 ^ 16) ∷ value ∷ 8 ∷ ws
 
 -- an entry of type 6, without addend
-abbrev pub entry : ℕ → ℕ → List ℕ → List ℕ
-entry place index ws = place ∷ pair 6 index ∷ 0 ∷ ws
+abbrev pub globEntry : ℕ → ℕ → List ℕ → List ℕ
+globEntry place index ws = place ∷ pair 6 index ∷ 0 ∷ ws
 
 -- ---- files
 
@@ -66,7 +66,7 @@ programFile =
     -- at 0x180: the names
     ((97 * 2 ^ 8 + 98 * 2 ^ 24)
     -- at 0x188: the entries
-    ∷ entry 0x1000 1 (entry 0x1008 2 []))))))))
+    ∷ globEntry 0x1000 1 (globEntry 0x1008 2 []))))))))
 
 -- a library that defines the name of that one byte, at 0x18
 abbrev pub libraryFile : ℕ → List ℕ

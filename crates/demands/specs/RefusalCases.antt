@@ -82,6 +82,7 @@ pub record FileCases : Type 0 where
   pub no-room :
       (host : Bool) (room : ℕ) (file : List ℕ) → fileRefusal host file ≡ 0 → leb (objectSpan host file) room ≡ false
       → objectRefusal host room file ≡ 8
+  pub room-to-the-end : (host : Bool) (file : List ℕ) → fileRefusal host file ≡ 0 → placeRefusal host (objectSpan host file) file ≡ 0
 
 -- 9 to 11 and 14 of an object
 pub record RecordCases : Type 0 where

@@ -13,7 +13,7 @@ use lib.Seq.{getD-append-seam}
 use Rattle.words.specs.Choice.{pick}
 use Rattle.words.specs.Memory.{Mem, mem, from}
 use Rattle.model.specs.Objects as objects
-use Rattle.model.specs.Objects.{Obj, obj}
+use Rattle.model.specs.Objects.{obj}
 use Rattle.model.specs.Order.{times, OnceEach}
 use Rattle.model.specs.Layout.{objsOf}
 use Rattle.model.proofs.OrderLaws.{decide}
@@ -34,7 +34,6 @@ use Rattle.binder.specs.declared.Verdict.{Verdict}
 use Rattle.binder.specs.declared.Verdict.the-variants.{Passed, Refused}
 use Rattle.binder.specs.declared.order.Order.{Order}
 use Rattle.binder.specs.Setting.{Setting}
-use Rattle.binder.specs.Instance as instance
 use Rattle.binder.specs.Instance.{File, fileImage, objectFrom, objectAt}
 use Rattle.binder.specs.Verdict.{noFile}
 use Rattle.binder.specs.SetOrder.{setOrder}
@@ -50,7 +49,7 @@ use Rattle.binder.proofs.BindIs as binds
 use Rattle.binder.proofs.BindIs.{bind-is}
 use Rattle.binder.proofs.Steady as steady
 use Rattle.binder.proofs.Steady.{LoadedSet}
-use Rattle.binder.proofs.SoundLaws.{count-is}
+use Rattle.binder.proofs.Lies.{span-is, count-is}
 use Rattle.binder.proofs.SteadyLaws.{lies, starts}
 use Rattle.start_stop.specs.StartStop as defs
 use Rattle.start_stop.specs.StartStop.{Array, Calls, callsOf, callsIn, fieldsAt, placedFields, listBy, refusedLists, thenList, startStopOf}
@@ -128,9 +127,8 @@ module _
     at : (k : ℕ) → k < length ls + 2 → steady.At setting size table (hostFile h) (fileOf p) fs k
     at k l = lies setting size table (hostFile h) (fileOf p) fs set-loaded k (omega (arith, count-of))
 
-    span-is : (k : ℕ) → k < length ls + 2 → linkAt table k .span ≡ (obj S k) .span
-    unfolding instance.objectAt
-    span-is k l = ap (λ (s : Link). s .span) (at k l .link) ∙ sym (ap (λ (x : Obj). x .span) (at k l .is))
+    link-span : (k : ℕ) → k < length ls + 2 → linkAt table k .span ≡ (obj S k) .span
+    link-span k l = ap (λ (s : Link). s .span) (at k l .link) ∙ sym (span-is (at k l .object))
 
     abbrev file : ℕ → File
     file k = getD (hostFile h ∷ (fileOf p ∷ fs)) k noFile
@@ -152,7 +150,7 @@ module _
       calls-are k o l =
           let t = at k l in
           let offset : linkAt table k .offset ≡ (obj S k) .offset = ap (λ (s : Link). s .offset) (t .link) in
-          same-calls (t .base) (span-is k l) (ap (λ (n : ℕ). from n (mem a′)) offset) (word-is k o l 0 (omega arith)) (word-is k o l 1 (omega arith))
+          same-calls (t .base) (link-span k l) (ap (λ (n : ℕ). from n (mem a′)) offset) (word-is k o l 0 (omega arith)) (word-is k o l 1 (omega arith))
           (same-array (word-is k o l 2 (omega arith)) (word-is k o l 3 (omega arith)))
           (same-array (word-is k o l 4 (omega arith)) (word-is k o l 5 (omega arith)))
           (same-array (word-is k o l 6 (omega arith)) (word-is k o l 7 (omega arith)))
@@ -172,7 +170,7 @@ module _
                 let t = at (getD order i 0) (among-set i l .1) in
                 let s : linkAt table (getD order i 0) .span ≡ objectSpan (file (getD order i 0) .host) (file (getD order i 0) .bytes) =
                 ap (λ (s : Link). s .span) (t .link) in
-                omega (arith, s, t .fits, set-loaded .small);
+                omega (arith, s, t .object .fits, set-loaded .small);
             place = length (once .front);
             there = omega (arith, many (objects.count S) order (omega (arith, count-of)) once);
             program = program-at (objects.count S) order (omega (arith, count-of)) once;
