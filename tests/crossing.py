@@ -3,7 +3,7 @@
 
 usage: tests/crossing.py ARCHIVE [--sets N] [--seed S] (from the repository's top)
 
-ARCHIVE is a folder with a libexport.a. N sets, 1,000 by default, are made. In a third only the program copies, and its places are apart by its
+ARCHIVE is a folder with a libexport.a. N sets, 1,000 by default, are made. In two of five only the program copies, and its places are apart by its
 symbols' sizes but for one or two; in the others libraries copy too, sizes on the two sides differ, and places are near each other or far
 apart (32 KiB and more). Entries of types 6 and 8 stand between, some entries are of PLT, some copies are refused by 17 or 18, some symbols are found
 nowhere, some sets are bound with type 5 passed over. A few sets have over 1,024 and over 2,048 copies, of which two cross, early or late, or none.
