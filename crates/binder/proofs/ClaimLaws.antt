@@ -326,11 +326,11 @@ unfolding entries.relas_from
 relas_length image at i zero = refl
 relas_length image at i (suc c) = ap suc (relas_length image at (i + 1) c)
 
-rela_at_lem_lem : (image : List ℕ) (at i c j : ℕ) (d : Rela) → j < c → get_or (relas_from image at i c) j d ≡ rela_at image at (i + j)
+rela_at_lem : (image : List ℕ) (at i c j : ℕ) (d : Rela) → j < c → get_or (relas_from image at i c) j d ≡ rela_at image at (i + j)
 unfolding entries.relas_from
-rela_at_lem_lem image at i zero j d h = absurd (omega arith)
-rela_at_lem_lem image at i (suc c) zero d h = ap (rela_at image at) (omega arith)
-rela_at_lem_lem image at i (suc c) (suc j) d h = rela_at_lem_lem image at (i + 1) c j d (omega arith) ∙ ap (rela_at image at) (omega arith)
+rela_at_lem image at i zero j d h = absurd (omega arith)
+rela_at_lem image at i (suc c) zero d h = ap (rela_at image at) (omega arith)
+rela_at_lem image at i (suc c) (suc j) d h = rela_at_lem image at (i + 1) c j d (omega arith) ∙ ap (rela_at image at) (omega arith)
 
 module _ (image : List ℕ) (r : Tables) where
   abbrev relas : List Rela
@@ -351,7 +351,7 @@ module _ (image : List ℕ) (r : Tables) where
       let z : 0 + i ≡ i = omega arith in
       sym
       (get_or-append relas plts no_rela i (omega (arith, relas_length image r.rela 0 r.relas))
-      ∙ (rela_at_lem_lem image r.rela 0 r.relas i no_rela l ∙ ap (rela_at image r.rela) z))
+      ∙ (rela_at_lem image r.rela 0 r.relas i no_rela l ∙ ap (rela_at image r.rela) z))
 
   pub entry_second :
       (i : ℕ) → r.relas ≤ i → i < r.relas + r.plts → rela_at image r.plt (i - r.relas) ≡ get_or (entries_by image r) i no_rela
@@ -362,7 +362,7 @@ module _ (image : List ℕ) (r : Tables) where
       let z : 0 + j ≡ j = omega arith in
       sym
       (ap (λ (n : ℕ). get_or (relas ++ plts) n no_rela) a
-      ∙ (get_or-append-add relas plts j no_rela ∙ (rela_at_lem_lem image r.plt 0 r.plts j no_rela (omega arith) ∙ ap (rela_at image r.plt) z)))
+      ∙ (get_or-append-add relas plts j no_rela ∙ (rela_at_lem image r.plt 0 r.plts j no_rela (omega arith) ∙ ap (rela_at image r.plt) z)))
 
   -- ---- a walk over them
 

@@ -32,7 +32,7 @@ use Rattle.binder.specs.declared.turn.Turn.{Turn}
 use Rattle.binder.specs.declared.crossing.Copy.{Copy}
 use Rattle.binder.specs.declared.crossing.Crossing.{Crossing}
 use Rattle.binder.proofs.ApartLaws.{both_true, bool_clash}
-use Rattle.binder.proofs.TableIs.{rela_at_lem_lem, relas_length}
+use Rattle.binder.proofs.TableIs.{rela_at_lem, relas_length}
 
 -- ---- ranges
 
@@ -229,7 +229,7 @@ module _ (image : List ℕ) (r : Record) where
       sym
       (get_or-append (relas_from image r.rela 0 (cut_to32 r.relas)) (relas_from image r.plt 0 (cut_to32 r.plts)) no_rela i
       (omega (arith, relas_length image r.rela 0 (cut_to32 r.relas)))
-      ∙ (rela_at_lem_lem image r.rela 0 (cut_to32 r.relas) i no_rela l ∙ ap (rela_at image r.rela) (omega arith)))
+      ∙ (rela_at_lem image r.rela 0 (cut_to32 r.relas) i no_rela l ∙ ap (rela_at image r.rela) (omega arith)))
 
   pub entry_second :
       (i : ℕ) → cut_to32 r.relas ≤ i → i < length (entries_of image r)
@@ -244,7 +244,7 @@ module _ (image : List ℕ) (r : Record) where
       let z : 0 + j ≡ j = omega arith in
       sym
       (ap (λ (n : ℕ). get_or (xs ++ ys) n no_rela) a
-      ∙ (get_or-append-add xs ys j no_rela ∙ (rela_at_lem_lem image r.plt 0 (cut_to32 r.plts) j no_rela b ∙ ap (rela_at image r.plt) z)))
+      ∙ (get_or-append-add xs ys j no_rela ∙ (rela_at_lem image r.plt 0 (cut_to32 r.plts) j no_rela b ∙ ap (rela_at image r.plt) z)))
 
 -- ---- the copy of an entry
 

@@ -446,21 +446,21 @@ module _ (setting : Setting) (size : ℕ) (table : List ℕ) (h pr : File) (fs :
           abbrev to : ℕ
           to = (obj S k).offset + e.place
 
-          copy_fits_lem_lem :
+          copy_fits_lem :
               (b : Bool) → in_writable r.segments e.place many ≡ true
               → Ran size n (verdict (require b 18 0) k) (Doing (ws ++ []) (earlier u 0) (write m to many (source m)))
               (with_report report
               (pick b (wrote p (patch a (t.offset + e.place) many (from ((link_at table o).offset + x.value) (mem a))))
               (wrote (refused_by t 18 p) a)))
           unfolding require
-          copy_fits_lem_lem true w =
+          copy_fits_lem true w =
               let z = wrote_to e.place many (from ((link_at table o).offset + x.value) (mem a)) w in
               plain (verdict 0 k) (write m to many (source m))
               (patch a (t.offset + e.place) many (from ((link_at table o).offset + x.value) (mem a))) (verdict_none 0 k refl) z.0
               (z.1
               ∙ (ap (λ (s : ℕ). write m to many (from (s + x.value) (mem a))) (link_offset o ol)
               ∙ ap (λ (q : Mem). write m to many (source q)) d.memory))
-          copy_fits_lem_lem false w = stopped 18 _ (λ e. omega arith)
+          copy_fits_lem false w = stopped 18 _ (λ e. omega arith)
 
           fits_is :
               in_writable r.segments e.place many ≡ true
@@ -481,7 +481,7 @@ module _ (setting : Setting) (size : ℕ) (table : List ℕ) (h pr : File) (fs :
               (wrote (refused_by t 18 p) a))
               (wrote (refused_by t 17 p) a)))
           unfolding require
-          copy_writable true w = rw (fits_is w) (copy_fits_lem_lem (copy_ok S k e.place o (definition_of x) many) w)
+          copy_writable true w = rw (fits_is w) (copy_fits_lem (copy_ok S k e.place o (definition_of x) many) w)
           copy_writable false w = stopped 17 _ (λ e. omega arith)
 
           copy_some :

@@ -47,14 +47,14 @@ words_append o (nowhere ∷ ws) vs m = words_append o ws vs m
 -- ---- entries
 
 -- an entry of two tables that are the same
-relr_at_lem_lem : (x y : List ℕ) (at i n : ℕ) → relrs_from x at i n ≡ relrs_from y at i n → (j : ℕ) → j < n → relr_at x at (i + j) ≡ relr_at y at (i + j)
+relr_at_lem : (x y : List ℕ) (at i n : ℕ) → relrs_from x at i n ≡ relrs_from y at i n → (j : ℕ) → j < n → relr_at x at (i + j) ≡ relr_at y at (i + j)
 unfolding relrs_from
-relr_at_lem_lem x y at i zero e j l = absurd (omega arith)
-relr_at_lem_lem x y at i (suc n) e zero l = let s : i + 0 ≡ i = omega arith in rw s (cc)
-relr_at_lem_lem x y at i (suc n) e (suc j) l =
+relr_at_lem x y at i zero e j l = absurd (omega arith)
+relr_at_lem x y at i (suc n) e zero l = let s : i + 0 ≡ i = omega arith in rw s (cc)
+relr_at_lem x y at i (suc n) e (suc j) l =
     let s : i + suc j ≡ i + 1 + j = omega arith in
     let e' : relrs_from x at (i + 1) n ≡ relrs_from y at (i + 1) n = cc in
-    rw s (relr_at_lem_lem x y at (i + 1) n e' j (omega arith))
+    rw s (relr_at_lem x y at (i + 1) n e' j (omega arith))
 
 -- the bits that are left after bit `j`
 bits_next : (bitmap j : ℕ) → bitmap / 2 ^ j / 2 ≡ bitmap / 2 ^ (j + 1)
@@ -302,7 +302,7 @@ module _ (setting : Setting) (size : ℕ) (table : List ℕ) (h p : File) (fs : 
     entry_is : (a : List ℕ) → Steady a → (i : ℕ) → i < r.relrs → relr_at (image_in a t) r.relr i ≡ relr_at (file_image (file k)) r.relr i
     entry_is a s i l =
         let e = (laws.readings setting size table h p fs L a s k member).relrs (L.others k low member) in
-        rw (zero-add i) at (relr_at_lem_lem (image_in a t) (file_image (file k)) r.relr 0 r.relrs e i l)
+        rw (zero-add i) at (relr_at_lem (image_in a t) (file_image (file k)) r.relr 0 r.relrs e i l)
 
     ran_entries :
         (n i : ℕ) → i + n ≤ r.relrs → (location : Location) (l : ℕ) → Sits location l → (a : List ℕ) → Steady a

@@ -26,11 +26,11 @@ use Rattle.binder.proofs.EntryIs.{Doing, plain, entry_ran}
 
 -- ---- two lists of entries
 
-pub rela_at_lem_lem : (image : List ℕ) (at i c j : ℕ) (d : Rela) → j < c → get_or (relas_from image at i c) j d ≡ rela_at image at (i + j)
+pub rela_at_lem : (image : List ℕ) (at i c j : ℕ) (d : Rela) → j < c → get_or (relas_from image at i c) j d ≡ rela_at image at (i + j)
 unfolding relas_from
-rela_at_lem_lem image at i zero j d h = absurd (omega arith)
-rela_at_lem_lem image at i (suc c) zero d h = ap (rela_at image at) (omega arith)
-rela_at_lem_lem image at i (suc c) (suc j) d h = rela_at_lem_lem image at (i + 1) c j d (omega arith) ∙ ap (rela_at image at) (omega arith)
+rela_at_lem image at i zero j d h = absurd (omega arith)
+rela_at_lem image at i (suc c) zero d h = ap (rela_at image at) (omega arith)
+rela_at_lem image at i (suc c) (suc j) d h = rela_at_lem image at (i + 1) c j d (omega arith) ∙ ap (rela_at image at) (omega arith)
 
 -- the same lists have the same entries
 entry_same :
@@ -40,7 +40,7 @@ entry_same image image' at c e j l =
     let d : Rela = rela_at image at 0 in
     let z : 0 + j ≡ j = omega arith in
     sym (ap (rela_at image' at) z)
-    ∙ (sym (rela_at_lem_lem image' at 0 c j d l) ∙ (ap (λ (es : List Rela). get_or es j d) e ∙ (rela_at_lem_lem image at 0 c j d l ∙ ap (rela_at image at) z)))
+    ∙ (sym (rela_at_lem image' at 0 c j d l) ∙ (ap (λ (es : List Rela). get_or es j d) e ∙ (rela_at_lem image at 0 c j d l ∙ ap (rela_at image at) z)))
 
 pub relas_length : (image : List ℕ) (at i c : ℕ) → length (relas_from image at i c) ≡ c
 unfolding relas_from

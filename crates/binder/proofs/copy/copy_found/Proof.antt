@@ -73,17 +73,17 @@ returns-2 c =
 returns-3 : tie.Need-returns-3
 returns-3 c =
     let a = c.before.before.before.before.before.before.before.args in
-    refused_18 a.t (take a.b.count a.b.segments) a.to a.s a.d a.n a.p a.arena.now c.before.before.before.before.before.if1.false (sym c.before.before.before.before.in-writable.ensures ∙ not-false _ c.before.before.before.if2.false) (sym c.before.before.copy_fits_lem_lem.ensures ∙ not-true _ c.before.if3.true) c.refused2.ensures
+    refused_18 a.t (take a.b.count a.b.segments) a.to a.s a.d a.n a.p a.arena.now c.before.before.before.before.before.if1.false (sym c.before.before.before.before.in-writable.ensures ∙ not-false _ c.before.before.before.if2.false) (sym c.before.before.copy_fits_lem.ensures ∙ not-true _ c.before.if3.true) c.refused2.ensures
 
 add-copy-part : tie.Need-overflow-add-copy-part
 add-copy-part c =
     let a = c.before.before.before.before.before.before.before.before.args in
-    record { fits = sum_fits (a.s.offset + a.d.value) a.n (length a.arena.now) (fits_apart (length a.arena.now) a.t a.to a.s a.d a.n (sym c.before.before.before.copy_fits_lem_lem.ensures ∙ not-false _ c.before.before.if3.false)).1 (omega arith) }
+    record { fits = sum_fits (a.s.offset + a.d.value) a.n (length a.arena.now) (fits_apart (length a.arena.now) a.t a.to a.s a.d a.n (sym c.before.before.before.copy_fits_lem.ensures ∙ not-false _ c.before.before.if3.false)).1 (omega arith) }
 
 copy-part-requires : tie.Need-copy-part-requires
 copy-part-requires c κs =
     let a = c.before.before.before.before.before.before.before.before.args in
-    fits_apart (length a.arena.now) a.t a.to a.s a.d a.n (sym c.before.before.before.copy_fits_lem_lem.ensures ∙ not-false _ c.before.before.if3.false)
+    fits_apart (length a.arena.now) a.t a.to a.s a.d a.n (sym c.before.before.before.copy_fits_lem.ensures ∙ not-false _ c.before.before.if3.false)
 
 same_length : tie.Need-same-length
 same_length c = c.before.before.copy-part.auto.0
@@ -91,7 +91,7 @@ same_length c = c.before.before.copy-part.auto.0
 returns-4 : tie.Need-returns-4
 returns-4 c =
     let a = c.before.before.before.before.before.before.before.before.before.before.before.args in
-    copied a.t (take a.b.count a.b.segments) a.to a.s a.d a.n a.p a.arena.now c.before.before.before.before.before.before.before.before.before.if1.false (sym c.before.before.before.before.before.before.before.before.in-writable.ensures ∙ not-false _ c.before.before.before.before.before.before.before.if2.false) (sym c.before.before.before.before.before.before.copy_fits_lem_lem.ensures ∙ not-false _ c.before.before.before.before.before.if3.false) c.before.before.copy-part.ensures
+    copied a.t (take a.b.count a.b.segments) a.to a.s a.d a.n a.p a.arena.now c.before.before.before.before.before.before.before.before.before.if1.false (sym c.before.before.before.before.before.before.before.before.in-writable.ensures ∙ not-false _ c.before.before.before.before.before.before.before.if2.false) (sym c.before.before.before.before.before.before.copy_fits_lem.ensures ∙ not-false _ c.before.before.before.before.before.if3.false) c.before.before.copy-part.ensures
 
 pub copy_found_spec : {M : Type 1} → statement M
 copy_found_spec =

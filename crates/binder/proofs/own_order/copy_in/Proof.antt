@@ -29,7 +29,7 @@ rela-at-requires c κs = search rules
 
 returns : tie.Need-returns invariant-loop decreases-loop
 returns c =
-    sym (some_entry c.before.before.before.before.before.before.args.image.now c.before.before.before.before.before.before.args.at c.before.before.before.before.loop.i c.before.before.before.before.before.before.args.n is_copy true c.before.before.before.loop-test.true (sym (ap is_copy c.before.before.rela_at_lem_lem.ensures) ∙ eq-eqb _ _ c.if1.true)) ∙ c.before.before.before.before.loop.invariant.1
+    sym (some_entry c.before.before.before.before.before.before.args.image.now c.before.before.before.before.before.before.args.at c.before.before.before.before.loop.i c.before.before.before.before.before.before.args.n is_copy true c.before.before.before.loop-test.true (sym (ap is_copy c.before.before.rela_at_lem.ensures) ∙ eq-eqb _ _ c.if1.true)) ∙ c.before.before.before.before.loop.invariant.1
 
 add-i : tie.Need-overflow-add-i invariant-loop decreases-loop
 add-i c = search rules
@@ -40,7 +40,7 @@ loop-less c =
 
 loop-again : tie.Need-loop-preserved invariant-loop decreases-loop
 loop-again c =
-    (omega arith, sym (some_entry c.before.before.before.before.before.before.args.image.now c.before.before.before.before.before.before.args.at c.before.before.before.before.loop.i c.before.before.before.before.before.before.args.n is_copy false c.before.before.before.loop-test.true (sym (ap is_copy c.before.before.rela_at_lem_lem.ensures) ∙ ne_eqb _ _ c.if1.false)) ∙ c.before.before.before.before.loop.invariant.1)
+    (omega arith, sym (some_entry c.before.before.before.before.before.before.args.image.now c.before.before.before.before.before.before.args.at c.before.before.before.before.loop.i c.before.before.before.before.before.before.args.n is_copy false c.before.before.before.loop-test.true (sym (ap is_copy c.before.before.rela_at_lem.ensures) ∙ ne_eqb _ _ c.if1.false)) ∙ c.before.before.before.before.loop.invariant.1)
 
 returns-2 : tie.Need-returns-2 invariant-loop decreases-loop
 returns-2 c =
