@@ -1,4 +1,6 @@
 // Document 01's program. One byte more than the limit is read, so that input over it shows; 1,024 lines of 9 bytes fit `out`.
+#![tactic(auto)]
+
 use libc::{STDIN_FILENO, STDOUT_FILENO};
 
 fn main() {

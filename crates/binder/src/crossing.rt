@@ -23,7 +23,7 @@ use scope::scope::Resolved;
 use sheet::sheet::Parts;
 
 // `size` bytes from the arena offset `source` to the arena offset `to`; 0 bytes are no copy.
-#[derive(Drop)]
+#[derive(Clone, Copy)]
 pub struct Copy {
     pub to: usize,
     pub source: usize,
@@ -31,14 +31,14 @@ pub struct Copy {
 }
 
 // The bytes of an object that the copy of an entry may write.
-#[derive(Drop)]
+#[derive(Clone, Copy)]
 pub struct Claim {
     pub place: usize,
     pub size: usize,
 }
 
 // Where an object's symbols and its entries stand, and how many there are.
-#[derive(Drop)]
+#[derive(Clone, Copy)]
 pub struct Tables {
     pub symbols: usize,
     pub rela: usize,
@@ -48,7 +48,7 @@ pub struct Tables {
 }
 
 // Where the next claim is behind a window, if the claims in it are apart.
-#[derive(Drop)]
+#[derive(Clone, Copy)]
 pub struct Claims {
     pub apart: bool,
     pub next: usize,
@@ -254,7 +254,7 @@ fn copy_of(arena: &[u8], table: &[u64], t: Turn, o: ObjectData, e: Rela) -> Copy
 }
 
 // How far a walk over copies came: how many it has seen, and whether the entry with that number crosses an earlier one.
-#[derive(Drop)]
+#[derive(Clone, Copy)]
 pub struct Scan {
     pub seen: usize,
     pub hit: bool,
@@ -325,7 +325,7 @@ fn scan_at(
 // ---- an order
 
 // The first entry whose copy crosses an earlier one, if any: its object's place in the order, its number, and how many copies stand before it.
-#[derive(Drop)]
+#[derive(Clone, Copy)]
 pub struct Crossing {
     pub seen: usize,
     pub hit: bool,

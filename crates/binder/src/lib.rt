@@ -1,4 +1,6 @@
 // Ordering the objects of a set, and binding them.
+#![tactic(auto)]
+
 pub mod bind;
 pub mod copy;
 pub mod crossing;
@@ -15,28 +17,28 @@ pub mod turn;
 pub mod types;
 
 // What happens to a set with undefined entries: it is refused, or bound with a report.
-#[derive(Drop)]
+#[derive(Clone, Copy)]
 pub enum Policy {
     Strict,
     Lenient,
 }
 
 // The checks of a set: passed, or the first refusal with its object.
-#[derive(Drop)]
+#[derive(Clone, Copy)]
 pub enum Verdict {
     Passed,
     Refused { number: u32, object: u32 },
 }
 
 // The answer of a call that binds: refusals have a number and an object.
-#[derive(Drop)]
+#[derive(Clone, Copy)]
 pub enum Answer {
     Bound,
     Refused { number: u32, object: u32 },
 }
 
 // The answer of a query.
-#[derive(Drop)]
+#[derive(Clone, Copy)]
 pub enum Reply {
     Found {
         object: usize,
@@ -51,7 +53,7 @@ pub enum Reply {
 }
 
 // The answer of a query for many names.
-#[derive(Drop)]
+#[derive(Clone, Copy)]
 pub enum ReplyAll {
     Answered,
     Refused { number: u32, object: u32 },

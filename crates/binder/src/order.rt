@@ -6,7 +6,7 @@ ghost use Rattle.binder.specs.Steps.Table.{Ordered};
 ghost use Rattle.binder.specs.Steps.OrderState.{state_of, Room, Visited, Unlisted};
 
 // The numbers of the objects in order: the first `count` of `list`.
-#[derive(Drop)]
+#[derive(Clone, Copy)]
 pub struct Order {
     pub list: [u32; 64],
     pub count: usize,

@@ -13,7 +13,7 @@ use scope::links::Link;
 use sheet::sheet::Parts;
 
 // One object: its refusal, or its link.
-#[derive(Drop)]
+#[derive(Clone, Copy)]
 pub enum Loaded {
     Refused(u32),
     At(Link),

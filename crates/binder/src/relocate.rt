@@ -92,7 +92,7 @@ fn write_field(arena: &mut [u8], p: Progress, t: Turn, e: Rela, f: Field, s: u64
 }
 
 // What the symbol of an entry came to: refusal 14, 15 or 17; an address that needs no search, or one that a search found; or none.
-#[derive(Drop)]
+#[derive(Clone, Copy)]
 pub enum Sought {
     Stopped(u32),
     Known(u64),
@@ -334,7 +334,7 @@ fn run_relatives(
 }
 
 // The symbols of an object: where they and their names are, and which of them need no further test of refusals 14 and 15.
-#[derive(Drop)]
+#[derive(Clone, Copy)]
 pub struct Symbols {
     pub symbols: usize,
     pub strings: usize,
@@ -343,7 +343,7 @@ pub struct Symbols {
 }
 
 // How far a run of entries came: the next entry, and the answer that is kept.
-#[derive(Drop)]
+#[derive(Clone, Copy)]
 pub struct Run {
     pub next: u32,
     pub last: u64,
@@ -351,7 +351,7 @@ pub struct Run {
 }
 
 // What was found of a symbol.
-#[derive(Drop)]
+#[derive(Clone, Copy)]
 pub enum Address {
     Nowhere,
     At(u64),
@@ -381,7 +381,7 @@ fn symbols_in(t: Turn, y: Symbols) -> bool
 
 // An entry that is Symbolic with a field of eight bytes, whose place is in low .. high and whose symbol is searched and needs no further
 // test: its field, its place, its symbol, the symbol's name and the addend.
-#[derive(Drop)]
+#[derive(Clone, Copy)]
 pub enum SymbolEntry {
     Other,
     Here {
@@ -542,7 +542,7 @@ fn range_after(table: &[u64], w: Writable, b: Bounds, rtype: u32, place: usize) 
 }
 
 // The table of `count` entries at `at`, of which the first has the number `first`.
-#[derive(Drop)]
+#[derive(Clone, Copy)]
 pub struct Entries {
     pub at: usize,
     pub first: u32,

@@ -12,7 +12,7 @@ use object::relocate::Relr;
 use object::table_bytes::Bounds;
 
 // What an entry of RELR leaves: a refusal or 0, and where the next bitmap starts.
-#[derive(Drop)]
+#[derive(Clone, Copy)]
 pub struct Moved {
     pub refusal: u32,
     pub location: usize,

@@ -8,7 +8,7 @@ use crate::turn::Turn;
 use object::symbol::Symbol;
 
 // How far binding has come.
-#[derive(Drop)]
+#[derive(Clone, Copy)]
 pub struct Progress {
     // the refusal that was met, and its object; 0 is none
     pub refusal: u32,

@@ -6,7 +6,7 @@ ghost use Rattle.scope.specs.Steps.Links.{Filtered};
 ghost use Rattle.binder.specs.Steps.Relocating.{image_in, CopyApart, turn_of};
 
 // The object whose turn it is: its number, its part of the arena, and its base.
-#[derive(Drop)]
+#[derive(Clone, Copy)]
 pub struct Turn {
     pub number: u32,
     pub offset: usize,

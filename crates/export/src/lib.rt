@@ -1,4 +1,6 @@
 // The library for programs in C or Rust: `include/lugwormpin.h` describes it.
+#![tactic(auto)]
+
 ghost use Rattle.std.specs.Prelude.{◌≡◌, [], ◌∷◌, length};
 ghost use Rattle.words.specs.Memory.{mem};
 ghost use Rattle.object.specs.RelocationTypes.{supplied_types};

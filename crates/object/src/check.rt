@@ -16,7 +16,7 @@ use crate::table_bytes::Bounds;
 
 // What the check of a table's walks goes by. At once pass: the first `chained` symbols from `low` on, as far as the chain goes; the first `fits`
 // symbols, and names at the first `ends` places of the strings, as far as table bytes go. Mark `j` is that of symbol `low + j * step`.
-#[derive(Drop)]
+#[derive(Clone, Copy)]
 struct Shortcuts {
     fits: usize,
     ends: usize,
@@ -26,7 +26,7 @@ struct Shortcuts {
 }
 
 // What following a walk came to: its end, or a marked symbol; a symbol that does not pass; as many symbols as a walk may have.
-#[derive(Drop)]
+#[derive(Clone, Copy)]
 enum Walked {
     Ended,
     Failed,

@@ -52,21 +52,21 @@ pub(crate) const DT_GNU_HASH: u64 = 0x6ffffef5;
 pub type Slots = [usize; 38];
 
 // What the entries of one tag give: whether there is one, and the value that counts.
-#[derive(Drop)]
+#[derive(Clone, Copy)]
 pub struct Field {
     pub given: bool,
     pub value: usize,
 }
 
 // The needs' offsets: the first `count` of `list`. A count of 65 says that there are more than 64.
-#[derive(Drop)]
+#[derive(Clone, Copy)]
 pub struct Needs {
     pub list: [usize; 64],
     pub count: usize,
 }
 
 // The array, read in one pass; `ended` says whether it ends inside the span.
-#[derive(Drop)]
+#[derive(Clone, Copy)]
 pub struct DynamicArray {
     pub slots: Slots,
     pub needs: Needs,

@@ -16,7 +16,7 @@ use crate::table_bytes::Bounds;
 
 // The record of an object: the first `count` of `segments`, of which the host has none, and the first `needs` of `needed`; the span and the
 // alignment; the string and symbol tables, the chosen hash table, the symbol count, and the relocation tables with their counts. Pointers are offsets in the span.
-#[derive(Drop)]
+#[derive(Clone, Copy)]
 pub struct ObjectData {
     pub segments: [Segment; 16],
     pub count: usize,
@@ -37,7 +37,7 @@ pub struct ObjectData {
 }
 
 // The answer of reading: a refusal of 9 to 12 with a record of zeros, or 0 with the record.
-#[derive(Drop)]
+#[derive(Clone, Copy)]
 pub struct Read {
     pub refusal: u32,
     pub object: ObjectData,

@@ -9,7 +9,7 @@ use crate::symbol::Symbol;
 use crate::table_bytes::Fine;
 
 // The symbol of an entry, or its refusal: 14 or 15.
-#[derive(Drop)]
+#[derive(Clone, Copy)]
 pub enum CheckedSymbol {
     Refused(u32),
     Checked(Symbol),

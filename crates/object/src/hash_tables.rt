@@ -10,7 +10,7 @@ ghost use Rattle.object.specs.HashCheck.{start_of};
 ghost use Rattle.object.specs.SymbolCount.{highest, last_reached, table_count, count_of};
 
 // The chosen hash table: its offset, and the numbers of its header.
-#[derive(Drop)]
+#[derive(Clone, Copy)]
 pub enum HashTable {
     Without,
     SysV {
@@ -28,21 +28,21 @@ pub enum HashTable {
 }
 
 // What of an object's record a lookup reads: the offsets of the symbol and string tables, and the hash table.
-#[derive(Drop)]
+#[derive(Clone, Copy)]
 pub struct View {
     pub symbols: usize,
     pub strings: usize,
     pub table: HashTable,
 }
 
-#[derive(Drop)]
+#[derive(Clone, Copy)]
 pub enum Found {
     Hit(usize),
     Miss,
 }
 
 // An exported symbol: `protected` where it is protected.
-#[derive(Drop)]
+#[derive(Clone, Copy)]
 pub struct Definition {
     pub index: usize,
     pub value: u64,
@@ -51,13 +51,13 @@ pub struct Definition {
     pub absolute: bool,
 }
 
-#[derive(Drop)]
+#[derive(Clone, Copy)]
 pub enum Exported {
     Absent,
     Present(Definition),
 }
 
-#[derive(Drop)]
+#[derive(Clone, Copy)]
 pub enum SymbolCount {
     Unknown,
     Known(usize),

@@ -1,4 +1,6 @@
 // Reading one object: port of elf/* and objects/object_data/*. It knows nothing of sets.
+#![tactic(auto)]
+
 pub mod alignment;
 pub mod check;
 pub mod dynamic_array;

@@ -12,7 +12,7 @@ use crate::program_header::Loads;
 
 // The answer of the header checks, and of placing: a refusal with no span and no segments, or 0 with the span, the alignment and the load
 // segments, of which the host has none.
-#[derive(Drop)]
+#[derive(Clone, Copy)]
 pub struct Placed {
     pub refusal: u32,
     pub span: usize,

@@ -7,7 +7,7 @@ ghost use Rattle.object.specs.Steps.LoadTable.{SegmentsIn};
 use crate::header::{header_count, table_start};
 
 // A PT_LOAD header.
-#[derive(Drop)]
+#[derive(Clone, Copy)]
 pub struct Segment {
     pub offset: usize,
     pub vaddr: usize,
@@ -18,14 +18,14 @@ pub struct Segment {
 }
 
 // Where the dynamic array stands: p_vaddr of PT_DYNAMIC.
-#[derive(Drop)]
+#[derive(Clone, Copy)]
 pub enum Dynamic {
     Missing,
     At(usize),
 }
 
 // The PT_LOAD headers of a file: the first `count` of `list`. A count of 17 says that there are more than 16.
-#[derive(Drop)]
+#[derive(Clone, Copy)]
 pub struct Loads {
     pub list: [Segment; 16],
     pub count: usize,

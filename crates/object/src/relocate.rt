@@ -6,7 +6,7 @@ ghost use Rattle.object.specs.Entries.{rela_at, relr_at, relr_of};
 ghost use Rattle.object.specs.Steps.Actions.{row_by, field_by, searched_by};
 
 // An entry of the RELA or PLT table: r_offset, the two halves of r_info, r_addend.
-#[derive(Drop)]
+#[derive(Clone, Copy)]
 pub struct Rela {
     pub place: usize,
     pub rtype: u32,
@@ -15,7 +15,7 @@ pub struct Rela {
 }
 
 // What a relocation type asks for.
-#[derive(Drop)]
+#[derive(Clone, Copy)]
 pub enum Action {
     Ignored,
     Passed,
@@ -27,7 +27,7 @@ pub enum Action {
 }
 
 // What is written by the address of a symbol: the address itself, or S + A (Direct) or S + A - P (Pc), in 64 or 32 bits.
-#[derive(Drop)]
+#[derive(Clone, Copy)]
 pub enum Field {
     Address,
     Direct64,
@@ -38,7 +38,7 @@ pub enum Field {
 }
 
 // An entry of the RELR table: the place of a word, or a bit for each of the 63 words after the last.
-#[derive(Drop)]
+#[derive(Clone, Copy)]
 pub enum Relr {
     Address(usize),
     Bitmap(u64),

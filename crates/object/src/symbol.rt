@@ -2,7 +2,7 @@
 ghost use Rattle.std.specs.Prelude.{◌≡◌, ◌+◌, ◌*◌, ◌≤◌, length};
 ghost use Rattle.object.specs.Symbol.{symbol_from, symbol_at, symbol_name, binding_of, is_defined, is_public, is_visible, is_exported};
 
-#[derive(Drop)]
+#[derive(Clone, Copy)]
 pub struct Symbol {
     pub name: u32,
     pub info: u8,

@@ -8,14 +8,14 @@ ghost use Rattle.object.specs.Steps.FineRange.{TablesFine, ChainedFine};
 ghost use Rattle.object.specs.Steps.LastZero.{LastZero, LastZeros, Nearer, RunOf};
 
 // What needs no further test of refusals 14 and 15: the first `fits` symbols, and a name at one of the first `ends` places of the strings.
-#[derive(Drop)]
+#[derive(Clone, Copy)]
 pub struct Fine {
     pub fits: usize,
     pub ends: usize,
 }
 
 // An object's span, and its load segments: the first `count` of them. The host has none.
-#[derive(Drop)]
+#[derive(Clone, Copy)]
 pub struct Bounds {
     pub span: usize,
     pub segments: [crate::program_header::Segment; 16],
@@ -138,7 +138,7 @@ pub(crate) fn last_zeros(image: &[u8], b: Bounds, zeros: &mut [usize; 17])
 }
 
 // Where a run of table bytes ends, and one past the last zero byte before that.
-#[derive(Drop)]
+#[derive(Clone, Copy)]
 struct Run {
     end: usize,
     low: usize,
@@ -282,7 +282,7 @@ fn holds(s: crate::program_header::Segment, at: usize, n: usize) -> bool
 }
 
 // Places that lie in one writable segment: from `low` to below `high`. None where `high` is 0.
-#[derive(Drop)]
+#[derive(Clone, Copy)]
 pub struct Writable {
     pub low: usize,
     pub high: usize,

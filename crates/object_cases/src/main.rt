@@ -6,6 +6,8 @@
 // length of its asks (2), how many asks (1), the asks, the file. A case: base (1), flags (1), room (4), file length (4), patches (1), asks
 // (1); each patch is a place (2), a length (1) and bytes. An ask: 1, a length (1) and a name; or 2 to 9 and a number (4). Flag 1: the
 // host; flag 2: the base's asks come first. Bytes of the room that no object is placed on hold the input's first bytes.
+#![tactic(auto)]
+
 use libc::STDIN_FILENO;
 use object::dynamic_fields::ObjectData;
 use object::entry_symbol::CheckedSymbol;

@@ -1,5 +1,7 @@
 // Prints the orders of document 01's three cases, of a need that is named twice, of 62 libraries each of which names the next in all its
 // 64 needs, and of 100 libraries with an empty table.
+#![tactic(auto)]
+
 ghost use Rattle.std.specs.Prelude.{◌≤◌};
 
 use binder::order::{Order, arrange};

@@ -1,4 +1,6 @@
 // Document 01's program, but for reading standard input and writing standard output.
+#![tactic(auto)]
+
 ghost use Rattle.std.specs.Prelude.{◌≡◌, ◌+◌, ◌*◌, ◌≤◌, ◌<◌, length, drop, replicate};
 ghost use Rattle.words.specs.Memory.{tab, patch};
 ghost use Rattle.binder.specs.declared.Policy.TheVariants.{Lenient};

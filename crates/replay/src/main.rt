@@ -7,6 +7,8 @@
 // call the arena holds the input's first bytes, and before `bind` each bit of the report is 1. A set has at most 65,536 bytes, its sheet at
 // most 130 words, its arena at most 262,144 bytes. The first byte is 0 for strict or 1 for lenient, plus 4 * t where the word of type t is to pass
 // it over, or 4 * t + 2 where it is to refuse it; the other words are the supplied ones, so that 0 or 1 alone leaves them all.
+#![tactic(auto)]
+
 ghost use Rattle.std.specs.Prelude.{◌≤◌};
 
 use binder::{Answer, Policy, Reply};

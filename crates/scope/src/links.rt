@@ -6,7 +6,7 @@ ghost use Rattle.scope.specs.Steps.Links.{hash_words, hash_of, narrow, log_of, f
 use object::hash_tables::{HashTable, View};
 
 // Where an object lies in the arena, and what a lookup reads of its record.
-#[derive(Drop)]
+#[derive(Clone, Copy)]
 pub struct Link {
     pub offset: usize,
     pub span: usize,

@@ -9,7 +9,7 @@ use crate::links::Link;
 use object::hash_tables::{Definition, Exported};
 
 // What a search yields: the object that has the name, its definition and address; or absence.
-#[derive(Drop)]
+#[derive(Clone, Copy)]
 pub enum Resolved {
     Absent,
     Found {

@@ -4,7 +4,7 @@ ghost use Rattle.sheet.specs.Sheet.{kind_of, length_in, pair_ok, sheet_ok, set_o
 ghost use Rattle.sheet.specs.Steps.Parts.{no_part, input_in, inputs_in, Tabled};
 
 // Where an object's file and name lie in the byte slice.
-#[derive(Drop)]
+#[derive(Clone, Copy)]
 pub struct Part {
     // the file's first byte
     pub at: usize,
@@ -17,7 +17,7 @@ pub struct Part {
 }
 
 // The parts of a set's objects, by number: the first `count` of `list`.
-#[derive(Drop)]
+#[derive(Clone, Copy)]
 pub struct Parts {
     pub list: [Part; 64],
     pub count: usize,

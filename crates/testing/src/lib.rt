@@ -1,3 +1,5 @@
 // What the test programs share: printing, and reading their input.
+#![tactic(auto)]
+
 pub mod input;
 pub mod show;

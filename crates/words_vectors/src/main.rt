@@ -1,6 +1,8 @@
 // Runs the functions of `words` on the cases of standard input and prints what each gives, as sixteen hexadecimal digits on a line.
 // Input: an image of 512 bytes, then cases of 32 bytes: four little-endian numbers, the function's number and its arguments a, b, c.
 // tests/words_vectors.py makes the cases and, without this crate, the expected lines.
+#![tactic(auto)]
+
 use libc::{STDIN_FILENO, STDOUT_FILENO};
 
 // What a store, a fill or a copy leaves: the hash of the whole image.
