@@ -1,3 +1,2 @@
 // What binding a set means, as definitions (specs/) and laws (proofs/). It has no code.
 #![tactic(auto)]
-

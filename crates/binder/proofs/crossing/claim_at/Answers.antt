@@ -1,0 +1,18 @@
+-- `binder::crossing::claim_at` meets its contract. Assumes nothing.
+use Rattle.std.proofs.Common.{◌≡◌, ◌+◌, ◌-◌, ◌*◌, sym, ◌∙◌, arith, eq-eqb, ne_eqb}
+use Rattle.binder.specs.Steps.Crossing as crossing-specs
+use Rattle.object.specs.Entries as entries
+use Rattle.object.specs.Symbol as symbols
+use Rattle.binder.proofs.crossing.claim_at.Goals as goal
+
+pub returns-then-u32_off-ne5 : goal.returns-then-u32_off-ne5
+unfolding crossing-specs.claim_of entries.rela_at
+returns-then-u32_off-ne5 c =
+    rw (c.no_claim.ensures, ne_eqb _ _ (λ e. c.if-u32_off-ne5.true (c.u32_off.ensures ∙ e)))
+
+pub returns : goal.returns
+unfolding crossing-specs.claim_of entries.rela_at symbols.symbol_from
+returns c =
+    let a = c.args in
+    let z : a.symbols + (24 * c.u32_off-s.result + 16) ≡ a.symbols + 24 * c.u32_off-s.result + 16 = omega arith in
+    rw (← c.u32_off-s.ensures, ← z, ← c.u64_off.ensures, ← c.u64_off-2.ensures, eq-eqb _ _ (sym c.u32_off.ensures ∙ c.if-u32_off-ne5.false))

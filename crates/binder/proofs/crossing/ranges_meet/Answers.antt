@@ -1,0 +1,11 @@
+-- `binder::crossing::ranges_meet` meets its contract. Assumes nothing.
+use Rattle.binder.proofs.CrossCode.{meets_both, meets_none}
+use Rattle.binder.proofs.crossing.ranges_meet.Goals as goal
+
+pub returns-then-below_sum : goal.returns-then-below_sum
+returns-then-below_sum c =
+    let a = c.args in meets_both a.at a.n a.other a.m c.below_sum.ensures c.if-below_sum.true c.below_sum-then-below_sum.ensures
+
+pub returns : goal.returns
+returns c =
+    let a = c.args in meets_none a.at a.n a.other a.m c.below_sum.ensures c.if-below_sum.false

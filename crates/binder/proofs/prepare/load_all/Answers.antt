@@ -1,0 +1,66 @@
+use Rattle.std.proofs.Common.{◌≡◌, ◌+◌, ◌-◌, ◌^◌, ◌<◌, ◌≤◌, length, sym, refl, ◌∙◌, arith, rules}
+use Rattle.sheet.specs.Steps.Parts.{inputs_in}
+use Rattle.binder.specs.Setting.{setting_at}
+use Rattle.binder.proofs.PrepareLaws.{load_begin, load_fail, load_fits, load_turn, load_finish}
+use Rattle.binder.proofs.LoopLaws.{counts_down}
+use Rattle.binder.proofs.prepare.load_all.Goals as goal
+
+pub loop-k-init : goal.loop-k-init
+loop-k-init c =
+    (refl, sym c.requires.1, load_begin _ _ _ _)
+
+pub load_next-p-requires : goal.load_next-p-requires
+load_next-p-requires c =
+    let l = c.loop-k.invariant.2 in
+    (l.offset, omega (arith, l.same, c.requires.3), omega (arith, l.same, c.requires.4))
+
+pub returns-in-Refused : goal.returns-in-Refused
+returns-in-Refused c =
+    let a = c.args in
+    load_fail (setting_at a.address) (inputs_in a.bytes.now a.parts) a.arena.now c.loop-k.arena c.loop-k.table c.loop-k.free c.loop-k.k c.loop-k.invariant.2 (omega (arith, c.loop-k.invariant.1)) c.load_next-p.new.0 c.load_next-p.result
+    (rw c.file_of-file.ensures at c.load_next-p.ensures) _ c.in-Refused.is _
+
+pub overflow_add-free : goal.overflow_add-free
+overflow_add-free c =
+    let a = c.args in
+    let h : c.in-At.s.offset + c.in-At.s.span < 2 ^ 64 = omega (
+      arith,
+      c.well-formed,
+      c.loop-k.invariant.2.same,
+      load_fits (setting_at a.address) (inputs_in a.bytes.now a.parts) a.arena.now c.loop-k.arena c.loop-k.table c.loop-k.free c.loop-k.k c.loop-k.invariant.2 (omega (arith, c.loop-k.invariant.1)) c.load_next-p.new.0 c.load_next-p.result
+          (rw c.file_of-file.ensures at c.load_next-p.ensures) c.in-At.s c.in-At.is,
+    ) in
+    record { fits = h }
+
+pub loop-k-smaller : goal.loop-k-smaller
+loop-k-smaller c =
+    counts_down c.loop-k-test.true
+
+pub loop-k-preserved : goal.loop-k-preserved
+loop-k-preserved c =
+    let a = c.args in
+    let room : 1024 ≤ length c.loop-k.table = omega (arith, c.requires.2, c.loop-k.invariant.0) in (
+      c.put_link.auto.0 ∙ c.loop-k.invariant.0,
+      c.loop-k.invariant.1,
+      load_turn (setting_at a.address) (inputs_in a.bytes.now a.parts) a.arena.now c.loop-k.arena c.loop-k.table c.loop-k.free c.loop-k.k c.loop-k.invariant.2 (omega (arith, c.loop-k.invariant.1)) c.load_next-p.new.0 c.load_next-p.result
+          (rw c.file_of-file.ensures at c.load_next-p.ensures) c.in-At.s c.in-At.is c.load_next-p.auto.0 _
+          (c.put_link.ensures.back.0 (omega (arith, c.requires.0, room))) c.put_link.ensures.back.1.0 (c.put_link.ensures.back.1.1 (omega (arith, c.requires.0, room))),
+    )
+
+pub overflow_sub-arena : goal.overflow_sub-arena
+overflow_sub-arena c = search (rules, c.loop-k.invariant.2.offset)
+
+pub shape_of-arena : goal.shape_of-arena
+shape_of-arena c =
+    c.zero.auto.0 ∙ c.loop-k.invariant.2.same
+
+pub shape_of-table : goal.shape_of-table
+shape_of-table c =
+    c.loop-k.invariant.0
+
+pub returns : goal.returns
+returns c =
+    let a = c.args in
+    let l = c.loop-k in
+    load_finish (setting_at a.address) (inputs_in a.bytes.now a.parts) a.arena.now l.arena l.table l.free l.k l.invariant.2 (omega (arith, l.invariant.1, l.invariant.2.number)) _
+    c.zero.ensures

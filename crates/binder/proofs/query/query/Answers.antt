@@ -1,0 +1,30 @@
+-- `binder::query::query` meets its contract. Assumes nothing.
+use Rattle.std.proofs.Common.{length, ◌∙◌, arith}
+use Rattle.binder.specs.Setting.{setting_at}
+use Rattle.binder.proofs.PrepareLaws.{many_parts}
+use Rattle.binder.proofs.QueryIs.{query_refused, query_handed}
+use Rattle.binder.proofs.query.query.Goals as goal
+
+pub shape_of-arena-then-parts-lt2 : goal.shape_of-arena-then-parts-lt2
+shape_of-arena-then-parts-lt2 c =
+    c.refuse.auto.1.1.0
+
+pub returns-then-parts-lt2 : goal.returns-then-parts-lt2
+returns-then-parts-lt2 c =
+    let a = c.args in
+    c.refuse.ensures
+    ∙ query_refused (setting_at a.address) a.sheet.now a.bytes.now (length a.arena.now) _ c.parts_of-parts.ensures a.requester a.name.now c.if-parts-lt2.true
+
+pub ask_set-requires : goal.ask_set-requires
+ask_set-requires c =
+    (omega (arith, c.if-parts-lt2.false), c.parts_of-parts.ensures.few, many_parts c.parts_of-parts.ensures c.args.bytes.now)
+
+pub shape_of-arena : goal.shape_of-arena
+shape_of-arena c =
+    c.ask_set.auto.1.1.0
+
+pub returns : goal.returns
+returns c =
+    let a = c.args in
+    c.ask_set.ensures
+    ∙ query_handed (setting_at a.address) a.sheet.now a.bytes.now (length a.arena.now) _ c.parts_of-parts.ensures a.requester a.name.now (omega (arith, c.if-parts-lt2.false))

@@ -1,0 +1,63 @@
+-- `binder::relocate::run_action` meets its contract. Assumes nothing.
+use Rattle.std.proofs.Common.{ap}
+use Rattle.binder.specs.Steps.Relocating.{with_arena, with_report, run_action}
+use Rattle.binder.proofs.relocate.run_action.Goals as goal
+
+pub returns-in-Ignored : goal.returns-in-Ignored
+unfolding run_action
+returns-in-Ignored c =
+    rw (← c.action_at-a.ensures, c.in-Ignored.is)
+
+pub shape_of-report-in-Passed : goal.shape_of-report-in-Passed
+shape_of-report-in-Passed c =
+    c.note.auto.0
+
+pub returns-in-Passed : goal.returns-in-Passed
+unfolding run_action
+returns-in-Passed c =
+    rw (← c.action_at-a.ensures, c.in-Passed.is, ← c.wrapping_add_u32.ensures) (ap (with_arena _) c.note.ensures)
+
+pub returns-in-Irelative : goal.returns-in-Irelative
+unfolding run_action
+returns-in-Irelative c =
+    rw (← c.action_at-a.ensures, c.in-Irelative.is, c.refused.ensures)
+
+pub returns-in-Refused : goal.returns-in-Refused
+unfolding run_action
+returns-in-Refused c =
+    rw (← c.action_at-a.ensures, c.in-Refused.is, c.refused-in-Refused.ensures)
+
+pub shape_of-arena-in-Relative : goal.shape_of-arena-in-Relative
+shape_of-arena-in-Relative c =
+    c.relative.auto.0
+
+pub returns-in-Relative : goal.returns-in-Relative
+unfolding run_action
+returns-in-Relative c =
+    rw (← c.action_at-a.ensures, c.in-Relative.is, ← c.bounds_of.ensures.segments) (ap (with_report _) c.relative.ensures)
+
+pub shape_of-arena-in-Symbolic : goal.shape_of-arena-in-Symbolic
+shape_of-arena-in-Symbolic c =
+    c.write_sought.auto.0
+
+pub shape_of-report-in-Symbolic : goal.shape_of-report-in-Symbolic
+shape_of-report-in-Symbolic c =
+    c.write_sought.auto.1.0
+
+pub returns-in-Symbolic : goal.returns-in-Symbolic
+unfolding run_action
+returns-in-Symbolic c =
+    rw (← c.action_at-a.ensures, c.in-Symbolic.is, ← c.seek-s.ensures) c.write_sought.ensures
+
+pub shape_of-arena-in-Copy : goal.shape_of-arena-in-Copy
+shape_of-arena-in-Copy c =
+    c.copying.auto.0
+
+pub shape_of-report-in-Copy : goal.shape_of-report-in-Copy
+shape_of-report-in-Copy c =
+    c.copying.auto.1.0
+
+pub returns-in-Copy : goal.returns-in-Copy
+unfolding run_action
+returns-in-Copy c =
+    rw (← c.action_at-a.ensures, c.in-Copy.is) c.copying.ensures

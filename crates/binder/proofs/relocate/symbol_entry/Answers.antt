@@ -1,0 +1,21 @@
+-- `binder::relocate::symbol_entry` meets its contract. Assumes nothing.
+use Rattle.std.proofs.Common.{sym, ap, ◌∙◌, arith}
+use Rattle.object.specs.Steps.Actions.{row_by}
+use borrow.Author.Tests.{not-false}
+use Rattle.binder.proofs.relocate.symbol_entry.Goals as goal
+
+pub returns : goal.returns
+returns c =
+    record {
+      acts = rw (← c.u32_in.ensures) (sym c.action_at-a.ensures ∙ ap row_by c.in-Symbolic.is);
+      wide = sym c.width_of.ensures ∙ c.if-width_of-ne8.false;
+      searched = sym c.searches.ensures ∙ not-false _ c.if-not-searches.false;
+      addend_is = c.u64_in.ensures;
+      place_is = c.u64_in-place.ensures;
+      above = omega (arith, c.if-place-low.false);
+      below = omega (arith, c.if-high-place.false, c.requires.2);
+      index_is = c.u32_in-index.ensures;
+      few = omega (arith, c.if-y-index.false);
+      name_is = c.u32_in-name.ensures;
+      named = omega (arith, c.if-y-name.false);
+    }

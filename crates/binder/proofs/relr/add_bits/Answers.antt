@@ -1,0 +1,51 @@
+use Rattle.std.proofs.Common.{◌≡◌, ◌+◌, ◌-◌, ◌*◌, ◌/◌, ◌%◌, ◌<◌, ◌≤◌, true, length, take, sym, refl, ap, ◌∙◌, ⊎_elim, arith}
+use borrow.Author.Tests.{not-true, not-false}
+use Rattle.object.specs.TableBytes.{in_writable}
+use Rattle.binder.specs.Steps.Relocating.{add_bits}
+use Rattle.binder.proofs.BitLaws.{bit_0, bit_1, refused, none}
+use Rattle.binder.proofs.relr.add_bits.Goals as goal
+
+pub loop-n-init : goal.loop-n-init
+loop-n-init c = (refl, omega arith, omega arith, refl)
+
+pub shape_of-part-then-not-in_writable : goal.shape_of-part-then-not-in_writable
+shape_of-part-then-not-in_writable c = c.loop-n.invariant.0
+
+pub returns-then-not-in_writable : goal.returns-then-not-in_writable
+returns-then-not-in_writable c =
+    let a = c.args in
+    let l = c.loop-n in
+    sym (refused a.base (take a.b.count a.b.segments) l.n l.p l.left l.part (omega arith) c.if-left-eq1.true (sym c.in_writable.ensures ∙ not-true _ c.if-not-in_writable.true))
+    ∙ l.invariant.3
+
+pub loop-n-preserved : goal.loop-n-preserved
+loop-n-preserved c =
+    let a = c.args in
+    let l = c.loop-n in
+    let ss = take a.b.count a.b.segments in
+    ⊎_elim
+    (λ w. (
+      ap length w.7 ∙ (w.4.kept.0 ∙ l.invariant.0),
+      omega arith,
+      omega arith,
+      ap (add_bits a.base ss (l.n - 1) (l.p + 8) (l.left / 2)) (w.7 ∙ w.4.ensures)
+          ∙ (sym (bit_1 a.base ss l.n l.p l.left l.part (omega arith) w.0.taken (sym w.1.ensures ∙ not-false _ w.2.left))
+          ∙ l.invariant.3),
+    ))
+    (λ w. (
+      ap length w.1 ∙ l.invariant.0,
+      omega arith,
+      omega arith,
+      ap (add_bits a.base ss (l.n - 1) (l.p + 8) (l.left / 2)) w.1
+          ∙ (sym (bit_0 a.base ss l.n l.p l.left l.part (omega arith) w.0.left) ∙ l.invariant.3),
+    ))
+    c.if-left-eq1.branch
+
+pub shape_of-part : goal.shape_of-part
+shape_of-part c = c.loop-n.invariant.0
+
+pub returns : goal.returns
+returns c =
+    let a = c.args in
+    let l = c.loop-n in
+    sym (none a.base (take a.b.count a.b.segments) l.n l.p l.left l.part (omega arith)) ∙ l.invariant.3

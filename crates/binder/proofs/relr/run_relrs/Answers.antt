@@ -1,0 +1,10 @@
+-- `binder::relr::run_relrs` meets its contract. Assumes nothing.
+use Rattle.object.specs.Record.{held_by}
+use Rattle.binder.proofs.PartLaws.{relrs_in}
+use Rattle.binder.proofs.relr.run_relrs.Goals as goal
+
+pub returns : goal.returns
+returns c =
+    let a = c.args in
+    let s = c.add_relrs in
+    relrs_in a.t (held_by a.o) a.arena.now s.new.0 s.result c.smaller-off.ensures s.ensures

@@ -1,0 +1,25 @@
+use borrow.Author.Rules.{rules}
+use Prim.Native.Nat.{◌-◌, ◌^◌, ◌≤◌, ◌<◌}
+use Rattle.object.proofs.CountLaws.{highest_more, highest_cut}
+use Rattle.object.specs.SymbolCount.{highest}
+use mathlib.Core.Path.{◌≡◌, refl, ap, ◌∙◌}
+use native.Mathlib.Omega.{arith}
+use Rattle.object.proofs.hash_tables.highest_bucket.Goals as goal
+
+pub loop-i-init : goal.loop-i-init
+unfolding highest
+loop-i-init c =
+    (search rules, search rules, refl)
+
+pub loop-i-preserved : goal.loop-i-preserved
+loop-i-preserved c =
+    let a = c.args in
+    let l = c.loop-i in
+    (search rules, search rules, highest_more a.image.now a.t l.i l.best c.bucket_word.result c.larger-best.result l.invariant.2 c.bucket_word.ensures c.larger-best.ensures)
+
+pub returns : goal.returns
+returns c =
+    let a = c.args in
+    let l = c.loop-i in
+    let e : l.i ≡ c.smaller-n.result = omega arith in
+    (l.invariant.2 ∙ ap (highest a.image.now a.t) e ∙ highest_cut a.image.now a.t c.smaller-n.result (rw (← c.bucket_count.ensures) c.smaller-n.ensures), search rules)

@@ -1,0 +1,6 @@
+-- `object::hash_tables::named` meets its contract. Assumes nothing.
+use Rattle.object.proofs.hash_tables.named.Goals as goal
+
+pub returns : goal.returns
+returns c =
+    rw (c.same_at.ensures, c.u32_off-at.ensures)

@@ -1,0 +1,9 @@
+-- `object::symbol::symbol_in` meets its contract. Assumes nothing.
+use Rattle.words.specs.Memory.{mem}
+use Rattle.object.specs.Symbol.{symbol_from}
+use Rattle.object.proofs.symbol.symbol_in.Goals as goal
+
+pub returns : goal.returns
+unfolding symbol_from mem
+returns c =
+    rw (c.u32_in.ensures, c.u16_in.ensures, c.u64_in.ensures, c.u64_in-2.ensures)

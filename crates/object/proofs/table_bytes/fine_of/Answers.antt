@@ -1,0 +1,18 @@
+-- `object::table_bytes::fine_of` meets its contract. Assumes nothing.
+use lib.ListN.{take}
+use Rattle.object.specs.TableBytes.{is_table}
+use Rattle.object.proofs.FineLaws.{tables_none, tables_runs}
+use Rattle.object.proofs.table_bytes.fine_of.Goals as goal
+
+pub returns-then-b-symbols : goal.returns-then-b-symbols
+returns-then-b-symbols c =
+    tables_none _ _ _ _ _
+
+pub returns-then-b-strings : goal.returns-then-b-strings
+returns-then-b-strings c =
+    tables_none _ _ _ _ _
+
+pub returns : goal.returns
+returns c =
+    let a = c.args in
+    rw c.monus.ensures (tables_runs a.image.now (is_table a.b.span (take a.b.count a.b.segments)) a.symbols a.strings a.b.span _ _ _ _ c.run_from-one.ensures c.run_from-two.ensures)

@@ -1,0 +1,13 @@
+-- `replay::run` meets its contract. Assumes nothing.
+use Prim.Native.Nat.{◌≤◌}
+use lib.ListN.{length}
+use mathlib.Core.Path.{◌≡◌}
+use Rattle.replay.proofs.run.Given as goal
+
+abbrev pub invariant-loop-left : goal.invariant-loop-left
+invariant-loop-left l =
+    (l.left ≤ l.initial.left) × (length l.arena ≡ length l.initial.arena) × (length l.set ≡ length l.initial.set)
+
+abbrev pub decreases-loop-left : goal.decreases-loop-left
+decreases-loop-left l =
+    l.left

@@ -1,0 +1,13 @@
+-- `scope::links::word` meets its contract: past the end both sides are 0. Assumes nothing.
+use mathlib.Core.Path.{sym}
+use native.Mathlib.Omega.{arith}
+use lib.ListN.{get_or-eq_default}
+use Rattle.scope.proofs.links.word.Goals as goal
+
+pub returns-else-k-n : goal.returns-else-k-n
+returns-else-k-n c =
+    sym (get_or-eq_default c.args.table.now 0 (omega arith))
+
+pub returns-else-j-n : goal.returns-else-j-n
+returns-else-j-n c =
+    sym (get_or-eq_default c.args.table.now 0 (omega arith))
