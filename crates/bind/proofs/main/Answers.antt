@@ -16,9 +16,9 @@ use Rattle.bind.proofs.main.Goals as goal
 -- src/main.rt:10:34
 pub slice_bounds-out-end : goal.slice_bounds-out-end
 slice_bounds-out-end c =
-    omega (arith, c.run-r.auto, next_place (replicate 9216 0) 0 (lines_of (program_of (take c.read_full-n.result c.read_full-n.new.1.0))) c.run-r.ensures)
+    omega (arith, c.run-r.auto, next_place (replicate 9216 0) 0 (lines_of (program_of (take c.read_full-n.result c.read_full-n.new.buf))) c.run-r.ensures)
 
 -- src/main.rt:10:34
 pub slice_bounds-write_all-end : goal.slice_bounds-write_all-end
 slice_bounds-write_all-end c =
-    sym (length-take-le c.run-r.result c.run-r.new.1.0 (array-share-prefix-out c))
+    sym (length-take-le c.run-r.result c.run-r.new.out (array-share-prefix-out c))

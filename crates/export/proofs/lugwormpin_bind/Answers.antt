@@ -6,5 +6,5 @@ use Rattle.export.proofs.lugwormpin_bind.Goals as goal
 
 pub returns : goal.returns
 returns c =
-    ap (λ (n : ℕ). called n c.bind-a.new.1.1.0 c.bind-a.new.1.1.1.1.1.1.0) c.answer_number.ensures
+    ap (λ (n : ℕ). called n c.bind-a.new.arena c.bind-a.new.report) c.answer_number.ensures
     ∙ rw c.policy_of-policy.ensures at (ap called_of c.bind-a.ensures)

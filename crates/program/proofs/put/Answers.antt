@@ -4,4 +4,4 @@ use Rattle.program.proofs.put.Goals as goal
 
 pub returns : goal.returns
 returns c =
-    copy_prints c.args.out.now c.args.at c.args.text.now c.copy.new.0 c.place.result c.copy.ensures c.place.ensures
+    copy_prints c.args.out.now c.args.at c.args.text.now c.copy.new.dst c.place.result c.copy.ensures c.place.ensures

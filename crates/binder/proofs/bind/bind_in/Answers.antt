@@ -14,18 +14,18 @@ crossed-requires c =
 
 pub shape_of-arena-then-m : goal.shape_of-arena-then-m
 shape_of-arena-then-m c =
-    c.crossed.auto.1.1.0
+    c.crossed.auto.arena
 
 pub shape_of-report-then-m : goal.shape_of-report-then-m
 shape_of-report-then-m c =
-    c.crossed.auto.1.1.1.0
+    c.crossed.auto.report
 
 pub returns-then-m : goal.returns-then-m
 returns-then-m c =
     let a = c.args in
     λ r u. (
-      c.crossed.auto.1.1.0,
-      c.crossed.auto.1.1.1.0,
+      c.crossed.auto.arena,
+      c.crossed.auto.report,
       c.crossing_in-m.result,
       c.crossing_in-m.ensures.1 r,
       (λ e. absurd (true≢false (sym c.if-m.true ∙ e))),
@@ -38,17 +38,17 @@ run_order-p-requires c =
 
 pub shape_of-arena : goal.shape_of-arena
 shape_of-arena c =
-    c.run_order-p.auto.1.1.0
+    c.run_order-p.auto.arena
 
 pub shape_of-report : goal.shape_of-report
 shape_of-report c =
-    c.run_order-p.auto.1.1.1.0
+    c.run_order-p.auto.report
 
 pub returns : goal.returns
 returns c =
     λ r u. (
-      c.run_order-p.auto.1.1.0,
-      c.run_order-p.auto.1.1.1.0,
+      c.run_order-p.auto.arena,
+      c.run_order-p.auto.report,
       c.crossing_in-m.result,
       c.crossing_in-m.ensures.1 r,
       (λ e. record { progress = c.run_order-p.result; leaves = c.run_order-p.ensures; met = c.end.ensures }),

@@ -9,16 +9,16 @@ use Rattle.binder.proofs.bind.bind_set.Goals as goal
 
 pub shape_of-arena-in_default : goal.shape_of-arena-in_default
 shape_of-arena-in_default c =
-    c.prepare-m.auto.1.1.0
+    c.prepare-m.auto.arena
 
 pub returns-in_default : goal.returns-in_default
 returns-in_default c =
     prepare_refused (setting_of c.args.address c.args.types.now) (inputs_in c.args.bytes.now c.args.parts) (length c.args.arena.now) c.args.policy (length c.args.report.now)
-    c.prepare-m.result c.prepare-m.new.1.1.0 c.args.report.now (made c.args.address c.args.types.now (inputs_in c.args.bytes.now c.args.parts) c.args.arena.now c.prepare-m.new.1.1.0 c.prepare-m.result c.types_verdict-v.result c.prepare-m.new.1.1.1.1.1.0 c.types_verdict-v.ensures c.prepare-m.ensures).met _ _ c.in_default.is c.prepare-m.auto.1.1.0 refl
+    c.prepare-m.result c.prepare-m.new.arena c.args.report.now (made c.args.address c.args.types.now (inputs_in c.args.bytes.now c.args.parts) c.args.arena.now c.prepare-m.new.arena c.prepare-m.result c.types_verdict-v.result c.prepare-m.new.table c.types_verdict-v.ensures c.prepare-m.ensures).met _ _ c.in_default.is c.prepare-m.auto.arena refl
 
 pub put_types-requires : goal.put_types-requires
 put_types-requires c =
-    (omega (arith, c.prepare-m.auto.1.1.1.1.1.0, length-replicate {A = ℕ} 1090 0), all_words c.args.address c.args.types.now (inputs_in c.args.bytes.now c.args.parts) c.args.arena.now c.prepare-m.new.1.1.0 c.prepare-m.result c.prepare-m.new.1.1.1.1.1.0 (made c.args.address c.args.types.now (inputs_in c.args.bytes.now c.args.parts) c.args.arena.now c.prepare-m.new.1.1.0 c.prepare-m.result c.types_verdict-v.result c.prepare-m.new.1.1.1.1.1.0 c.types_verdict-v.ensures c.prepare-m.ensures) c.in-Passed.is)
+    (omega (arith, c.prepare-m.auto.table, length-replicate {A = ℕ} 1090 0), all_words c.args.address c.args.types.now (inputs_in c.args.bytes.now c.args.parts) c.args.arena.now c.prepare-m.new.arena c.prepare-m.result c.prepare-m.new.table (made c.args.address c.args.types.now (inputs_in c.args.bytes.now c.args.parts) c.args.arena.now c.prepare-m.new.arena c.prepare-m.result c.types_verdict-v.result c.prepare-m.new.table c.types_verdict-v.ensures c.prepare-m.ensures) c.in-Passed.is)
 
 pub order_of-order-requires : goal.order_of-order-requires
 order_of-order-requires c =
@@ -26,20 +26,20 @@ order_of-order-requires c =
 
 pub bind_in-requires : goal.bind_in-requires
 bind_in-requires c =
-    (search rules, (made_put c.args.address c.args.types.now (inputs_in c.args.bytes.now c.args.parts) c.args.arena.now c.prepare-m.new.1.1.0 c.prepare-m.result c.prepare-m.new.1.1.1.1.1.0 c.put_types.new.0 c.put_types.ensures (omega (arith, c.prepare-m.auto.1.1.1.1.1.0, length-replicate {A = ℕ} 1090 0)) (omega (arith, c.requires.1, c.requires.2)) (made c.args.address c.args.types.now (inputs_in c.args.bytes.now c.args.parts) c.args.arena.now c.prepare-m.new.1.1.0 c.prepare-m.result c.types_verdict-v.result c.prepare-m.new.1.1.1.1.1.0 c.types_verdict-v.ensures c.prepare-m.ensures)).filtered c.in-Passed.is)
+    (search rules, (made_put c.args.address c.args.types.now (inputs_in c.args.bytes.now c.args.parts) c.args.arena.now c.prepare-m.new.arena c.prepare-m.result c.prepare-m.new.table c.put_types.new.table c.put_types.ensures (omega (arith, c.prepare-m.auto.table, length-replicate {A = ℕ} 1090 0)) (omega (arith, c.requires.1, c.requires.2)) (made c.args.address c.args.types.now (inputs_in c.args.bytes.now c.args.parts) c.args.arena.now c.prepare-m.new.arena c.prepare-m.result c.types_verdict-v.result c.prepare-m.new.table c.types_verdict-v.ensures c.prepare-m.ensures)).filtered c.in-Passed.is)
 
 pub shape_of-arena : goal.shape_of-arena
 shape_of-arena c =
-    c.bind_in.auto.1.1.0 ∙ c.prepare-m.auto.1.1.0
+    c.bind_in.auto.arena ∙ c.prepare-m.auto.arena
 
 pub shape_of-report : goal.shape_of-report
 shape_of-report c =
-    c.bind_in.auto.1.1.1.1.0
+    c.bind_in.auto.report
 
 pub returns : goal.returns
 returns c =
-    bind_is (setting_of c.args.address c.args.types.now) (inputs_in c.args.bytes.now c.args.parts) c.args.parts.count c.args.arena.now c.prepare-m.new.1.1.0 c.put_types.new.0
-    c.prepare-m.result c.requires.0 c.requires.2 c.prepare-m.auto.1.1.0
-    (made_put c.args.address c.args.types.now (inputs_in c.args.bytes.now c.args.parts) c.args.arena.now c.prepare-m.new.1.1.0 c.prepare-m.result c.prepare-m.new.1.1.1.1.1.0 c.put_types.new.0 c.put_types.ensures (omega (arith, c.prepare-m.auto.1.1.1.1.1.0, length-replicate {A = ℕ} 1090 0)) (omega (arith, c.requires.1, c.requires.2)) (made c.args.address c.args.types.now (inputs_in c.args.bytes.now c.args.parts) c.args.arena.now c.prepare-m.new.1.1.0 c.prepare-m.result c.types_verdict-v.result c.prepare-m.new.1.1.1.1.1.0 c.types_verdict-v.ensures c.prepare-m.ensures)) c.in-Passed.is
-    (rows_put c.args.address c.args.types.now (inputs_in c.args.bytes.now c.args.parts) c.args.arena.now c.prepare-m.new.1.1.0 c.prepare-m.result c.prepare-m.new.1.1.1.1.1.0 c.put_types.new.0 c.put_types.ensures (omega (arith, c.prepare-m.auto.1.1.1.1.1.0, length-replicate {A = ℕ} 1090 0))) c.order_of-order.result c.order_of-order.ensures
+    bind_is (setting_of c.args.address c.args.types.now) (inputs_in c.args.bytes.now c.args.parts) c.args.parts.count c.args.arena.now c.prepare-m.new.arena c.put_types.new.table
+    c.prepare-m.result c.requires.0 c.requires.2 c.prepare-m.auto.arena
+    (made_put c.args.address c.args.types.now (inputs_in c.args.bytes.now c.args.parts) c.args.arena.now c.prepare-m.new.arena c.prepare-m.result c.prepare-m.new.table c.put_types.new.table c.put_types.ensures (omega (arith, c.prepare-m.auto.table, length-replicate {A = ℕ} 1090 0)) (omega (arith, c.requires.1, c.requires.2)) (made c.args.address c.args.types.now (inputs_in c.args.bytes.now c.args.parts) c.args.arena.now c.prepare-m.new.arena c.prepare-m.result c.types_verdict-v.result c.prepare-m.new.table c.types_verdict-v.ensures c.prepare-m.ensures)) c.in-Passed.is
+    (rows_put c.args.address c.args.types.now (inputs_in c.args.bytes.now c.args.parts) c.args.arena.now c.prepare-m.new.arena c.prepare-m.result c.prepare-m.new.table c.put_types.new.table c.put_types.ensures (omega (arith, c.prepare-m.auto.table, length-replicate {A = ℕ} 1090 0))) c.order_of-order.result c.order_of-order.ensures
     c.args.policy c.args.report.now c.requires.3 _ _ _ c.bind_in.ensures

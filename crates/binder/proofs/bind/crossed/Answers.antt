@@ -10,11 +10,11 @@ run_order-p-requires c =
 
 pub shape_of-arena-then-p-ne0 : goal.shape_of-arena-then-p-ne0
 shape_of-arena-then-p-ne0 c =
-    c.run_order-p.auto.1.1.0
+    c.run_order-p.auto.arena
 
 pub shape_of-report-then-p-ne0 : goal.shape_of-report-then-p-ne0
 shape_of-report-then-p-ne0 c =
-    c.run_order-p.auto.1.1.1.0
+    c.run_order-p.auto.report
 
 pub returns-then-p-ne0 : goal.returns-then-p-ne0
 returns-then-p-ne0 c =
@@ -31,11 +31,11 @@ run_until-q-requires c =
 
 pub shape_of-arena-then-q-ne0 : goal.shape_of-arena-then-q-ne0
 shape_of-arena-then-q-ne0 c =
-    c.run_until-q.auto.0 ∙ c.run_order-p.auto.1.1.0
+    c.run_until-q.auto.arena ∙ c.run_order-p.auto.arena
 
 pub shape_of-report-then-q-ne0 : goal.shape_of-report-then-q-ne0
 shape_of-report-then-q-ne0 c =
-    c.run_until-q.auto.1.0 ∙ c.run_order-p.auto.1.1.1.0
+    c.run_until-q.auto.report ∙ c.run_order-p.auto.report
 
 pub returns-then-q-ne0 : goal.returns-then-q-ne0
 returns-then-q-ne0 c =
@@ -44,11 +44,11 @@ returns-then-q-ne0 c =
 
 pub shape_of-arena : goal.shape_of-arena
 shape_of-arena c =
-    c.run_until-q.auto.0 ∙ c.run_order-p.auto.1.1.0
+    c.run_until-q.auto.arena ∙ c.run_order-p.auto.arena
 
 pub shape_of-report : goal.shape_of-report
 shape_of-report c =
-    c.run_until-q.auto.1.0 ∙ c.run_order-p.auto.1.1.1.0
+    c.run_until-q.auto.report ∙ c.run_order-p.auto.report
 
 pub returns : goal.returns
 returns c =

@@ -9,11 +9,11 @@ returns-in_default c =
 
 pub shape_of-arena : goal.shape_of-arena
 shape_of-arena c =
-    c.clear.auto.0
+    c.clear.auto.s
 
 pub shape_of-report : goal.shape_of-report
 shape_of-report c =
-    c.clear_words.auto.0
+    c.clear_words.auto.s
 
 pub returns : goal.returns
 unfolding finished_of

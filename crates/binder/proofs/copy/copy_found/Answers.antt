@@ -1,6 +1,5 @@
 -- `binder::copy::copy_found` meets its contract. Assumes nothing.
 use Rattle.std.proofs.Common.{◌≡◌, ℕ, ◌+◌, ◌^◌, ◌<◌, ◌≤◌, true, false, not, leb, List, length, take, sym, refl, ◌∙◌, inl, inr, ⊎_elim, arith, eq-eqb, ne_eqb, leb-true}
-use borrow.Author.Tests.{not-true, not-false}
 use Rattle.words.specs.Memory.{mem, from, patch}
 use Rattle.words.proofs.Choice.{both_true, either_true}
 use Rattle.object.specs.TableBytes.{in_writable}
@@ -61,27 +60,27 @@ returns-then-n-eq0 c =
 pub returns-then-not-in_writable : goal.returns-then-not-in_writable
 returns-then-not-in_writable c =
     let a = c.args in
-    refused_17 a.t (take a.b.count a.b.segments) a.to a.s a.d a.n a.p a.arena.now c.if-n-eq0.false (sym c.in_writable.ensures ∙ not-true _ c.if-not-in_writable.true) c.refused.ensures
+    refused_17 a.t (take a.b.count a.b.segments) a.to a.s a.d a.n a.p a.arena.now c.if-n-eq0.false (sym c.in_writable.ensures ∙ c.if-not-in_writable.true) c.refused.ensures
 
 pub returns-then-not-copy_fits : goal.returns-then-not-copy_fits
 returns-then-not-copy_fits c =
     let a = c.args in
-    refused_18 a.t (take a.b.count a.b.segments) a.to a.s a.d a.n a.p a.arena.now c.if-n-eq0.false (sym c.in_writable.ensures ∙ not-false _ c.if-not-in_writable.false) (sym c.copy_fits.ensures ∙ not-true _ c.if-not-copy_fits.true) c.refused-then-not-copy_fits.ensures
+    refused_18 a.t (take a.b.count a.b.segments) a.to a.s a.d a.n a.p a.arena.now c.if-n-eq0.false (sym c.in_writable.ensures ∙ c.if-not-in_writable.false) (sym c.copy_fits.ensures ∙ c.if-not-copy_fits.true) c.refused-then-not-copy_fits.ensures
 
 pub overflow_add-s : goal.overflow_add-s
 overflow_add-s c =
     let a = c.args in
-    record { fits = sum_fits (a.s.offset + a.d.value) a.n (length a.arena.now) (fits_apart (length a.arena.now) a.t a.to a.s a.d a.n (sym c.copy_fits.ensures ∙ not-false _ c.if-not-copy_fits.false)).1 (omega arith) }
+    record { fits = sum_fits (a.s.offset + a.d.value) a.n (length a.arena.now) (fits_apart (length a.arena.now) a.t a.to a.s a.d a.n (sym c.copy_fits.ensures ∙ c.if-not-copy_fits.false)).1 (omega arith) }
 
 pub copy_part-requires : goal.copy_part-requires
 copy_part-requires c =
     let a = c.args in
-    fits_apart (length a.arena.now) a.t a.to a.s a.d a.n (sym c.copy_fits.ensures ∙ not-false _ c.if-not-copy_fits.false)
+    fits_apart (length a.arena.now) a.t a.to a.s a.d a.n (sym c.copy_fits.ensures ∙ c.if-not-copy_fits.false)
 
 pub shape_of-arena : goal.shape_of-arena
-shape_of-arena c = c.copy_part.auto.0
+shape_of-arena c = c.copy_part.auto.arena
 
 pub returns : goal.returns
 returns c =
     let a = c.args in
-    copied a.t (take a.b.count a.b.segments) a.to a.s a.d a.n a.p a.arena.now c.if-n-eq0.false (sym c.in_writable.ensures ∙ not-false _ c.if-not-in_writable.false) (sym c.copy_fits.ensures ∙ not-false _ c.if-not-copy_fits.false) c.copy_part.ensures
+    copied a.t (take a.b.count a.b.segments) a.to a.s a.d a.n a.p a.arena.now c.if-n-eq0.false (sym c.in_writable.ensures ∙ c.if-not-in_writable.false) (sym c.copy_fits.ensures ∙ c.if-not-copy_fits.false) c.copy_part.ensures

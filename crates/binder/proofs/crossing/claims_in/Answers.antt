@@ -1,5 +1,4 @@
 use Rattle.std.proofs.Common.{ℕ, ◌+◌, ◌-◌, ◌≤◌, length, replicate, sym, ap, ◌∙◌, arith, leb-true}
-use borrow.Author.Tests.{not-false}
 use Rattle.binder.proofs.LoopLaws.{counts_down}
 use Rattle.binder.proofs.ClaimLaws.{clash, walk_begins, walk_passes, walk_goes, walk_ends}
 use Rattle.binder.proofs.crossing.claims_in.Goals as goal
@@ -32,7 +31,7 @@ returns-then-not-claim_fits c =
 pub overflow_add-c : goal.overflow_add-c
 overflow_add-c c =
     let a = c.args in
-    let f : c.claim_in-c.result.place + c.claim_in-c.result.size ≤ length a.image.now = leb-true _ _ (sym c.claim_fits.ensures ∙ not-false _ c.if-not-claim_fits.false) in
+    let f : c.claim_in-c.result.place + c.claim_in-c.result.size ≤ length a.image.now = leb-true _ _ (sym c.claim_fits.ensures ∙ c.if-not-claim_fits.false) in
     omega (arith, f)
 
 pub take_marks-requires : goal.take_marks-requires
@@ -50,7 +49,7 @@ returns-then-not-take_marks c =
 
 pub next_after-next-requires : goal.next_after-next-requires
 next_after-next-requires c =
-    leb-true _ _ (sym c.claim_fits.ensures ∙ not-false _ c.if-not-claim_fits.false)
+    leb-true _ _ (sym c.claim_fits.ensures ∙ c.if-not-claim_fits.false)
 
 pub overflow_add-i-else-c-eq0 : goal.overflow_add-i-else-c-eq0
 overflow_add-i-else-c-eq0 c =
@@ -66,8 +65,8 @@ loop-i-preserved c =
     let l = c.loop-i in
     let taken = c.take_marks.ensures in
     walk_goes a.image.now a.r a.w l.i l.marks l.next l.invariant c.loop-i-test.true c.claim_in-c.ensures _ _
-    c.in_window.ensures c.in_window-else-c-eq0.ensures (leb-true _ _ (sym c.claim_fits.ensures ∙ not-false _ c.if-not-claim_fits.false)) taken.0
-    (taken.1 (not-false _ c.if-not-take_marks.false)) c.next_after-next.ensures
+    c.in_window.ensures c.in_window-else-c-eq0.ensures (leb-true _ _ (sym c.claim_fits.ensures ∙ c.if-not-claim_fits.false)) taken.0
+    (taken.1 (c.if-not-take_marks.false)) c.next_after-next.ensures
 
 pub shape_of-marks : goal.shape_of-marks
 shape_of-marks c =

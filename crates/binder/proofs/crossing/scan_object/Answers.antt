@@ -90,7 +90,7 @@ pub loop-i-preserved : goal.loop-i-preserved
 loop-i-preserved c =
     let a = c.args in
     let l = c.loop-i in (
-      c.keep_copy.auto.0 ∙ l.invariant.0,
+      c.keep_copy.auto.kept ∙ l.invariant.0,
       l.invariant.1,
       l.invariant.2,
       omega (arith, c.loop-i-test.true),

@@ -1,6 +1,5 @@
 use Rattle.binder.proofs.OwnOrderLaws.{other_length, program_elsewhere, not_once, all_tested}
 use Rattle.std.proofs.Common.{sym, ◌∙◌, arith, length-take-le}
-use borrow.Author.Tests.{not-true, not-false}
 use Rattle.binder.proofs.own_order.is_order.Goals as goal
 
 pub returns-then-order-libraries : goal.returns-then-order-libraries
@@ -17,8 +16,8 @@ slice_bounds-front-end c =
 
 pub returns-then-not-each_once : goal.returns-then-not-each_once
 returns-then-not-each_once c =
-    not_once c.args.libraries c.args.order.now c.if-order-libraries.false c.if-order-libraries-ne1.false (sym c.each_once.ensures ∙ not-true _ c.if-not-each_once.true)
+    not_once c.args.libraries c.args.order.now c.if-order-libraries.false c.if-order-libraries-ne1.false (sym c.each_once.ensures ∙ c.if-not-each_once.true)
 
 pub returns : goal.returns
 returns c =
-    all_tested c.args.libraries c.args.order.now c.if-order-libraries.false c.if-order-libraries-ne1.false (sym c.each_once.ensures ∙ not-false _ c.if-not-each_once.false) c.only_libraries.ensures
+    all_tested c.args.libraries c.args.order.now c.if-order-libraries.false c.if-order-libraries-ne1.false (sym c.each_once.ensures ∙ c.if-not-each_once.false) c.only_libraries.ensures

@@ -17,7 +17,7 @@ load_next-p-requires c =
 pub returns-in-Refused : goal.returns-in-Refused
 returns-in-Refused c =
     let a = c.args in
-    load_fail (setting_at a.address) (inputs_in a.bytes.now a.parts) a.arena.now c.loop-k.arena c.loop-k.table c.loop-k.free c.loop-k.k c.loop-k.invariant.2 (omega (arith, c.loop-k.invariant.1)) c.load_next-p.new.0 c.load_next-p.result
+    load_fail (setting_at a.address) (inputs_in a.bytes.now a.parts) a.arena.now c.loop-k.arena c.loop-k.table c.loop-k.free c.loop-k.k c.loop-k.invariant.2 (omega (arith, c.loop-k.invariant.1)) c.load_next-p.new.arena c.load_next-p.result
     (rw c.file_of-file.ensures at c.load_next-p.ensures) _ c.in-Refused.is _
 
 pub overflow_add-free : goal.overflow_add-free
@@ -27,7 +27,7 @@ overflow_add-free c =
       arith,
       c.well-formed,
       c.loop-k.invariant.2.same,
-      load_fits (setting_at a.address) (inputs_in a.bytes.now a.parts) a.arena.now c.loop-k.arena c.loop-k.table c.loop-k.free c.loop-k.k c.loop-k.invariant.2 (omega (arith, c.loop-k.invariant.1)) c.load_next-p.new.0 c.load_next-p.result
+      load_fits (setting_at a.address) (inputs_in a.bytes.now a.parts) a.arena.now c.loop-k.arena c.loop-k.table c.loop-k.free c.loop-k.k c.loop-k.invariant.2 (omega (arith, c.loop-k.invariant.1)) c.load_next-p.new.arena c.load_next-p.result
           (rw c.file_of-file.ensures at c.load_next-p.ensures) c.in-At.s c.in-At.is,
     ) in
     record { fits = h }
@@ -40,10 +40,10 @@ pub loop-k-preserved : goal.loop-k-preserved
 loop-k-preserved c =
     let a = c.args in
     let room : 1024 ≤ length c.loop-k.table = omega (arith, c.requires.2, c.loop-k.invariant.0) in (
-      c.put_link.auto.0 ∙ c.loop-k.invariant.0,
+      c.put_link.auto.table ∙ c.loop-k.invariant.0,
       c.loop-k.invariant.1,
-      load_turn (setting_at a.address) (inputs_in a.bytes.now a.parts) a.arena.now c.loop-k.arena c.loop-k.table c.loop-k.free c.loop-k.k c.loop-k.invariant.2 (omega (arith, c.loop-k.invariant.1)) c.load_next-p.new.0 c.load_next-p.result
-          (rw c.file_of-file.ensures at c.load_next-p.ensures) c.in-At.s c.in-At.is c.load_next-p.auto.0 _
+      load_turn (setting_at a.address) (inputs_in a.bytes.now a.parts) a.arena.now c.loop-k.arena c.loop-k.table c.loop-k.free c.loop-k.k c.loop-k.invariant.2 (omega (arith, c.loop-k.invariant.1)) c.load_next-p.new.arena c.load_next-p.result
+          (rw c.file_of-file.ensures at c.load_next-p.ensures) c.in-At.s c.in-At.is c.load_next-p.auto.arena _
           (c.put_link.ensures.back.0 (omega (arith, c.requires.0, room))) c.put_link.ensures.back.1.0 (c.put_link.ensures.back.1.1 (omega (arith, c.requires.0, room))),
     )
 
@@ -52,7 +52,7 @@ overflow_sub-arena c = search (rules, c.loop-k.invariant.2.offset)
 
 pub shape_of-arena : goal.shape_of-arena
 shape_of-arena c =
-    c.zero.auto.0 ∙ c.loop-k.invariant.2.same
+    c.zero.auto.s ∙ c.loop-k.invariant.2.same
 
 pub shape_of-table : goal.shape_of-table
 shape_of-table c =

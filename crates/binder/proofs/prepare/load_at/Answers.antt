@@ -5,9 +5,9 @@ use Rattle.binder.proofs.prepare.load_at.Goals as goal
 pub returns-then-number-ne0 : goal.returns-then-number-ne0
 returns-then-number-ne0 c =
     let a = c.args in
-    (refusal_at a.host a.file.now a.off a.arena.now c.load-r.new.0 c.load-r.result c.load-r.ensures, c.if-number-ne0.true)
+    (refusal_at a.host a.file.now a.off a.arena.now c.load-r.new.part c.load-r.result c.load-r.ensures, c.if-number-ne0.true)
 
 pub returns : goal.returns
 returns c =
     let a = c.args in
-    linked_at a.host a.file.now a.off a.arena.now c.load-r.new.0 c.load-r.result c.load-r.ensures c.view_of-view.result c.requires.0 c.if-number-ne0.false c.view_of-view.ensures
+    linked_at a.host a.file.now a.off a.arena.now c.load-r.new.part c.load-r.result c.load-r.ensures c.view_of-view.result c.requires.0 c.if-number-ne0.false c.view_of-view.ensures

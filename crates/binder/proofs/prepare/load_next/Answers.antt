@@ -37,7 +37,7 @@ overflow_sub-off c =
 
 pub load_at-requires : goal.load_at-requires
 load_at-requires c =
-    (omega (arith, c.if-arena-off.false, c.zero.auto.0), c.check_headers-c.ensures, c.if-number-ne0.false)
+    (omega (arith, c.if-arena-off.false, c.zero.auto.s), c.check_headers-c.ensures, c.if-number-ne0.false)
 
 pub returns : goal.returns
 returns c =

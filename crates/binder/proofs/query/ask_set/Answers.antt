@@ -11,24 +11,24 @@ use Rattle.binder.proofs.query.ask_set.Goals as goal
 
 pub shape_of-arena-in-Refused : goal.shape_of-arena-in-Refused
 shape_of-arena-in-Refused c =
-    c.refuse.auto.1.1.0 ∙ c.prepare-m.auto.1.1.0
+    c.refuse.auto.arena ∙ c.prepare-m.auto.arena
 
 pub returns-in-Refused : goal.returns-in-Refused
 returns-in-Refused c =
     let a = c.args in
     c.refuse.ensures
-    ∙ (ap (λ (n : ℕ). replied (Refused c.in-Refused.number c.in-Refused.object) (replicate n 0)) c.prepare-m.auto.1.1.0
+    ∙ (ap (λ (n : ℕ). replied (Refused c.in-Refused.number c.in-Refused.object) (replicate n 0)) c.prepare-m.auto.arena
     ∙ sym (ask_refused (setting_at a.address) (inputs_in a.bytes.now a.parts) (length a.arena.now) a.requester a.name.now c.prepare-m.result c.prepare-m.ensures.met _ _ c.in-Refused.is))
 
 pub shape_of-arena-then-count-requester : goal.shape_of-arena-then-count-requester
 shape_of-arena-then-count-requester c =
-    c.refuse-then-count-requester.auto.1.1.0 ∙ c.prepare-m.auto.1.1.0
+    c.refuse-then-count-requester.auto.arena ∙ c.prepare-m.auto.arena
 
 pub returns-then-count-requester : goal.returns-then-count-requester
 returns-then-count-requester c =
     let a = c.args in
     c.refuse-then-count-requester.ensures
-    ∙ (ap (λ (n : ℕ). replied (Refused 13 0) (replicate n 0)) c.prepare-m.auto.1.1.0
+    ∙ (ap (λ (n : ℕ). replied (Refused 13 0) (replicate n 0)) c.prepare-m.auto.arena
     ∙ sym (ask_thirteen (setting_at a.address) (inputs_in a.bytes.now a.parts) (length a.arena.now) a.requester a.name.now c.prepare-m.result c.prepare-m.ensures.met c.in_default.is (omega (arith, c.requires.2, c.if-count-requester.true))))
 
 pub resolve-s-requires : goal.resolve-s-requires
@@ -38,11 +38,11 @@ resolve-s-requires c =
 
 pub shape_of-arena : goal.shape_of-arena
 shape_of-arena c =
-    c.prepare-m.auto.1.1.0
+    c.prepare-m.auto.arena
 
 pub returns : goal.returns
 returns c =
     let a = c.args in
-    asked (setting_at a.address) (inputs_in a.bytes.now a.parts) a.parts.count a.arena.now c.prepare-m.new.1.1.0 c.prepare-m.new.1.1.1.1.1.0 a.requester a.name.now
-    c.prepare-m.result c.requires.0 c.requires.2 c.prepare-m.ensures c.in_default.is (omega (arith, c.if-count-requester.false)) c.prepare-m.auto.1.1.0 c.reply_of.result
+    asked (setting_at a.address) (inputs_in a.bytes.now a.parts) a.parts.count a.arena.now c.prepare-m.new.arena c.prepare-m.new.table a.requester a.name.now
+    c.prepare-m.result c.requires.0 c.requires.2 c.prepare-m.ensures c.in_default.is (omega (arith, c.if-count-requester.false)) c.prepare-m.auto.arena c.reply_of.result
     (c.reply_of.ensures ∙ ap (λ (s : Resolved). reply_of (scoped_of s)) (rw c.gnu_hash-gnu.ensures at c.resolve-s.ensures))

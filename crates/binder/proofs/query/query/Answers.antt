@@ -7,7 +7,7 @@ use Rattle.binder.proofs.query.query.Goals as goal
 
 pub shape_of-arena-then-parts-lt2 : goal.shape_of-arena-then-parts-lt2
 shape_of-arena-then-parts-lt2 c =
-    c.refuse.auto.1.1.0
+    c.refuse.auto.arena
 
 pub returns-then-parts-lt2 : goal.returns-then-parts-lt2
 returns-then-parts-lt2 c =
@@ -21,7 +21,7 @@ ask_set-requires c =
 
 pub shape_of-arena : goal.shape_of-arena
 shape_of-arena c =
-    c.ask_set.auto.1.1.0
+    c.ask_set.auto.arena
 
 pub returns : goal.returns
 returns c =

@@ -7,7 +7,7 @@ use Rattle.binder.proofs.query_all.query_all.Goals as goal
 
 pub shape_of-arena-then-parts-lt2 : goal.shape_of-arena-then-parts-lt2
 shape_of-arena-then-parts-lt2 c =
-    c.refuse_all.auto.1.1.0
+    c.refuse_all.auto.arena
 
 pub returns-then-parts-lt2 : goal.returns-then-parts-lt2
 returns-then-parts-lt2 c =
@@ -21,7 +21,7 @@ ask_all_set-requires c =
 
 pub shape_of-arena : goal.shape_of-arena
 shape_of-arena c =
-    c.ask_all_set.auto.1.1.0
+    c.ask_all_set.auto.arena
 
 pub returns : goal.returns
 returns c =

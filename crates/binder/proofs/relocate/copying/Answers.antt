@@ -16,7 +16,7 @@ pub shape_of-arena-in_default-s : goal.shape_of-arena-in_default-s
 shape_of-arena-in_default-s c = refl
 
 pub shape_of-report-in_default-s : goal.shape_of-report-in_default-s
-shape_of-report-in_default-s c = c.unresolved.auto.0
+shape_of-report-in_default-s c = c.unresolved.auto.report
 
 pub returns-in_default-s : goal.returns-in_default-s
 returns-in_default-s c =
@@ -25,7 +25,7 @@ returns-in_default-s c =
     (copy_absent a.table.now a.t _ a.e a.i c.in-Checked.y a.p a.arena.now a.report.now c.in_default-s.is c.unresolved.ensures)
 
 pub shape_of-arena : goal.shape_of-arena
-shape_of-arena c = c.copy_found.auto.0
+shape_of-arena c = c.copy_found.auto.arena
 
 pub returns : goal.returns
 returns c =

@@ -10,7 +10,7 @@ returns-in-Ignored c =
 
 pub shape_of-report-in-Passed : goal.shape_of-report-in-Passed
 shape_of-report-in-Passed c =
-    c.note.auto.0
+    c.note.auto.report
 
 pub returns-in-Passed : goal.returns-in-Passed
 unfolding run_action
@@ -29,7 +29,7 @@ returns-in-Refused c =
 
 pub shape_of-arena-in-Relative : goal.shape_of-arena-in-Relative
 shape_of-arena-in-Relative c =
-    c.relative.auto.0
+    c.relative.auto.arena
 
 pub returns-in-Relative : goal.returns-in-Relative
 unfolding run_action
@@ -38,11 +38,11 @@ returns-in-Relative c =
 
 pub shape_of-arena-in-Symbolic : goal.shape_of-arena-in-Symbolic
 shape_of-arena-in-Symbolic c =
-    c.write_sought.auto.0
+    c.write_sought.auto.arena
 
 pub shape_of-report-in-Symbolic : goal.shape_of-report-in-Symbolic
 shape_of-report-in-Symbolic c =
-    c.write_sought.auto.1.0
+    c.write_sought.auto.report
 
 pub returns-in-Symbolic : goal.returns-in-Symbolic
 unfolding run_action
@@ -51,11 +51,11 @@ returns-in-Symbolic c =
 
 pub shape_of-arena-in-Copy : goal.shape_of-arena-in-Copy
 shape_of-arena-in-Copy c =
-    c.copying.auto.0
+    c.copying.auto.arena
 
 pub shape_of-report-in-Copy : goal.shape_of-report-in-Copy
 shape_of-report-in-Copy c =
-    c.copying.auto.1.0
+    c.copying.auto.report
 
 pub returns-in-Copy : goal.returns-in-Copy
 unfolding run_action

@@ -28,10 +28,10 @@ pub run_object-requires : goal.run_object-requires
 run_object-requires c = c.requires
 
 pub shape_of-arena : goal.shape_of-arena
-shape_of-arena c = c.run_object.auto.0
+shape_of-arena c = c.run_object.auto.arena
 
 pub shape_of-report : goal.shape_of-report
-shape_of-report c = c.run_object.auto.1.0
+shape_of-report c = c.run_object.auto.report
 
 pub returns : goal.returns
 returns c =

@@ -10,16 +10,16 @@ loop-i-init c =
     (refl, refl, omega (arith, c.requires), refl)
 
 pub shape_of-arena-then-p-ne0 : goal.shape_of-arena-then-p-ne0
-shape_of-arena-then-p-ne0 c = c.run_at-p.auto.0 ∙ c.loop-i.invariant.0
+shape_of-arena-then-p-ne0 c = c.run_at-p.auto.arena ∙ c.loop-i.invariant.0
 
 pub shape_of-report-then-p-ne0 : goal.shape_of-report-then-p-ne0
-shape_of-report-then-p-ne0 c = c.run_at-p.auto.1.0 ∙ c.loop-i.invariant.1
+shape_of-report-then-p-ne0 c = c.run_at-p.auto.report ∙ c.loop-i.invariant.1
 
 pub returns-then-p-ne0 : goal.returns-then-p-ne0
 returns-then-p-ne0 c =
     let a = c.args in
     let l = c.loop-i in
-    object_stops a.table.now (inputs_in a.bytes.now a.parts) a.order.list a.order.count l.i l.p l.arena l.report {b = c.run_at-p.new.0} {noted = c.run_at-p.new.1.0}
+    object_stops a.table.now (inputs_in a.bytes.now a.parts) a.order.list a.order.count l.i l.p l.arena l.report {b = c.run_at-p.new.arena} {noted = c.run_at-p.new.report}
     l.invariant.2 c.loop-i-test.true refl c.file_of-file.ensures c.run_at-p.ensures l.invariant.3 c.if-p-ne0.true
 
 pub loop-i-smaller : goal.loop-i-smaller
@@ -29,10 +29,10 @@ pub loop-i-preserved : goal.loop-i-preserved
 loop-i-preserved c =
     let a = c.args in
     let l = c.loop-i in (
-      omega (arith, c.run_at-p.auto.0, l.invariant.0),
-      omega (arith, c.run_at-p.auto.1.0, l.invariant.1),
+      omega (arith, c.run_at-p.auto.arena, l.invariant.0),
+      omega (arith, c.run_at-p.auto.report, l.invariant.1),
       l.invariant.2,
-      object_goes a.table.now (inputs_in a.bytes.now a.parts) a.order.list a.order.count l.i l.p l.arena l.report {b = c.run_at-p.new.0} {noted = c.run_at-p.new.1.0}
+      object_goes a.table.now (inputs_in a.bytes.now a.parts) a.order.list a.order.count l.i l.p l.arena l.report {b = c.run_at-p.new.arena} {noted = c.run_at-p.new.report}
           l.invariant.2 c.loop-i-test.true refl c.file_of-file.ensures c.run_at-p.ensures l.invariant.3 c.if-p-ne0.false,
     )
 

@@ -1,6 +1,5 @@
 -- `binder::relocate::run_relatives` meets its contract. Assumes nothing.
 use Rattle.std.proofs.Common.{refl, arith, rules}
-use borrow.Author.Tests.{not-false}
 use Rattle.binder.proofs.KeptLaws.{kept_none}
 use Rattle.binder.proofs.RelativeLaws.{relatives_passed}
 use Rattle.binder.proofs.relocate.run_relatives.Goals as goal
@@ -15,23 +14,23 @@ returns-then-not-applies_relative c =
 
 pub slice_bounds-relatives-count : goal.slice_bounds-relatives-count
 slice_bounds-relatives-count c =
-    let g = c.in_reach.ensures (not-false _ c.if-not-in_reach.false) in search (rules, g.span)
+    let g = c.in_reach.ensures (c.if-not-in_reach.false) in search (rules, g.span)
 
 pub slice_bounds-relatives-start : goal.slice_bounds-relatives-start
 slice_bounds-relatives-start c =
-    let g = c.in_reach.ensures (not-false _ c.if-not-in_reach.false) in search (rules, g.span)
+    let g = c.in_reach.ensures (c.if-not-in_reach.false) in search (rules, g.span)
 
 pub relatives-requires : goal.relatives-requires
 relatives-requires c =
-    let g = c.in_reach.ensures (not-false _ c.if-not-in_reach.false) in search (rules, c.requires, g.entries, g.span, g.word, g.inside)
+    let g = c.in_reach.ensures (c.if-not-in_reach.false) in search (rules, c.requires, g.entries, g.span, g.word, g.inside)
 
 pub returns : goal.returns
 returns c =
     let a = c.args in
     let s = c.relatives in
-    let g = c.in_reach.ensures (not-false _ c.if-not-in_reach.false) in (
+    let g = c.in_reach.ensures (c.if-not-in_reach.false) in (
       s.ensures.0,
       s.ensures.1,
-      relatives_passed a.table.now (c.applies_relative.ensures (not-false _ c.if-not-applies_relative.false)) a.t a.at a.n a.low a.high g.entries
+      relatives_passed a.table.now (c.applies_relative.ensures (c.if-not-applies_relative.false)) a.t a.at a.n a.low a.high g.entries
           a.start s.result a.arena.now s.new.0 s.ensures.0 s.ensures.1 (omega (arith, g.span)) s.ensures.2,
     )

@@ -35,7 +35,7 @@ pub symbolics-r-requires : goal.symbolics-r-requires
 symbolics-r-requires c = (c.run_relatives.ensures.1, c.requires)
 
 pub shape_of-arena-then-n-j : goal.shape_of-arena-then-n-j
-shape_of-arena-then-n-j c = c.symbolics-r.auto.0 ∙ (c.run_relatives.auto.0 ∙ c.loop-i.invariant.0)
+shape_of-arena-then-n-j c = c.symbolics-r.auto.arena ∙ (c.run_relatives.auto.arena ∙ c.loop-i.invariant.0)
 
 pub shape_of-report-then-n-j : goal.shape_of-report-then-n-j
 shape_of-report-then-n-j c = c.loop-i.invariant.1
@@ -49,10 +49,10 @@ pub run_action-q-requires : goal.run_action-q-requires
 run_action-q-requires c = c.requires
 
 pub shape_of-arena-then-q-ne0 : goal.shape_of-arena-then-q-ne0
-shape_of-arena-then-q-ne0 c = c.run_action-q.auto.0 ∙ (c.symbolics-r.auto.0 ∙ (c.run_relatives.auto.0 ∙ c.loop-i.invariant.0))
+shape_of-arena-then-q-ne0 c = c.run_action-q.auto.arena ∙ (c.symbolics-r.auto.arena ∙ (c.run_relatives.auto.arena ∙ c.loop-i.invariant.0))
 
 pub shape_of-report-then-q-ne0 : goal.shape_of-report-then-q-ne0
-shape_of-report-then-q-ne0 c = c.run_action-q.auto.1.0 ∙ c.loop-i.invariant.1
+shape_of-report-then-q-ne0 c = c.run_action-q.auto.report ∙ c.loop-i.invariant.1
 
 pub returns-then-q-ne0 : goal.returns-then-q-ne0
 returns-then-q-ne0 c =

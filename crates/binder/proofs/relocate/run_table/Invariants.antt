@@ -4,7 +4,6 @@ use Rattle.object.specs.Record.{held_by}
 use Rattle.object.specs.Steps.WritableRange.{WritableRange}
 use Rattle.binder.specs.Steps.RunSteps.{SymbolsOf}
 use Rattle.binder.specs.Steps.Relocating.{left, run_table}
-use Rattle.binder.proofs.SymbolicLaws.{runs_passed}
 use Rattle.binder.proofs.RunLaws.{entries_left}
 use Rattle.binder.proofs.relocate.run_table.Given as goal
 

@@ -5,7 +5,7 @@ use Rattle.binder.proofs.relocate.run_until.Goals as goal
 
 pub shape_of-arena-then-number-ne0 : goal.shape_of-arena-then-number-ne0
 shape_of-arena-then-number-ne0 c =
-    c.run_relrs-number.auto.0
+    c.run_relrs-number.auto.arena
 
 pub returns-then-number-ne0 : goal.returns-then-number-ne0
 returns-then-number-ne0 c =
@@ -18,11 +18,11 @@ run_table-q-requires c =
 
 pub shape_of-arena-then-q-ne0 : goal.shape_of-arena-then-q-ne0
 shape_of-arena-then-q-ne0 c =
-    c.run_table-q.auto.0 ∙ c.run_relrs-number.auto.0
+    c.run_table-q.auto.arena ∙ c.run_relrs-number.auto.arena
 
 pub shape_of-report-then-q-ne0 : goal.shape_of-report-then-q-ne0
 shape_of-report-then-q-ne0 c =
-    c.run_table-q.auto.1.0
+    c.run_table-q.auto.report
 
 pub returns-then-q-ne0 : goal.returns-then-q-ne0
 returns-then-q-ne0 c =
@@ -35,11 +35,11 @@ run_table-requires c =
 
 pub shape_of-arena : goal.shape_of-arena
 shape_of-arena c =
-    c.run_table.auto.0 ∙ (c.run_table-q.auto.0 ∙ c.run_relrs-number.auto.0)
+    c.run_table.auto.arena ∙ (c.run_table-q.auto.arena ∙ c.run_relrs-number.auto.arena)
 
 pub shape_of-report : goal.shape_of-report
 shape_of-report c =
-    c.run_table.auto.1.0 ∙ c.run_table-q.auto.1.0
+    c.run_table.auto.report ∙ c.run_table-q.auto.report
 
 pub returns : goal.returns
 returns c =

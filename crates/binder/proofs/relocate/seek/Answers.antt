@@ -2,7 +2,6 @@
 use Rattle.binder.proofs.RunLaws.{sought_refused, sought_outside, sought_zero, sought_kept, sought_new}
 use Rattle.object.specs.Steps.Actions.{field_by, searched_by}
 use Rattle.object.specs.Record.{held_by}
-use borrow.Author.Tests.{not-true, not-false}
 use Rattle.binder.proofs.relocate.seek.Goals as goal
 
 pub returns-in_default : goal.returns-in_default
@@ -13,24 +12,24 @@ returns-in_default c =
 pub returns-then-not-in_writable : goal.returns-then-not-in_writable
 returns-then-not-in_writable c =
     let a = c.args in
-    sought_outside a.table.now a.t (held_by a.o) a.e (searched_by a.f) (field_by a.f) a.p a.arena.now c.symbol_of-c.ensures c.in-Checked.is c.bounds_of-b.ensures.segments c.width_of.ensures c.in_writable.ensures (not-true _ c.if-not-in_writable.true)
+    sought_outside a.table.now a.t (held_by a.o) a.e (searched_by a.f) (field_by a.f) a.p a.arena.now c.symbol_of-c.ensures c.in-Checked.is c.bounds_of-b.ensures.segments c.width_of.ensures c.in_writable.ensures (c.if-not-in_writable.true)
 
 pub returns-then-not-searches : goal.returns-then-not-searches
 returns-then-not-searches c =
     let a = c.args in
-    sought_zero a.table.now a.t (held_by a.o) a.e (searched_by a.f) (field_by a.f) a.p a.arena.now c.symbol_of-c.ensures c.in-Checked.is c.bounds_of-b.ensures.segments c.width_of.ensures c.in_writable.ensures (not-false _ c.if-not-in_writable.false) c.searches.ensures (not-true _ c.if-not-searches.true)
+    sought_zero a.table.now a.t (held_by a.o) a.e (searched_by a.f) (field_by a.f) a.p a.arena.now c.symbol_of-c.ensures c.in-Checked.is c.bounds_of-b.ensures.segments c.width_of.ensures c.in_writable.ensures (c.if-not-in_writable.false) c.searches.ensures (c.if-not-searches.true)
 
 pub returns-then-p-e : goal.returns-then-p-e
 returns-then-p-e c =
     let a = c.args in
-    sought_kept a.table.now a.t (held_by a.o) a.e (searched_by a.f) (field_by a.f) a.p a.arena.now c.symbol_of-c.ensures c.in-Checked.is c.bounds_of-b.ensures.segments c.width_of.ensures c.in_writable.ensures (not-false _ c.if-not-in_writable.false) c.searches.ensures (not-false _ c.if-not-searches.false) c.if-p-e.true
+    sought_kept a.table.now a.t (held_by a.o) a.e (searched_by a.f) (field_by a.f) a.p a.arena.now c.symbol_of-c.ensures c.in-Checked.is c.bounds_of-b.ensures.segments c.width_of.ensures c.in_writable.ensures (c.if-not-in_writable.false) c.searches.ensures (c.if-not-searches.false) c.if-p-e.true
 
 pub returns-in_default-s : goal.returns-in_default-s
 returns-in_default-s c =
     let a = c.args in
-    sought_new a.table.now a.t (held_by a.o) a.e (searched_by a.f) (field_by a.f) a.p a.arena.now c.symbol_of-c.ensures c.in-Checked.is c.bounds_of-b.ensures.segments c.width_of.ensures c.in_writable.ensures (not-false _ c.if-not-in_writable.false) c.searches.ensures (not-false _ c.if-not-searches.false) c.if-p-e.false c.search-s.ensures (rw c.in_default-s.is)
+    sought_new a.table.now a.t (held_by a.o) a.e (searched_by a.f) (field_by a.f) a.p a.arena.now c.symbol_of-c.ensures c.in-Checked.is c.bounds_of-b.ensures.segments c.width_of.ensures c.in_writable.ensures (c.if-not-in_writable.false) c.searches.ensures (c.if-not-searches.false) c.if-p-e.false c.search-s.ensures (rw c.in_default-s.is)
 
 pub returns : goal.returns
 returns c =
     let a = c.args in
-    sought_new a.table.now a.t (held_by a.o) a.e (searched_by a.f) (field_by a.f) a.p a.arena.now c.symbol_of-c.ensures c.in-Checked.is c.bounds_of-b.ensures.segments c.width_of.ensures c.in_writable.ensures (not-false _ c.if-not-in_writable.false) c.searches.ensures (not-false _ c.if-not-searches.false) c.if-p-e.false c.search-s.ensures (rw c.in-Found.is)
+    sought_new a.table.now a.t (held_by a.o) a.e (searched_by a.f) (field_by a.f) a.p a.arena.now c.symbol_of-c.ensures c.in-Checked.is c.bounds_of-b.ensures.segments c.width_of.ensures c.in_writable.ensures (c.if-not-in_writable.false) c.searches.ensures (c.if-not-searches.false) c.if-p-e.false c.search-s.ensures (rw c.in-Found.is)

@@ -1,7 +1,6 @@
 -- `binder::relocate::symbol_entry` meets its contract. Assumes nothing.
 use Rattle.std.proofs.Common.{sym, ap, ◌∙◌, arith}
 use Rattle.object.specs.Steps.Actions.{row_by}
-use borrow.Author.Tests.{not-false}
 use Rattle.binder.proofs.relocate.symbol_entry.Goals as goal
 
 pub returns : goal.returns
@@ -9,7 +8,7 @@ returns c =
     record {
       acts = rw (← c.u32_in.ensures) (sym c.action_at-a.ensures ∙ ap row_by c.in-Symbolic.is);
       wide = sym c.width_of.ensures ∙ c.if-width_of-ne8.false;
-      searched = sym c.searches.ensures ∙ not-false _ c.if-not-searches.false;
+      searched = sym c.searches.ensures ∙ c.if-not-searches.false;
       addend_is = c.u64_in.ensures;
       place_is = c.u64_in-place.ensures;
       above = omega (arith, c.if-place-low.false);

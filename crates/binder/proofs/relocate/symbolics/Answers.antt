@@ -1,5 +1,4 @@
 use Rattle.std.proofs.Common.{◌≡◌, ◌+◌, ◌-◌, ◌*◌, ◌≤◌, sym, refl, ◌∙◌, subst, arith, rules}
-use borrow.Author.Tests.{not-false}
 use Rattle.binder.specs.Steps.RunSteps.{EntryRead}
 use Rattle.binder.proofs.KeptLaws.{kept_none}
 use Rattle.binder.proofs.SymbolicLaws.{symbolic_turn}
@@ -29,19 +28,19 @@ returns-then-not-symbols_in c =
 
 pub overflow_add-k : goal.overflow_add-k
 overflow_add-k c =
-    let g = c.in_reach.ensures (not-false _ c.if-not-in_reach.false) in search (rules, g.span, g.entries)
+    let g = c.in_reach.ensures (c.if-not-in_reach.false) in search (rules, g.span, g.entries)
 
 pub overflow_mul-k : goal.overflow_mul-k
 overflow_mul-k c =
-    let g = c.in_reach.ensures (not-false _ c.if-not-in_reach.false) in search (rules, g.span, g.entries)
+    let g = c.in_reach.ensures (c.if-not-in_reach.false) in search (rules, g.span, g.entries)
 
 pub overflow_add-k-2 : goal.overflow_add-k-2
 overflow_add-k-2 c =
-    let g = c.in_reach.ensures (not-false _ c.if-not-in_reach.false) in search (rules, g.span, g.entries, c.requires.0)
+    let g = c.in_reach.ensures (c.if-not-in_reach.false) in search (rules, g.span, g.entries, c.requires.0)
 
 pub loop-p-init : goal.loop-p-init
 loop-p-init c =
-    let g = c.in_reach.ensures (not-false _ c.if-not-in_reach.false) in (refl, omega arith, c.requires.0, refl, g, c.symbols_in.ensures (not-false _ c.if-not-symbols_in.false), λ r _ _ _ _ _ _. (refl, kept_none _ r _))
+    let g = c.in_reach.ensures (c.if-not-in_reach.false) in (refl, omega arith, c.requires.0, refl, g, c.symbols_in.ensures (c.if-not-symbols_in.false), λ r _ _ _ _ _ _. (refl, kept_none _ r _))
 
 pub symbol_entry-e-requires : goal.symbol_entry-e-requires
 symbol_entry-e-requires c =

@@ -1,7 +1,6 @@
 -- `binder::relocate::symbolics` meets its contract. Assumes nothing.
-use Rattle.std.proofs.Common.{◌≡◌, ◌+◌, ◌-◌, ◌*◌, ◌≤◌, length, ◌∙◌, subst}
-use Rattle.binder.specs.Steps.RunSteps.{InReach, EntryRead, SymbolsPassed}
-use Rattle.binder.specs.Steps.RunSteps.{EntryHere}
+use Rattle.std.proofs.Common.{◌≡◌, ◌+◌, ◌-◌, ◌*◌, ◌≤◌, length, ◌∙◌}
+use Rattle.binder.specs.Steps.RunSteps.{InReach, SymbolsPassed}
 use Rattle.binder.proofs.relocate.symbolics.Given as goal
 
 abbrev pub invariant-loop-p : goal.invariant-loop-p

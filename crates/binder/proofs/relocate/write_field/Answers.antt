@@ -4,7 +4,6 @@ use Rattle.binder.specs.Steps.Relocating.{field_of}
 use Rattle.object.specs.declared.relocate.Field.TheVariants.{Address, Direct64, Pc64, Pc32, Direct32, Direct32S}
 use Rattle.object.specs.declared.relocate.Field.{Field}
 use Rattle.object.specs.Steps.Actions.{field_by}
-use borrow.Author.Tests.{not-true, not-false}
 use Rattle.binder.proofs.relocate.write_field.Goals as goal
 
 -- a field has eight bytes, or four
@@ -19,22 +18,22 @@ half_width Direct32S ne = refl
 pub returns-then-not-fits : goal.returns-then-not-fits
 unfolding field_of
 returns-then-not-fits c =
-    rw (← c.value_of-v.ensures, ← c.fits2.ensures, not-true c.fits2.result c.if-not-fits.true, c.refused.ensures)
+    rw (← c.value_of-v.ensures, ← c.fits2.ensures, c.if-not-fits.true, c.refused.ensures)
 
 pub shape_of-arena-then-width_of-eq8 : goal.shape_of-arena-then-width_of-eq8
 shape_of-arena-then-width_of-eq8 c =
-    c.write_word.auto.0
+    c.write_word.auto.arena
 
 pub returns-then-width_of-eq8 : goal.returns-then-width_of-eq8
 unfolding field_of
 returns-then-width_of-eq8 c =
-    rw (← c.value_of-v.ensures, ← c.fits2.ensures, not-false c.fits2.result c.if-not-fits.false, ← c.width_of.ensures, c.if-width_of-eq8.true, c.write_word.ensures)
+    rw (← c.value_of-v.ensures, ← c.fits2.ensures, c.if-not-fits.false, ← c.width_of.ensures, c.if-width_of-eq8.true, c.write_word.ensures)
 
 pub shape_of-arena : goal.shape_of-arena
 shape_of-arena c =
-    c.write_half.auto.0
+    c.write_half.auto.arena
 
 pub returns : goal.returns
 unfolding field_of
 returns c =
-    rw (← c.value_of-v.ensures, ← c.fits2.ensures, not-false c.fits2.result c.if-not-fits.false, half_width _ (λ e. c.if-width_of-eq8.false (c.width_of.ensures ∙ e)), c.write_half.ensures)
+    rw (← c.value_of-v.ensures, ← c.fits2.ensures, c.if-not-fits.false, half_width _ (λ e. c.if-width_of-eq8.false (c.width_of.ensures ∙ e)), c.write_half.ensures)

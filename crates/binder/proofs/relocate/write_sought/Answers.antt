@@ -10,7 +10,7 @@ returns-in-Stopped c =
 
 pub shape_of-arena-in-Known : goal.shape_of-arena-in-Known
 shape_of-arena-in-Known c =
-    c.write_field.auto.0
+    c.write_field.auto.arena
 
 pub returns-in-Known : goal.returns-in-Known
 unfolding write_sought
@@ -19,7 +19,7 @@ returns-in-Known c =
 
 pub shape_of-arena-in-Searched : goal.shape_of-arena-in-Searched
 shape_of-arena-in-Searched c =
-    c.write_field-in-Searched.auto.0
+    c.write_field-in-Searched.auto.arena
 
 pub returns-in-Searched : goal.returns-in-Searched
 unfolding write_sought
@@ -28,11 +28,11 @@ returns-in-Searched c =
 
 pub shape_of-arena-in-Missing : goal.shape_of-arena-in-Missing
 shape_of-arena-in-Missing c =
-    c.write_field-in-Missing.auto.0
+    c.write_field-in-Missing.auto.arena
 
 pub shape_of-report : goal.shape_of-report
 shape_of-report c =
-    c.unresolved-q.auto.0
+    c.unresolved-q.auto.report
 
 pub returns-in-Missing : goal.returns-in-Missing
 unfolding write_sought

@@ -1,5 +1,5 @@
 use Rattle.std.proofs.Common.{◌≡◌, ◌+◌, ◌-◌, ◌*◌, ◌/◌, ◌%◌, ◌<◌, ◌≤◌, true, length, take, sym, refl, ap, ◌∙◌, ⊎_elim, arith}
-use borrow.Author.Tests.{not-true, not-false}
+use borrow.Author.Tests.{not-false}
 use Rattle.object.specs.TableBytes.{in_writable}
 use Rattle.binder.specs.Steps.Relocating.{add_bits}
 use Rattle.binder.proofs.BitLaws.{bit_0, bit_1, refused, none}
@@ -15,7 +15,7 @@ pub returns-then-not-in_writable : goal.returns-then-not-in_writable
 returns-then-not-in_writable c =
     let a = c.args in
     let l = c.loop-n in
-    sym (refused a.base (take a.b.count a.b.segments) l.n l.p l.left l.part (omega arith) c.if-left-eq1.true (sym c.in_writable.ensures ∙ not-true _ c.if-not-in_writable.true))
+    sym (refused a.base (take a.b.count a.b.segments) l.n l.p l.left l.part (omega arith) c.if-left-eq1.true (sym c.in_writable.ensures ∙ c.if-not-in_writable.true))
     ∙ l.invariant.3
 
 pub loop-n-preserved : goal.loop-n-preserved

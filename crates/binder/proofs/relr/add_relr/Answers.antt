@@ -1,6 +1,5 @@
 -- `binder::relr::add_relr` meets its contract. Assumes nothing.
 use Rattle.std.proofs.Common.{◌≡◌, ℕ, ◌+◌, min, true, false, List, take, sym, refl, ◌∙◌}
-use borrow.Author.Tests.{not-true, not-false}
 use Rattle.object.specs.TableBytes.{in_writable}
 use Rattle.object.specs.declared.program_header.Segment.{Segment}
 use Rattle.object.specs.declared.relocate.Relr.{Relr}
@@ -32,19 +31,19 @@ pub returns-then-not-in_writable : goal.returns-then-not-in_writable
 returns-then-not-in_writable c =
     let a = c.args in
     address_refused a.base (take a.b.count a.b.segments) a.location a.e c.in-Address.p a.part.now c.in-Address.is
-    (sym c.in_writable.ensures ∙ not-true _ c.if-not-in_writable.true)
+    (sym c.in_writable.ensures ∙ c.if-not-in_writable.true)
 
 pub shape_of-part-else-not-in_writable : goal.shape_of-part-else-not-in_writable
-shape_of-part-else-not-in_writable c = c.add_word.auto.0
+shape_of-part-else-not-in_writable c = c.add_word.auto.part
 
 pub returns-else-not-in_writable : goal.returns-else-not-in_writable
 returns-else-not-in_writable c =
     let a = c.args in
     address_added a.base (take a.b.count a.b.segments) a.location a.e c.in-Address.p a.part.now c.in-Address.is
-    (sym c.in_writable.ensures ∙ not-false _ c.if-not-in_writable.false) c.place.ensures c.add_word.ensures
+    (sym c.in_writable.ensures ∙ c.if-not-in_writable.false) c.place.ensures c.add_word.ensures
 
 pub shape_of-part-in-Bitmap : goal.shape_of-part-in-Bitmap
-shape_of-part-in-Bitmap c = c.add_bitmap-number.auto.0
+shape_of-part-in-Bitmap c = c.add_bitmap-number.auto.part
 
 pub returns-in-Bitmap : goal.returns-in-Bitmap
 returns-in-Bitmap c =

@@ -50,7 +50,7 @@ pub loop-i-init : goal.loop-i-init
 loop-i-init c = (refl, omega arith, omega arith, λ r e f. simp unary_clauses refl)
 
 pub shape_of-part-then-number-ne0 : goal.shape_of-part-then-number-ne0
-shape_of-part-then-number-ne0 c = c.add_relr-m.auto.0 ∙ c.loop-i.invariant.0
+shape_of-part-then-number-ne0 c = c.add_relr-m.auto.part ∙ c.loop-i.invariant.0
 
 pub returns-then-number-ne0 : goal.returns-then-number-ne0
 returns-then-number-ne0 c =

@@ -3,7 +3,7 @@ use Rattle.binder.specs.Steps.Relocating.{word_added}
 use Rattle.binder.proofs.relr.add_word.Goals as goal
 
 pub shape_of-part : goal.shape_of-part
-shape_of-part c = c.store_u64.auto.0
+shape_of-part c = c.store_u64.auto.s
 
 pub returns : goal.returns
 unfolding word_added

@@ -9,7 +9,7 @@ returns-then-binding-eq2 c =
     rw (← c.binding.ensures, eq-eqb _ _ c.if-binding-eq2.true)
 
 pub shape_of-report : goal.shape_of-report
-shape_of-report c = c.note-q.auto.0
+shape_of-report c = c.note-q.auto.report
 
 pub returns : goal.returns
 unfolding unresolved_of

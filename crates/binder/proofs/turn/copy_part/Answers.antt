@@ -33,7 +33,7 @@ unfolding mem
 loop-i-preserved c =
     let a = c.args in
     let l = c.loop-i in (
-      c.write_byte.auto.0 ∙ l.invariant.0,
+      c.write_byte.auto.arena ∙ l.invariant.0,
       omega arith,
       turn a.arena.now a.off a.to a.start a.n l.i c.requires (omega arith) l.invariant.2 c.write_byte.ensures,
     )

@@ -1,9 +1,6 @@
 -- `binder::turn::copy_part` meets its contract: the bytes that are read are not among those that are written. Assumes nothing.
-use Rattle.std.proofs.Common.{◌≡◌, ℕ, ◌+◌, ◌-◌, ◌<◌, ◌≤◌, ◌⊎◌, List, length, set, ap, ◌∙◌, inl, inr, arith}
+use Rattle.std.proofs.Common.{◌≡◌, ◌+◌, ◌-◌, ◌<◌, ◌≤◌, ◌⊎◌, length, ◌∙◌}
 use Rattle.words.specs.Memory.{mem, from, patch}
-use Rattle.words.proofs.Memory.{Out, write_out}
-use Rattle.words.proofs.Slices.{mem_patch, patch_next}
-use Rattle.binder.specs.Steps.Relocating.{CopyApart}
 use Rattle.binder.proofs.turn.copy_part.Given as goal
 
 abbrev pub invariant-loop-i : goal.invariant-loop-i

@@ -1,5 +1,4 @@
 use Rattle.std.proofs.Common.{◌≡◌, ◌+◌, ◌-◌, ◌≤◌, sym, refl, ◌∙◌, arith, rules}
-use borrow.Author.Tests.{not-true, not-false}
 use Rattle.binder.proofs.TypeWords.{words_count, words_turn, words_stop, words_end}
 use Rattle.binder.proofs.types.types_ok.Goals as goal
 
@@ -17,11 +16,11 @@ bounds-types-i c =
 
 pub returns-then-not-word_ok : goal.returns-then-not-word_ok
 returns-then-not-word_ok c =
-    words_stop c.args.types.now c.loop-i.invariant.1 c.loop-i.i (omega arith) c.loop-i.invariant.2 (sym c.word_ok.ensures ∙ not-true _ c.if-not-word_ok.true)
+    words_stop c.args.types.now c.loop-i.invariant.1 c.loop-i.i (omega arith) c.loop-i.invariant.2 (sym c.word_ok.ensures ∙ c.if-not-word_ok.true)
 
 pub loop-i-preserved : goal.loop-i-preserved
 loop-i-preserved c =
-    (omega arith, c.loop-i.invariant.1, words_turn c.args.types.now c.loop-i.invariant.1 c.loop-i.i (omega arith) c.loop-i.invariant.2 (sym c.word_ok.ensures ∙ not-false _ c.if-not-word_ok.false))
+    (omega arith, c.loop-i.invariant.1, words_turn c.args.types.now c.loop-i.invariant.1 c.loop-i.i (omega arith) c.loop-i.invariant.2 (sym c.word_ok.ensures ∙ c.if-not-word_ok.false))
 
 pub returns : goal.returns
 returns c =

@@ -8,25 +8,24 @@ use Rattle.object.proofs.AlignLaws.{align_least, align_turn, align_end}
 use Rattle.words.proofs.Slices.{length_mapped}
 use Rattle.object.proofs.alignment.align_of.Goals as goal
 
-whole : (c : tie.Start invariant-loop decreases-loop) → length c.args.t1.list ≡ 16
-whole c = search (rules, length_mapped)
-
 pub loop-i-init : goal.loop-i-init
 loop-i-init c =
     (omega arith, omega arith, omega (arith, align_least (segments_in c.args.l)))
 
 pub bounds-l-i : goal.bounds-l-i
 bounds-l-i c =
-    omega (arith, whole c)
+    let whole : length c.args.l.list ≡ 16 = search (rules, length_mapped) in
+    omega (arith, whole)
 
 pub loop-i-preserved : goal.loop-i-preserved
 loop-i-preserved c =
+    let whole : length c.args.l.list ≡ 16 = search (rules, length_mapped) in
     let a = c.args in
-    let e = align_turn a.t1.list a.t1.count c.loop-i.i no_segment c.loop-i-test.true (omega (arith, whole c)) in
+    let e = align_turn a.l.list a.l.count c.loop-i.i no_segment c.loop-i-test.true (omega (arith, whole)) in
     (omega arith, omega (arith, c.larger-align.ensures, c.loop-i.invariant.1), omega (arith, c.larger-align.ensures, e, c.loop-i.invariant.2))
 
 pub returns : goal.returns
 returns c =
     let a = c.args in
-    let e = align_end a.t1.list a.t1.count c.loop-i.i c.loop-i-test.false in
+    let e = align_end a.l.list a.l.count c.loop-i.i c.loop-i-test.false in
     omega (arith, e, c.loop-i.invariant.1, c.loop-i.invariant.2)

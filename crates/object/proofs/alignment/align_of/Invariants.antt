@@ -2,11 +2,9 @@
 -- all. Assumes nothing.
 use mathlib.Core.Path.{◌≡◌}
 use Prim.Native.Nat.{◌-◌, ◌≤◌, max}
-use borrow.Author.Rules.{rules}
-use lib.ListN.{length, drop}
+use lib.ListN.{drop}
 use Rattle.object.specs.Steps.LoadTable.{segments_in}
 use Rattle.object.specs.Alignment.{align_of}
-use Rattle.words.proofs.Slices.{length_mapped}
 use Rattle.object.proofs.alignment.align_of.Given as goal
 
 abbrev pub invariant-loop-i : goal.invariant-loop-i

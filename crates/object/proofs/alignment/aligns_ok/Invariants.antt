@@ -2,12 +2,10 @@
 -- nothing.
 use mathlib.Core.Path.{◌≡◌, ◌∙◌}
 use Prim.Native.Nat.{◌-◌, ◌≤◌}
-use borrow.Author.Rules.{rules}
-use lib.ListN.{length, drop}
+use lib.ListN.{drop}
 use Rattle.words.specs.Choice.{every}
 use Rattle.object.specs.Steps.LoadTable.{segments_in}
 use Rattle.object.specs.Alignment.{align_ok}
-use Rattle.words.proofs.Slices.{length_mapped}
 use Rattle.object.proofs.alignment.aligns_ok.Given as goal
 
 abbrev pub invariant-loop-i : goal.invariant-loop-i

@@ -2,20 +2,12 @@ use Prim.Native.Nat.{◌+◌, ◌^◌, ◌≤◌}
 use Rattle.object.proofs.FineLaws.{at_once}
 use Rattle.object.proofs.MarkLaws.{marked_use, passes_last, walk_start, walk_fails, walk_cut, walk_turn}
 use Rattle.object.specs.Steps.Marks.{Passes, step_in}
-use borrow.Author.Tests.{not-true, not-false}
+use borrow.Author.Tests.{not-false}
 use mathlib.Core.Bool.{true}
 use mathlib.Core.Logic.{⊎_elim}
 use mathlib.Core.Path.{◌≡◌, sym, ◌∙◌}
 use native.Mathlib.Omega.{arith}
 use Rattle.object.proofs.check.follow.Goals as goal
-
-passes_here : (c : tie.Joined2 invariant-loop decreases-loop) → step_in c.before.before.before.before.before.before.before.before.args.b c.before.before.before.before.before.before.before.before.args.image.now c.before.before.before.before.before.before.before.before.args.v c.before.before.before.before.before.loop.s ≡ true
-passes_here c =
-    let a = c.before.before.before.before.before.before.before.before.args in
-    ⊎_elim
-    (λ w. sym w.1.ensures ∙ not-false _ w.2.left)
-    (λ w. at_once a.b a.image.now a.v a.q c.before.before.before.before.before.loop.s c.before.before.before.before.before.before.before.before.requires.2 (c.before.passes-at-once.ensures (not-false _ w.left)))
-    c.if2.branch
 
 pub loop-left-init : goal.loop-left-init
 loop-left-init c =
@@ -38,19 +30,29 @@ pub returns-then-not-passes : goal.returns-then-not-passes
 returns-then-not-passes c =
     let a = c.args in
     let l = c.loop-left in
-    walk_fails a.image.now a.v.table (step_in a.b a.image.now a.v) a.word l.s l.left l.invariant.2 c.loop-left-test.true (sym c.passes.ensures ∙ not-true _ c.if-not-passes.true)
+    walk_fails a.image.now a.v.table (step_in a.b a.image.now a.v) a.word l.s l.left l.invariant.2 c.loop-left-test.true (sym c.passes.ensures ∙ c.if-not-passes.true)
 
 pub returns-then-is_last : goal.returns-then-is_last
 returns-then-is_last c =
+    let passes_here : step_in c.args.b c.args.image.now c.args.v c.loop-left.s ≡ true = let a = c.args in
+    ⊎_elim
+    (λ w. sym w.1.ensures ∙ not-false _ w.2.left)
+    (λ w. at_once a.b a.image.now a.v a.q c.loop-left.s c.requires.2 (c.passes_at_once.ensures (not-false _ w.left)))
+    c.if-not-passes_at_once.branch in
     let a = c.args in
     let l = c.loop-left in
-    l.invariant.2.on (passes_last a.image.now a.v.table (step_in a.b a.image.now a.v) l.s c.chain_word-w.result c.chain_word-w.ensures (passes_here c) (sym c.is_last.ensures ∙ c.if-is_last.true))
+    l.invariant.2.on (passes_last a.image.now a.v.table (step_in a.b a.image.now a.v) l.s c.chain_word-w.result c.chain_word-w.ensures passes_here (sym c.is_last.ensures ∙ c.if-is_last.true))
 
 pub loop-left-preserved : goal.loop-left-preserved
 loop-left-preserved c =
+    let passes_here : step_in c.args.b c.args.image.now c.args.v c.loop-left.s ≡ true = let a = c.args in
+    ⊎_elim
+    (λ w. sym w.1.ensures ∙ not-false _ w.2.left)
+    (λ w. at_once a.b a.image.now a.v a.q c.loop-left.s c.requires.2 (c.passes_at_once.ensures (not-false _ w.left)))
+    c.if-not-passes_at_once.branch in
     let a = c.args in
     let l = c.loop-left in
-    (omega arith, omega arith, walk_turn a.image.now a.v.table (step_in a.b a.image.now a.v) a.word l.s l.left l.invariant.2 c.chain_word-w.result c.next_symbol-s.result c.loop-left-test.true c.chain_word-w.ensures (passes_here c) (sym c.is_last.ensures ∙ c.if-is_last.false) c.next_symbol-s.ensures.0)
+    (omega arith, omega arith, walk_turn a.image.now a.v.table (step_in a.b a.image.now a.v) a.word l.s l.left l.invariant.2 c.chain_word-w.result c.next_symbol-s.result c.loop-left-test.true c.chain_word-w.ensures passes_here (sym c.is_last.ensures ∙ c.if-is_last.false) c.next_symbol-s.ensures.0)
 
 pub returns : goal.returns
 returns c =

@@ -1,12 +1,8 @@
 -- `object::check::follow` meets its contract. The invariant: what is left of the walk decides, and if it passes the walk from `word` does. Assumes nothing.
 use Prim.Native.Nat.{◌+◌, ◌^◌, ◌≤◌}
-use Rattle.object.proofs.FineLaws.{at_once}
 use Rattle.object.proofs.MarkLaws.{WalkAt}
 use Rattle.object.specs.Steps.Marks.{step_in}
-use borrow.Author.Tests.{not-false}
-use mathlib.Core.Bool.{true}
-use mathlib.Core.Logic.{⊎_elim}
-use mathlib.Core.Path.{◌≡◌, sym, ◌∙◌}
+use mathlib.Core.Path.{◌≡◌, ◌∙◌}
 use Rattle.object.proofs.check.follow.Given as goal
 
 abbrev pub invariant-loop-left : goal.invariant-loop-left

@@ -2,24 +2,23 @@
 use Rattle.object.proofs.MarkLaws.{unmarked}
 use Rattle.object.specs.HashCheck.{table_ok}
 use Rattle.words.specs.Choice.{below}
-use borrow.Author.Tests.{not-true, not-false}
 use mathlib.Core.Path.{sym, ◌∙◌}
 use Rattle.object.proofs.check.hash_table_ok.Goals as goal
 
 pub returns-then-not-numbers_ok : goal.returns-then-not-numbers_ok
 unfolding table_ok
 returns-then-not-numbers_ok c =
-    rw (sym c.numbers_ok.ensures ∙ not-true _ c.if-not-numbers_ok.true)
+    rw (sym c.numbers_ok.ensures ∙ c.if-not-numbers_ok.true)
 
 pub returns-then-not-table_fits : goal.returns-then-not-table_fits
 unfolding table_ok
 returns-then-not-table_fits c =
-    rw (sym c.numbers_ok.ensures ∙ not-false _ c.if-not-numbers_ok.false, sym c.table_fits.ensures ∙ not-true _ c.if-not-table_fits.true)
+    rw (sym c.numbers_ok.ensures ∙ c.if-not-numbers_ok.false, sym c.table_fits.ensures ∙ c.if-not-table_fits.true)
 
 pub returns-then-bucket_count-eq0 : goal.returns-then-bucket_count-eq0
 unfolding table_ok below
 returns-then-bucket_count-eq0 c =
-    rw (sym c.numbers_ok.ensures ∙ not-false _ c.if-not-numbers_ok.false, sym c.table_fits.ensures ∙ not-false _ c.if-not-table_fits.false, sym c.bucket_count.ensures ∙ c.if-bucket_count-eq0.true)
+    rw (sym c.numbers_ok.ensures ∙ c.if-not-numbers_ok.false, sym c.table_fits.ensures ∙ c.if-not-table_fits.false, sym c.bucket_count.ensures ∙ c.if-bucket_count-eq0.true)
 
 pub walks_ok-requires : goal.walks_ok-requires
 walks_ok-requires c =
@@ -28,4 +27,4 @@ walks_ok-requires c =
 pub returns : goal.returns
 unfolding table_ok
 returns c =
-    rw (sym c.numbers_ok.ensures ∙ not-false _ c.if-not-numbers_ok.false, sym c.table_fits.ensures ∙ not-false _ c.if-not-table_fits.false) c.walks_ok.ensures
+    rw (sym c.numbers_ok.ensures ∙ c.if-not-numbers_ok.false, sym c.table_fits.ensures ∙ c.if-not-table_fits.false) c.walks_ok.ensures

@@ -14,7 +14,7 @@ returns-then-set_mark c =
     let l = c.loop-left in
     λ p h mk.
     let r = l.invariant.2 p h mk in
-    marked_more a.low a.step (Passes a.image.now a.t p) l.s l.seen c.set_mark.new.0 r.1 c.set_mark.ensures r.0
+    marked_more a.low a.step (Passes a.image.now a.t p) l.s l.seen c.set_mark.new.seen r.1 c.set_mark.ensures r.0
 
 pub returns-then-is_last : goal.returns-then-is_last
 returns-then-is_last c =
@@ -22,7 +22,7 @@ returns-then-is_last c =
     let l = c.loop-left in
     λ p h mk.
     let r = l.invariant.2 p h mk in
-    marked_more a.low a.step (Passes a.image.now a.t p) l.s l.seen c.set_mark.new.0 r.1 c.set_mark.ensures r.0
+    marked_more a.low a.step (Passes a.image.now a.t p) l.s l.seen c.set_mark.new.seen r.1 c.set_mark.ensures r.0
 
 pub loop-left-preserved : goal.loop-left-preserved
 loop-left-preserved c =
@@ -34,7 +34,7 @@ loop-left-preserved c =
       λ p h mk.
           let r = l.invariant.2 p h mk in (
             rw c.next_symbol-s.ensures.0 (passes_next m a.t p l.s c.chain_word-w.result c.chain_word-w.ensures (sym c.is_last.ensures ∙ c.if-is_last.false) r.0),
-            marked_more a.low a.step (Passes m a.t p) l.s l.seen c.set_mark.new.0 r.1 c.set_mark.ensures r.0,
+            marked_more a.low a.step (Passes m a.t p) l.s l.seen c.set_mark.new.seen r.1 c.set_mark.ensures r.0,
           ),
     )
 

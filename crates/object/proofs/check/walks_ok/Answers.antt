@@ -8,17 +8,11 @@ use Rattle.object.specs.HashTable.{bucket_count}
 use Rattle.object.specs.Steps.Marks.{Passes, step_in}
 use Rattle.object.specs.TableBytes.{is_table}
 use Rattle.words.specs.Choice.{below}
-use borrow.Author.Tests.{not-true, not-false}
 use lib.ListN.{take}
 use mathlib.Core.Bool.{true}
 use mathlib.Core.Path.{◌≡◌, refl, sym, ◌∙◌}
 use native.Mathlib.Omega.{arith}
 use Rattle.object.proofs.check.walks_ok.Goals as goal
-
-this_walk : (c : tie.After-walk-ok invariant-loop decreases-loop) → walk_ok (is_table c.before.before.before.before.before.before.before.before.before.before.before.args.b.span (take c.before.before.before.before.before.before.before.before.before.before.before.args.b.count c.before.before.before.before.before.before.before.before.before.before.before.args.b.segments)) c.before.before.before.before.before.before.before.before.before.before.before.args.image.now c.before.before.before.before.before.before.before.before.before.before.before.args.v.symbols c.before.before.before.before.before.before.before.before.before.before.before.args.v.strings c.before.before.before.before.before.before.before.before.before.before.before.args.v.table c.before.before.before.before.before.before.before.before.loop.i ≡ c.walk-ok.result
-this_walk c =
-    let a = c.before.before.before.before.before.before.before.before.before.before.before.args in
-    bucket_word_lem (is_table a.b.span (take a.b.count a.b.segments)) a.image.now a.v.symbols a.v.strings a.v.table c.before.before.before.before.before.before.before.before.loop.i c.before.before.before.before.before.before.bucket_word_lem.result c.before.before.before.before.before.before.bucket_word_lem.ensures c.before.before.before.before.before.if1.false ∙ sym c.walk-ok.ensures.0
 
 pub loop-i-init : goal.loop-i-init
 unfolding below
@@ -53,11 +47,15 @@ walk_ok-requires c =
 
 pub returns-then-not-walk_ok : goal.returns-then-not-walk_ok
 returns-then-not-walk_ok c =
-    sym (below_no _ _ _ (rw c.bucket_count-n.ensures at c.loop-i-test.true) (this_walk c ∙ not-true _ c.if-not-walk_ok.true))
+    let this_walk : walk_ok (is_table c.args.b.span (take c.args.b.count c.args.b.segments)) c.args.image.now c.args.v.symbols c.args.v.strings c.args.v.table c.loop-i.i ≡ c.walk_ok.result = let a = c.args in
+    bucket_word_lem (is_table a.b.span (take a.b.count a.b.segments)) a.image.now a.v.symbols a.v.strings a.v.table c.loop-i.i c.bucket_word-word.result c.bucket_word-word.ensures c.if-word-eq0.false ∙ sym c.walk_ok.ensures.0 in
+    sym (below_no _ _ _ (rw c.bucket_count-n.ensures at c.loop-i-test.true) (this_walk ∙ c.if-not-walk_ok.true))
 
 pub loop-i-preserved : goal.loop-i-preserved
 loop-i-preserved c =
-    (search rules, below_more _ _ c.loop-i.invariant.1 (this_walk c ∙ not-false _ c.if-not-walk_ok.false), c.walk_ok.ensures.1)
+    let this_walk : walk_ok (is_table c.args.b.span (take c.args.b.count c.args.b.segments)) c.args.image.now c.args.v.symbols c.args.v.strings c.args.v.table c.loop-i.i ≡ c.walk_ok.result = let a = c.args in
+    bucket_word_lem (is_table a.b.span (take a.b.count a.b.segments)) a.image.now a.v.symbols a.v.strings a.v.table c.loop-i.i c.bucket_word-word.result c.bucket_word-word.ensures c.if-word-eq0.false ∙ sym c.walk_ok.ensures.0 in
+    (search rules, below_more _ _ c.loop-i.invariant.1 (this_walk ∙ c.if-not-walk_ok.false), c.walk_ok.ensures.1)
 
 pub returns : goal.returns
 returns c =

@@ -1,13 +1,12 @@
 -- `object::check::walks_ok` meets its contract. The invariant: the walks of the buckets before `i` pass, and the marks are right. Assumes nothing.
 use Prim.Native.Nat.{◌-◌, ◌≤◌}
-use Rattle.object.proofs.WalkLaws.{bucket_word_lem}
 use Rattle.object.specs.HashCheck.{walk_ok}
 use Rattle.object.specs.Steps.Marks.{Marked, Passes, step_in}
 use Rattle.object.specs.TableBytes.{is_table}
 use Rattle.words.specs.Choice.{below}
 use lib.ListN.{take}
 use mathlib.Core.Bool.{true}
-use mathlib.Core.Path.{◌≡◌, sym, ◌∙◌}
+use mathlib.Core.Path.{◌≡◌, ◌∙◌}
 use Rattle.object.proofs.check.walks_ok.Given as goal
 
 abbrev pub invariant-loop-i : goal.invariant-loop-i

@@ -9,6 +9,10 @@ use mathlib.Core.Bool.{Bool}
 use mathlib.Core.Path.{◌≡◌, ◌∙◌}
 use Rattle.object.proofs.dynamic_fields.needs_ok.Given as goal
 
+-- the name of a need is in table bytes
+abbrev pub name_ok : List ℕ → ObjectData → ℕ → Bool
+name_ok image o n = table_name (is_table o.span (take o.count o.segments)) image (o.strings + n)
+
 abbrev pub invariant-loop-i : goal.invariant-loop-i
 invariant-loop-i l =
     (l.i ≤ l.o.needs) × (needs_ok l.image (held_by l.o) ≡ every (name_ok l.image l.o) (drop l.i (take l.o.needs l.o.needed)))

@@ -1,7 +1,6 @@
 use mathlib.Core.Path.{refl, sym, ◌∙◌}
 use mathlib.Core.Bool.{true, false}
 use native.Mathlib.Omega.{arith}
-use borrow.Author.Tests.{not-true, not-false}
 use Rattle.object.specs.Refusal.{require}
 use Rattle.object.specs.Steps.LoadTable.{segments_in}
 use Rattle.object.proofs.ReadLaws.{read_none, read_fields_lem, read_many, read_tables}
@@ -45,7 +44,7 @@ returns-then-not-tables_ok c =
     let a = c.args in
     let e =
     read_tables a.host a.image.now (segments_in a.l) _ _ c.read_array-a.ensures _ c.fields_refusal-number.ensures c.if-number-ne0.false
-    c.if-n-gt64.false _ c.object_in-o.ensures.0 false (sym (not-true _ c.if-not-tables_ok.true) ∙ c.tables_ok.ensures)
+    c.if-n-gt64.false _ c.object_in-o.ensures.0 false (sym (c.if-not-tables_ok.true) ∙ c.tables_ok.ensures)
     in
     record {
       refusal = rw c.in-At.is (c.refused-then-not-tables_ok.ensures.0 ∙ sym e.0);
@@ -59,7 +58,7 @@ returns c =
     let a = c.args in
     let e =
     read_tables a.host a.image.now (segments_in a.l) _ _ c.read_array-a.ensures _ c.fields_refusal-number.ensures c.if-number-ne0.false
-    c.if-n-gt64.false _ c.object_in-o.ensures.0 true (sym (not-false _ c.if-not-tables_ok.false) ∙ c.tables_ok.ensures)
+    c.if-n-gt64.false _ c.object_in-o.ensures.0 true (sym (c.if-not-tables_ok.false) ∙ c.tables_ok.ensures)
     in
     record {
       refusal = rw c.in-At.is (sym e.0);

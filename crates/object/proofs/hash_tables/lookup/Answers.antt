@@ -1,7 +1,6 @@
 use Prim.Native.Nat.{ℕ, ◌+◌, ◌-◌, ◌^◌, ◌≤◌}
 use Rattle.object.proofs.FindLaws.{find_here, find_last, find_on, find_out, find_not, find_empty, find_start, held_buckets}
 use Rattle.object.specs.HashTable.{first_in, is_exported_hit, walk}
-use borrow.Author.Tests.{not-true, not-false}
 use mathlib.Core.Path.{◌≡◌, sym, ap, ◌∙◌}
 use native.Mathlib.Omega.{arith}
 use Rattle.object.proofs.hash_tables.lookup.Goals as goal
@@ -9,22 +8,22 @@ use Rattle.object.proofs.hash_tables.lookup.Goals as goal
 pub returns-then-not-may_hold : goal.returns-then-not-may_hold
 returns-then-not-may_hold c =
     let a = c.args in
-    (sym (find_not a.image.now a.v.symbols a.v.strings a.v.table a.name.now a.gnu a.elf (sym c.may_hold.ensures ∙ not-true _ c.if-not-may_hold.true)), tt)
+    (sym (find_not a.image.now a.v.symbols a.v.strings a.v.table a.name.now a.gnu a.elf (sym c.may_hold.ensures ∙ c.if-not-may_hold.true)), tt)
 
 pub bucket_of-requires : goal.bucket_of-requires
-bucket_of-requires c = held_buckets _ _ _ (sym c.may_hold.ensures ∙ not-false _ c.if-not-may_hold.false)
+bucket_of-requires c = held_buckets _ _ _ (sym c.may_hold.ensures ∙ c.if-not-may_hold.false)
 
 pub returns-then-b-eq0 : goal.returns-then-b-eq0
 returns-then-b-eq0 c =
     let a = c.args in
     let e = rw c.bucket_of.ensures.0 at c.bucket_word-b.ensures in
-    (sym (find_empty a.image.now a.v.symbols a.v.strings a.v.table a.name.now a.gnu a.elf (sym c.may_hold.ensures ∙ not-false _ c.if-not-may_hold.false) (sym e ∙ c.if-b-eq0.true)), tt)
+    (sym (find_empty a.image.now a.v.symbols a.v.strings a.v.table a.name.now a.gnu a.elf (sym c.may_hold.ensures ∙ c.if-not-may_hold.false) (sym e ∙ c.if-b-eq0.true)), tt)
 
 pub loop-left-init : goal.loop-left-init
 loop-left-init c =
     let a = c.args in
     let e = rw c.bucket_of.ensures.0 at c.bucket_word-b.ensures in
-    (omega arith, omega arith, find_start a.image.now a.v.symbols a.v.strings a.v.table a.name.now a.gnu a.elf c.bucket_word-b.result c.fuel_of-left.result c.fuel_of-left.ensures.0 (sym c.may_hold.ensures ∙ not-false _ c.if-not-may_hold.false) e c.if-b-eq0.false)
+    (omega arith, omega arith, find_start a.image.now a.v.symbols a.v.strings a.v.table a.name.now a.gnu a.elf c.bucket_word-b.result c.fuel_of-left.result c.fuel_of-left.ensures.0 (sym c.may_hold.ensures ∙ c.if-not-may_hold.false) e c.if-b-eq0.false)
 
 pub accepts-requires : goal.accepts-requires
 accepts-requires c = (omega arith, c.chain_word-w.ensures)

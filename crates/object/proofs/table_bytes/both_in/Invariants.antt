@@ -1,9 +1,6 @@
 -- `object::table_bytes::both_in` meets its contract. The invariant: the segments before the `i`th leave of each run what is before its end. Assumes nothing.
 use mathlib.Core.Path.{◌≡◌}
 use Prim.Native.Nat.{◌-◌, ◌≤◌}
-use borrow.Author.Rules.{rules}
-use lib.ListN.{length}
-use Rattle.words.proofs.Slices.{length_mapped}
 use Rattle.object.proofs.LastZeroLaws.{RunAt}
 use Rattle.object.proofs.table_bytes.both_in.Given as goal
 

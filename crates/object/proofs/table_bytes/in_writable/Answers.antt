@@ -15,10 +15,6 @@ use Rattle.object.proofs.table_bytes.in_writable.Goals as goal
 abbrev holding : ℕ → ℕ → Segment → Bool
 holding at n s = both (is_writable s) (holds_range s at n)
 
--- the length of an array of structs
-whole : (c : tie.Start invariant-loop decreases-loop) → length c.args.t1.segments ≡ 16
-whole c = search (rules, length_mapped)
-
 pub loop-i-init : goal.loop-i-init
 loop-i-init c =
     (search rules, refl)
@@ -28,30 +24,33 @@ unfolding in_writable
 returns-then-count-i c =
     let a = c.args in
     let l = c.loop-i in
-    sym (l.invariant.1 ∙ some_end a.t1.segments a.t1.count l.i (holding a.at a.n) (omega arith))
+    sym (l.invariant.1 ∙ some_end a.b.segments a.b.count l.i (holding a.at a.n) (omega arith))
 
 pub returns-then-holds : goal.returns-then-holds
 unfolding in_writable
 returns-then-holds c =
+    let whole : length c.args.b.segments ≡ 16 = search (rules, length_mapped) in
     let a = c.args in
     let l = c.loop-i in
-    sym (l.invariant.1 ∙ some_turn a.t1.segments a.t1.count l.i _ (omega arith) (omega (arith, whole c)) (holding a.at a.n) true
+    sym (l.invariant.1 ∙ some_turn a.b.segments a.b.count l.i _ (omega arith) (omega (arith, whole)) (holding a.at a.n) true
     (sym c.holds.ensures ∙ c.if-holds.true))
 
 pub loop-i-preserved : goal.loop-i-preserved
 unfolding in_writable
 loop-i-preserved c =
+    let whole : length c.args.b.segments ≡ 16 = search (rules, length_mapped) in
     let a = c.args in
     let l = c.loop-i in (
       search rules,
-      l.invariant.1 ∙ some_turn a.t1.segments a.t1.count l.i _ (omega arith) (omega (arith, whole c)) (holding a.at a.n) false
+      l.invariant.1 ∙ some_turn a.b.segments a.b.count l.i _ (omega arith) (omega (arith, whole)) (holding a.at a.n) false
           (sym c.holds.ensures ∙ c.if-holds.false),
     )
 
 pub returns : goal.returns
 unfolding in_writable some
 returns c =
+    let whole : length c.args.b.segments ≡ 16 = search (rules, length_mapped) in
     let a = c.args in
     let l = c.loop-i in
-    let none = drop_of_length-le (take a.t1.count a.t1.segments) {i = l.i} (simp length-take (omega (arith, whole c))) in
+    let none = drop_of_length-le (take a.b.count a.b.segments) {i = l.i} (simp length-take (omega (arith, whole))) in
     sym (l.invariant.1 ∙ rw none)

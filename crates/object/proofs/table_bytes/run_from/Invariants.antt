@@ -1,9 +1,6 @@
 -- `object::table_bytes::run_from` meets its contract. The invariant: the segments from the `i`th on decide of the bytes before `end`. Assumes nothing.
 use mathlib.Core.Path.{◌≡◌}
 use Prim.Native.Nat.{◌-◌, ◌≤◌}
-use borrow.Author.Rules.{rules}
-use lib.ListN.{length}
-use Rattle.words.proofs.Slices.{length_mapped}
 use Rattle.object.proofs.LastZeroLaws.{RestAt}
 use Rattle.object.proofs.table_bytes.run_from.Given as goal
 

@@ -1,9 +1,7 @@
 -- `object::table_bytes::table_bytes` meets its contract. The invariant: the segments from the `i`th on decide. Assumes nothing.
 use mathlib.Core.Path.{◌≡◌, ◌∙◌}
 use Prim.Native.Nat.{◌+◌, ◌-◌, ◌≤◌}
-use borrow.Author.Rules.{rules}
-use lib.ListN.{length, take, drop}
-use Rattle.words.proofs.Slices.{length_mapped}
+use lib.ListN.{take, drop}
 use Rattle.words.specs.Choice.{below, every}
 use Rattle.object.specs.TableBytes.{table_bytes, is_table}
 use Rattle.object.proofs.Ranges.{spares}

@@ -7,15 +7,12 @@ use Rattle.words.proofs.Slices.{length_mapped}
 use Rattle.object.proofs.Ranges.{range_none, range_at}
 use Rattle.object.proofs.table_bytes.writable_at.Goals as goal
 
--- the length of an array of structs
-whole : (c : tie.Start invariant-loop decreases-loop) → length c.args.t1.segments ≡ 16
-whole c = search (rules, length_mapped)
-
 pub returns-then-holds : goal.returns-then-holds
 returns-then-holds c =
+    let whole : length c.args.b.segments ≡ 16 = search (rules, length_mapped) in
     let a = c.args in
     let l = c.loop-i in
-    range_at a.t1.count a.t1.segments l.i _ a.at a.n c.place.result (omega arith) (omega (arith, whole c))
+    range_at a.b.count a.b.segments l.i _ a.at a.n c.place.result (omega arith) (omega (arith, whole))
     (sym c.holds.ensures ∙ c.if-holds.true) (omega (arith, c.place.ensures))
 
 pub returns : goal.returns

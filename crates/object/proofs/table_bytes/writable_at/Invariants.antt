@@ -1,9 +1,6 @@
 -- `object::table_bytes::writable_at` meets its contract. Assumes nothing.
 use mathlib.Core.Path.{◌≡◌, ◌∙◌}
 use Prim.Native.Nat.{◌-◌, ◌≤◌}
-use borrow.Author.Rules.{rules}
-use lib.ListN.{length}
-use Rattle.words.proofs.Slices.{length_mapped}
 use Rattle.object.proofs.table_bytes.writable_at.Given as goal
 
 abbrev pub invariant-loop-i : goal.invariant-loop-i

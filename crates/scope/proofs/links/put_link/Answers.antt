@@ -9,7 +9,7 @@ use Rattle.scope.proofs.LinkLaws.{with_room, with_none, put_all}
 use Rattle.scope.proofs.links.put_link.Goals as goal
 
 pub shape_of-table : goal.shape_of-table
-shape_of-table c = c.put_words.auto.0
+shape_of-table c = c.put_words.auto.table
 
 pub returns-then-k-table : goal.returns-then-k-table
 returns-then-k-table c =

@@ -19,7 +19,7 @@ loop-i-preserved c =
       search rules,
       (
         simp length-set l.invariant.1.0,
-        rw (l.invariant.1.1, add-one, ← paste-suc s.args.table.now s.args.p s.args.t3 l.i 0 (omega arith) (search rules)),
+        rw (l.invariant.1.1, add-one, ← paste-suc s.args.table.now s.args.p s.args.w l.i 0 (omega arith) (search rules)),
       ),
     )
 

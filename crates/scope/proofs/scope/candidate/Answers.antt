@@ -1,7 +1,6 @@
 use Prim.Native.Nat.{◌-◌}
 use native.Mathlib.Omega.{arith}
 use borrow.Author.Rules.{rules}
-use borrow.Author.Tests.{not-false}
 use Rattle.scope.proofs.BloomLaws.{past_none, past_next}
 use Rattle.scope.proofs.scope.candidate.Goals as goal
 
@@ -30,7 +29,7 @@ returns-then-not-rules_out c =
 pub loop-k-preserved : goal.loop-k-preserved
 loop-k-preserved c =
     let a = c.args in
-    past_next a.arena.now a.table.now a.gnu a.start c.loop-k.k c.loop-k.invariant (c.rules_out.ensures (not-false _ c.if-not-rules_out.false))
+    past_next a.arena.now a.table.now a.gnu a.start c.loop-k.k c.loop-k.invariant (c.rules_out.ensures (c.if-not-rules_out.false))
 
 pub returns : goal.returns
 returns c =

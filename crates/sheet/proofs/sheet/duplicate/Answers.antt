@@ -11,15 +11,13 @@ use Rattle.sheet.specs.Sheet.{named, duplicate_from}
 use Rattle.sheet.proofs.PartLaws.{duplicate_is, duplicate_end, inputs_length}
 use Rattle.sheet.proofs.sheet.duplicate.Goals as goal
 
-whole : (c : tie.Start invariant-loop decreases-loop) → length c.args.parts.list ≡ 64
-whole c = search (rules, length_mapped)
-
 pub loop-k-init : goal.loop-k-init
 loop-k-init c =
+    let whole : length c.args.parts.list ≡ 64 = search (rules, length_mapped) in
     let a = c.args in
     let os = inputs_in a.bytes.now a.parts in
     let n = inputs_length a.bytes.now a.parts in
-    let e : length (drop 2 os) ≡ c.smaller-count.result - 2 = length-drop 2 os ∙ omega (arith, n, whole c, c.smaller-count.ensures) in
+    let e : length (drop 2 os) ≡ c.smaller-count.result - 2 = length-drop 2 os ∙ omega (arith, n, whole, c.smaller-count.ensures) in
     (omega arith, omega arith, search rules, ap (λ (n : ℕ). duplicate_from os n 2) (sym e))
 
 pub returns-then-named_before : goal.returns-then-named_before

@@ -13,9 +13,6 @@ use Rattle.sheet.specs.declared.sheet.Parts.{Parts}
 use Rattle.sheet.proofs.PartLaws.{inputs_front, named_is, named_none}
 use Rattle.sheet.proofs.sheet.named_before.Goals as goal
 
-whole : (c : tie.Start invariant-loop decreases-loop) → length c.args.parts.list ≡ 64
-whole c = search (rules, length_mapped)
-
 -- the search as the contract has it
 whole_is : (bs : List ℕ) (p : Parts) (k : ℕ) (name : List ℕ) → k ≤ p.count
     → named name (drop 2 (take k (map (input_in bs) p.list))) ≡ named name (drop 2 (take k (inputs_in bs p)))
@@ -27,20 +24,22 @@ loop-j-init c =
 
 pub returns-then-same : goal.returns-then-same
 returns-then-same c =
+    let whole : length c.args.parts.list ≡ 64 = search (rules, length_mapped) in
     let a = c.args in
     let bs = a.bytes.now in
     let os = map (input_in bs) a.parts.list in
-    let m : a.k ≤ length os = omega (arith, length-map a.parts.list (input_in bs), whole c) in
+    let m : a.k ≤ length os = omega (arith, length-map a.parts.list (input_in bs), whole) in
     let is = ap (λ (o : Input). o.name) (get_or-map (input_in bs) a.parts.list c.loop-j.j no_part) in
     let e = ap (same_bytes a.name.now) (is ∙ sym c.part_of.ensures) ∙ (sym c.same.ensures ∙ c.if-same.true) in
     sym (named_is a.name.now os a.k c.loop-j.j c.loop-j-test.true m true e) ∙ (c.loop-j.invariant.1 ∙ whole_is bs a.parts a.k a.name.now c.requires.1)
 
 pub loop-j-preserved : goal.loop-j-preserved
 loop-j-preserved c =
+    let whole : length c.args.parts.list ≡ 64 = search (rules, length_mapped) in
     let a = c.args in
     let bs = a.bytes.now in
     let os = map (input_in bs) a.parts.list in
-    let m : a.k ≤ length os = omega (arith, length-map a.parts.list (input_in bs), whole c) in
+    let m : a.k ≤ length os = omega (arith, length-map a.parts.list (input_in bs), whole) in
     let is = ap (λ (o : Input). o.name) (get_or-map (input_in bs) a.parts.list c.loop-j.j no_part) in
     let e = ap (same_bytes a.name.now) (is ∙ sym c.part_of.ensures) ∙ (sym c.same.ensures ∙ c.if-same.false) in
     (omega arith, sym (named_is a.name.now os a.k c.loop-j.j c.loop-j-test.true m false e) ∙ c.loop-j.invariant.1)

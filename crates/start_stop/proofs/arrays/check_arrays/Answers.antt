@@ -1,10 +1,10 @@
 use borrow.Author.Rules.{rules}
 use Rattle.start_stop.proofs.LoopLaws.{check_bad, check_next, check_end}
 use Rattle.start_stop.specs.Steps.Rows.{calls_at}
-use borrow.Author.Tests.{not-true, not-false}
 use lib.ListN.{length}
 use native.Mathlib.Omega.{arith}
 use mathlib.Core.Path.{◌≡◌, refl, sym, ◌∙◌}
+use mathlib.Core.List.{[]}
 use Prim.Native.Nat.{◌-◌, ◌≤◌}
 use Rattle.start_stop.proofs.arrays.check_arrays.Goals as goal
 
@@ -16,7 +16,7 @@ loop-i-init c =
 pub returns-then-not-arrays_inside : goal.returns-then-not-arrays_inside
 returns-then-not-arrays_inside c =
     let a = c.args in
-    check_bad a.order.list a.order.count c.loop-i.invariant.0 (calls_at [] a.table.now a.rows.now) c.loop-i.i c.loop-i-test.true (sym c.arrays_inside.ensures ∙ not-true _ c.if-not-arrays_inside.true) c.loop-i.invariant.1
+    check_bad a.order.list a.order.count c.loop-i.invariant.0 (calls_at [] a.table.now a.rows.now) c.loop-i.i c.loop-i-test.true (sym c.arrays_inside.ensures ∙ c.if-not-arrays_inside.true) c.loop-i.invariant.1
 
 pub loop-i-smaller : goal.loop-i-smaller
 loop-i-smaller c =
@@ -25,7 +25,7 @@ loop-i-smaller c =
 pub loop-i-preserved : goal.loop-i-preserved
 loop-i-preserved c =
     let a = c.args in
-    (c.loop-i.invariant.0, check_next a.order.list a.order.count c.loop-i.invariant.0 (calls_at [] a.table.now a.rows.now) c.loop-i.i c.loop-i-test.true (sym c.arrays_inside.ensures ∙ not-false _ c.if-not-arrays_inside.false) c.loop-i.invariant.1)
+    (c.loop-i.invariant.0, check_next a.order.list a.order.count c.loop-i.invariant.0 (calls_at [] a.table.now a.rows.now) c.loop-i.i c.loop-i-test.true (sym c.arrays_inside.ensures ∙ c.if-not-arrays_inside.false) c.loop-i.invariant.1)
 
 pub returns : goal.returns
 returns c =

@@ -27,7 +27,7 @@ loop-i-preserved c =
     let a = c.args in
     let f = few_at a.order.list a.order.count c.loop-i.invariant.1 a.rows.now c.requires.3 c.loop-i.i c.loop-i-test.true in
     let s = starts_few (calls_at a.arena.now a.table.now a.rows.now (get_or a.order.list c.loop-i.i 0)) f.inits in
-    (c.put_starts-n.auto.0 ∙ c.loop-i.invariant.0, c.loop-i.invariant.1, omega (arith, c.loop-i.invariant.2, c.put_starts-n.ensures.next, s), start_next a.order.list a.order.count c.loop-i.invariant.1 (calls_at a.arena.now a.table.now a.rows.now) c.loop-i.i c.loop-i-test.true c.loop-i.invariant.3 c.put_starts-n.ensures)
+    (c.put_starts-n.auto.list ∙ c.loop-i.invariant.0, c.loop-i.invariant.1, omega (arith, c.loop-i.invariant.2, c.put_starts-n.ensures.next, s), start_next a.order.list a.order.count c.loop-i.invariant.1 (calls_at a.arena.now a.table.now a.rows.now) c.loop-i.i c.loop-i-test.true c.loop-i.invariant.3 c.put_starts-n.ensures)
 
 pub shape_of-list : goal.shape_of-list
 shape_of-list c =

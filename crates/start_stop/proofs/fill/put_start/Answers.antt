@@ -16,7 +16,7 @@ put_in_order-requires c =
 
 pub shape_of-list : goal.shape_of-list
 shape_of-list c =
-    c.put_in_order.auto.0 ∙ c.put_array-n.auto.0
+    c.put_in_order.auto.list ∙ c.put_array-n.auto.list
 
 pub returns : goal.returns
 unfolding start_list

@@ -30,7 +30,7 @@ loop-i-preserved c =
     let h : c.loop-i.i - 1 < a.order.count = omega (arith, c.loop-i.invariant.2, c.loop-i-test.true) in
     let f = few_at a.order.list a.order.count c.loop-i.invariant.1 a.rows.now c.requires.2 (c.loop-i.i - 1) h in
     let s = stops_few (calls_at a.arena.now a.table.now a.rows.now (get_or a.order.list (c.loop-i.i - 1) 0)) f.finis in
-    (c.put_stops-n.auto.0 ∙ c.loop-i.invariant.0, c.loop-i.invariant.1, omega (arith, c.loop-i.invariant.2, c.loop-i-test.true), omega (arith, c.loop-i.invariant.3, c.put_stops-n.ensures.next, s, c.loop-i-test.true), stop_next a.order.list a.order.count c.loop-i.invariant.1 (calls_at a.arena.now a.table.now a.rows.now) c.loop-i.i (c.loop-i.i - 1) (omega (arith, c.loop-i-test.true)) h c.loop-i.invariant.4 c.put_stops-n.ensures)
+    (c.put_stops-n.auto.list ∙ c.loop-i.invariant.0, c.loop-i.invariant.1, omega (arith, c.loop-i.invariant.2, c.loop-i-test.true), omega (arith, c.loop-i.invariant.3, c.put_stops-n.ensures.next, s, c.loop-i-test.true), stop_next a.order.list a.order.count c.loop-i.invariant.1 (calls_at a.arena.now a.table.now a.rows.now) c.loop-i.i (c.loop-i.i - 1) (omega (arith, c.loop-i-test.true)) h c.loop-i.invariant.4 c.put_stops-n.ensures)
 
 pub shape_of-list : goal.shape_of-list
 shape_of-list c =

@@ -22,7 +22,7 @@ pub loop-k-preserved : goal.loop-k-preserved
 loop-k-preserved c =
     let a = c.args in
     let l = c.loop-k in
-    (c.read_row.auto.0 ∙ l.invariant.0, l.invariant.1, l.invariant.2, omega (arith, l.invariant.3), read_next (inputs_in a.bytes.now a.parts) a.arena.now a.table.now l.rows _ l.k c.link_at-s.result _ _ (omega (arith, l.invariant.0, l.invariant.1, l.invariant.2, c.loop-k-test.true)) c.link_at-s.ensures c.part_of.ensures c.file_of.ensures c.read_row.ensures l.invariant.4)
+    (c.read_row.auto.rows ∙ l.invariant.0, l.invariant.1, l.invariant.2, omega (arith, l.invariant.3), read_next (inputs_in a.bytes.now a.parts) a.arena.now a.table.now l.rows _ l.k c.link_at-s.result _ _ (omega (arith, l.invariant.0, l.invariant.1, l.invariant.2, c.loop-k-test.true)) c.link_at-s.ensures c.part_of.ensures c.file_of.ensures c.read_row.ensures l.invariant.4)
 
 pub shape_of-rows : goal.shape_of-rows
 shape_of-rows c =

@@ -2,6 +2,7 @@ use Rattle.start_stop.proofs.ListedIs.{arrays_any, few_words, few_preinits, made
 use Rattle.start_stop.specs.Steps.Rows.{calls_at}
 use lib.ListN.{take}
 use native.Mathlib.Omega.{arith}
+use mathlib.Core.List.{[]}
 use mathlib.Core.Path.{◌≡◌, sym, ◌∙◌}
 use Rattle.start_stop.proofs.start_stop.list_all.Goals as goal
 
@@ -28,42 +29,42 @@ put_stop-m-requires c =
 
 pub shape_of-start-then-start-n : goal.shape_of-start-then-start-n
 shape_of-start-then-start-n c =
-    c.put_start-n.auto.0
+    c.put_start-n.auto.list
 
 pub shape_of-stop-then-start-n : goal.shape_of-stop-then-start-n
 shape_of-stop-then-start-n c =
-    c.put_stop-m.auto.0
+    c.put_stop-m.auto.list
 
 pub returns-then-start-n : goal.returns-then-start-n
 returns-then-start-n c =
     let a = c.args in
     let e = arrays_any a.arena.now [] a.table.now a.rows.now (take a.order.count a.order.list) ∙ (sym c.check_arrays-v.ensures ∙ c.in_default.is) in
-    start_short (calls_at a.arena.now a.table.now a.rows.now) (take a.order.count a.order.list) a.arena.now c.put_start-n.new.0 c.put_stop-m.new.0 e (omega (arith, c.if-start-n.true, c.put_start-n.ensures.next))
+    start_short (calls_at a.arena.now a.table.now a.rows.now) (take a.order.count a.order.list) a.arena.now c.put_start-n.new.list c.put_stop-m.new.list e (omega (arith, c.if-start-n.true, c.put_start-n.ensures.next))
 
 pub shape_of-start-then-stop-m : goal.shape_of-start-then-stop-m
 shape_of-start-then-stop-m c =
-    c.put_start-n.auto.0
+    c.put_start-n.auto.list
 
 pub shape_of-stop-then-stop-m : goal.shape_of-stop-then-stop-m
 shape_of-stop-then-stop-m c =
-    c.put_stop-m.auto.0
+    c.put_stop-m.auto.list
 
 pub returns-then-stop-m : goal.returns-then-stop-m
 returns-then-stop-m c =
     let a = c.args in
     let e = arrays_any a.arena.now [] a.table.now a.rows.now (take a.order.count a.order.list) ∙ (sym c.check_arrays-v.ensures ∙ c.in_default.is) in
-    stop_short (calls_at a.arena.now a.table.now a.rows.now) (take a.order.count a.order.list) a.arena.now c.put_start-n.new.0 c.put_stop-m.new.0 e (omega (arith, c.if-start-n.false, c.put_start-n.ensures.next)) (omega (arith, c.if-stop-m.true, c.put_stop-m.ensures.next))
+    stop_short (calls_at a.arena.now a.table.now a.rows.now) (take a.order.count a.order.list) a.arena.now c.put_start-n.new.list c.put_stop-m.new.list e (omega (arith, c.if-start-n.false, c.put_start-n.ensures.next)) (omega (arith, c.if-stop-m.true, c.put_stop-m.ensures.next))
 
 pub shape_of-start : goal.shape_of-start
 shape_of-start c =
-    c.put_start-n.auto.0
+    c.put_start-n.auto.list
 
 pub shape_of-stop : goal.shape_of-stop
 shape_of-stop c =
-    c.put_stop-m.auto.0
+    c.put_stop-m.auto.list
 
 pub returns : goal.returns
 returns c =
     let a = c.args in
     let e = arrays_any a.arena.now [] a.table.now a.rows.now (take a.order.count a.order.list) ∙ (sym c.check_arrays-v.ensures ∙ c.in_default.is) in
-    made_listed (calls_at a.arena.now a.table.now a.rows.now) (take a.order.count a.order.list) a.arena.now c.put_start-n.new.0 c.put_stop-m.new.0 e a.start.now a.stop.now c.put_start-n.result c.put_stop-m.result c.put_start-n.ensures c.put_stop-m.ensures c.requires.3 c.requires.4 c.put_start-n.auto.0 c.put_stop-m.auto.0 (omega (arith, c.if-start-n.false)) (omega (arith, c.if-stop-m.false))
+    made_listed (calls_at a.arena.now a.table.now a.rows.now) (take a.order.count a.order.list) a.arena.now c.put_start-n.new.list c.put_stop-m.new.list e a.start.now a.stop.now c.put_start-n.result c.put_stop-m.result c.put_start-n.ensures c.put_stop-m.ensures c.requires.3 c.requires.4 c.put_start-n.auto.list c.put_stop-m.auto.list (omega (arith, c.if-start-n.false)) (omega (arith, c.if-stop-m.false))
