@@ -26,4 +26,4 @@ returns c =
     let l = c.loop-i in
     let a = c.args in
     let e = parts_end a.sheet.now l.list l.k l.i l.at (omega arith) l.invariant.4 in
-    ((λ bytes. inputs_are bytes a.sheet.now _ e), (omega arith, omega arith))
+    record { same = λ bytes. inputs_are bytes a.sheet.now _ e; fits = (omega arith, omega arith) }
