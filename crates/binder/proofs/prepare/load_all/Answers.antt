@@ -25,7 +25,7 @@ overflow_add-free c =
     let a = c.args in
     let h : c.in-At.s.offset + c.in-At.s.span < 2 ^ 64 = omega (
       arith,
-      c.well-formed,
+      c.well_formed,
       c.loop-k.invariant.2.same,
       load_fits (setting_at a.address) (inputs_in a.bytes.now a.parts) a.arena.now c.loop-k.arena c.loop-k.table c.loop-k.free c.loop-k.k c.loop-k.invariant.2 (omega (arith, c.loop-k.invariant.1)) c.load_next-p.new.arena c.load_next-p.result
           (rw c.file_of-file.ensures at c.load_next-p.ensures) c.in-At.s c.in-At.is,

@@ -67,7 +67,7 @@ pub range_after-w-requires : goal.range_after-w-requires
 range_after-w-requires c = c.loop-i.invariant.3
 
 pub overflow_add-i : goal.overflow_add-i
-overflow_add-i c = omega (arith, c.if-n-j.false, c.well-formed.1.1.1.1.1.1.0)
+overflow_add-i c = omega (arith, c.if-n-j.false, c.well_formed.1.1.1.1.1.1.0)
 
 pub loop-i-smaller : goal.loop-i-smaller
 loop-i-smaller c = omega (arith, c.run_relatives.ensures.0, c.symbolics-r.ensures.0, c.if-n-j.false)

@@ -68,11 +68,11 @@ returns-in_default-a c =
 
 pub overflow_add-t : goal.overflow_add-t
 overflow_add-t c =
-    let l = c.loop-p in let g = l.invariant.4 in let h = here_in c in search (rules, g.span, g.inside, h.below, l.invariant.0, c.well-formed.0)
+    let l = c.loop-p in let g = l.invariant.4 in let h = here_in c in search (rules, g.span, g.inside, h.below, l.invariant.0, c.well_formed.0)
 
 pub store_in-requires : goal.store_in-requires
 store_in-requires c =
-    let l = c.loop-p in let g = l.invariant.4 in let h = here_in c in search (rules, g.span, g.inside, h.below, l.invariant.0, c.well-formed.0)
+    let l = c.loop-p in let g = l.invariant.4 in let h = here_in c in search (rules, g.span, g.inside, h.below, l.invariant.0, c.well_formed.0)
 
 pub overflow_add-p : goal.overflow_add-p
 overflow_add-p c =
@@ -80,7 +80,7 @@ overflow_add-p c =
 
 pub overflow_add-k-in-loop-p : goal.overflow_add-k-in-loop-p
 overflow_add-k-in-loop-p c =
-    let l = c.loop-p in let g = l.invariant.4 in search (rules, g.span, g.entries, l.invariant.0, l.invariant.3, c.well-formed.0, c.loop-p-test.true)
+    let l = c.loop-p in let g = l.invariant.4 in search (rules, g.span, g.entries, l.invariant.0, l.invariant.3, c.well_formed.0, c.loop-p-test.true)
 
 pub loop-p-smaller : goal.loop-p-smaller
 loop-p-smaller c =

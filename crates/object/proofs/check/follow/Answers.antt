@@ -8,6 +8,7 @@ use mathlib.Core.Logic.{⊎_elim}
 use mathlib.Core.Path.{◌≡◌, sym, ◌∙◌}
 use native.Mathlib.Omega.{arith}
 use Rattle.object.proofs.check.follow.Goals as goal
+use Rattle.object.proofs.check.follow.Goals.{then-not-passes_at_once+else-not-passes, else-not-passes_at_once}
 
 pub loop-left-init : goal.loop-left-init
 loop-left-init c =
@@ -34,22 +35,22 @@ returns-then-not-passes c =
 
 pub returns-then-is_last : goal.returns-then-is_last
 returns-then-is_last c =
-    let passes_here : step_in c.args.b c.args.image.now c.args.v c.loop-left.s ≡ true = let a = c.args in
-    ⊎_elim
-    (λ w. sym w.1.ensures ∙ not-false _ w.2.left)
-    (λ w. at_once a.b a.image.now a.v a.q c.loop-left.s c.requires.2 (c.passes_at_once.ensures (not-false _ w.left)))
-    c.if-not-passes_at_once.branch in
+    let passes_here : step_in c.args.b c.args.image.now c.args.v c.loop-left.s ≡ true =
+        elim c.if-not-passes_at_once.branch [
+          then-not-passes_at_once+else-not-passes w ↦ sym w.passes.ensures ∙ w.if-not-passes.false
+          | else-not-passes_at_once w ↦ at_once c.args.b c.args.image.now c.args.v c.args.q c.loop-left.s c.requires.2 (c.passes_at_once.ensures w.if-not-passes_at_once.false)
+        ] in
     let a = c.args in
     let l = c.loop-left in
     l.invariant.2.on (passes_last a.image.now a.v.table (step_in a.b a.image.now a.v) l.s c.chain_word-w.result c.chain_word-w.ensures passes_here (sym c.is_last.ensures ∙ c.if-is_last.true))
 
 pub loop-left-preserved : goal.loop-left-preserved
 loop-left-preserved c =
-    let passes_here : step_in c.args.b c.args.image.now c.args.v c.loop-left.s ≡ true = let a = c.args in
-    ⊎_elim
-    (λ w. sym w.1.ensures ∙ not-false _ w.2.left)
-    (λ w. at_once a.b a.image.now a.v a.q c.loop-left.s c.requires.2 (c.passes_at_once.ensures (not-false _ w.left)))
-    c.if-not-passes_at_once.branch in
+    let passes_here : step_in c.args.b c.args.image.now c.args.v c.loop-left.s ≡ true =
+        elim c.if-not-passes_at_once.branch [
+          then-not-passes_at_once+else-not-passes w ↦ sym w.passes.ensures ∙ w.if-not-passes.false
+          | else-not-passes_at_once w ↦ at_once c.args.b c.args.image.now c.args.v c.args.q c.loop-left.s c.requires.2 (c.passes_at_once.ensures w.if-not-passes_at_once.false)
+        ] in
     let a = c.args in
     let l = c.loop-left in
     (omega arith, omega arith, walk_turn a.image.now a.v.table (step_in a.b a.image.now a.v) a.word l.s l.left l.invariant.2 c.chain_word-w.result c.next_symbol-s.result c.loop-left-test.true c.chain_word-w.ensures passes_here (sym c.is_last.ensures ∙ c.if-is_last.false) c.next_symbol-s.ensures.0)

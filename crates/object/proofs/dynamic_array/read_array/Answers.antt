@@ -20,7 +20,7 @@ returns-then-tag-eq0 c =
 pub overflow_add-i-in-loop-left-2 : goal.overflow_add-i-in-loop-left-2
 overflow_add-i-in-loop-left-2 c =
     let l = c.loop-left in
-    let h : l.i + 16 < 2 ^ 64 = omega (arith, l.invariant.inside, c.well-formed) in
+    let h : l.i + 16 < 2 ^ 64 = omega (arith, l.invariant.inside, c.well_formed) in
     record { fits = h }
 
 pub loop-left-preserved : goal.loop-left-preserved

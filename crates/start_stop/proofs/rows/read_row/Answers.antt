@@ -15,11 +15,11 @@ loop-j-init c =
 
 pub overflow_mul-rows : goal.overflow_mul-rows
 overflow_mul-rows c =
-    omega (arith, c.requires, c.well-formed)
+    omega (arith, c.requires, c.well_formed)
 
 pub overflow_add-rows : goal.overflow_add-rows
 overflow_add-rows c =
-    omega (arith, c.requires, c.well-formed, c.loop-j-test.true)
+    omega (arith, c.requires, c.well_formed, c.loop-j-test.true)
 
 pub bounds-rows-k : goal.bounds-rows-k
 bounds-rows-k c =
