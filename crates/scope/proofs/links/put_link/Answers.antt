@@ -16,11 +16,13 @@ returns-then-k-table c =
     let a = c.args in
     let t = a.table.now in
     let room : 16 * a.k + 16 ≤ length t = omega arith in
-    put_all t a.k a.s c.words_of-w.ensures.1 (c.put_words.ensures ∙ ap (λ (w : List ℕ). spliced t (16 * a.k) w) c.words_of-w.ensures.0 ∙ sym (with_room t a.k a.s room))
+    let p = put_all t a.k a.s c.words_of-w.ensures.1 (c.put_words.ensures ∙ ap (λ (w : List ℕ). spliced t (16 * a.k) w) c.words_of-w.ensures.0 ∙ sym (with_room t a.k a.s room)) in
+    record { same = p.0; back = p.1.0; others = p.1.1.0; filtered = p.1.1.1 }
 
 pub returns-else-k-table : goal.returns-else-k-table
 returns-else-k-table c =
     let a = c.args in
     let t = a.table.now in
     let none : length t < 16 * a.k + 16 = omega arith in
-    put_all t a.k a.s c.words_of-w.ensures.1 (sym (with_none t a.k a.s none))
+    let p = put_all t a.k a.s c.words_of-w.ensures.1 (sym (with_none t a.k a.s none)) in
+    record { same = p.0; back = p.1.0; others = p.1.1.0; filtered = p.1.1.1 }
