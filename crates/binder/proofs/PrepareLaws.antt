@@ -296,7 +296,8 @@ module _ (setting : Setting) (os : List Input) (a₀ a table : List ℕ) (off k 
             same = len ∙ h.same;
             offset = omega (arith, g.fits, long, len, at, span);
             number = omega arith;
-            met = h.met ∙ rw (left, ← h.same, ← long, g.refusal, ← span, ← at, add-one k);
+            met = h.met ∙ rw (left, ← h.same, ← long, g.refusal, ← span, ← at, add-one k)
+                (ap (λ (n : ℕ). load_from setting n (suc k) (s.offset + s.span) (drop (suc k) (files_of os))) (sym h.same ∙ sym (gapped_length a off s.offset)));
             placed = h.placed ∙ (step ∙ rw (g.arena, span, at, add-one k));
             linked = λ u same q.
                 h.linked u (λ j i. same j (omega arith) ∙ others j (λ e. omega arith))

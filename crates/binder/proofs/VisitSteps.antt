@@ -1,5 +1,5 @@
 -- What the proof of `visit` rests on. Assumes nothing.
-use Rattle.std.proofs.Common.{◌≡◌, ℕ, zero, suc, ◌+◌, ◌-◌, ◌*◌, ◌<◌, ◌≤◌, Bool, true, false, not, eqb, ◌⊎◌, List, [], ◌∷◌, ◌++◌, length, get_or, take, drop, set, sym, refl, ap, ◌∙◌, inl, inr, ⊎_elim, true≢false, add-one, arith, length-set, drop_of_length-le, drop-cons, get_or-set_other, get_or-set_same, take-suc-set, eq-eqb, eqb-true}
+use Rattle.std.proofs.Common.{◌≡◌, ℕ, zero, suc, ◌+◌, ◌-◌, ◌*◌, ◌<◌, ◌≤◌, Bool, true, false, not, eqb, ◌⊎◌, List, [], ◌∷◌, ◌++◌, length, get_or, take, drop, set, sym, refl, ap, ◌∙◌, subst, inl, inr, ⊎_elim, true≢false, add-one, arith, length-set, drop_of_length-le, drop-cons, get_or-set_other, get_or-set_same, take-suc-set, eq-eqb, eqb-true}
 use lib.ListN.{get_or-eq_default}
 use borrow.Author.Tests.{eqb-false}
 use Rattle.words.specs.Choice.{both, either}
@@ -112,7 +112,8 @@ next_turn {table} {depth} {k} {w₀} {w} {w'} {i} {j} hi ej t v =
 -- onto the path
 pub marks_mark : (libs : ℕ) (path : List ℕ) (k : ℕ) (o : State) → k < length o.seen → Marks libs path o → Marks libs (k ∷ path) (mark o k)
 marks_mark libs path k o hk m j = ⊎_elim
-    (λ (t : eqb j k ≡ true). rw (eqb-true j k t, get_or-set_same o.seen k true true hk) (sym (on_path (listed libs k) (eqb k k) (has k path) (has k (ordered o)) (eq-eqb k k refl))))
+    (λ (t : eqb j k ≡ true). subst (λ (x : ℕ). get_or (mark o k).seen x true ≡ not (fresh libs (k ∷ path) x (ordered (mark o k)))) (sym (eqb-true j k t))
+    (get_or-set_same o.seen k true true hk ∙ sym (on_path (listed libs k) (eqb k k) (has k path) (has k (ordered o)) (eq-eqb k k refl))))
     (λ (t : eqb j k ≡ false). get_or-set_other o.seen k j true true (eqb-false j k t) ∙ m j ∙ rw t)
     (decide (eqb j k))
   where

@@ -1,6 +1,6 @@
 -- `binder::copy::copy_fits` meets its contract. Assumes nothing.
 use Rattle.std.proofs.Common.{◌≡◌, ℕ, ◌+◌, ◌^◌, ◌<◌, ◌≤◌, Bool, true, false, not, leb, sym, refl, ◌∙◌, arith, le-leb, leb-false, leb-true}
-use borrow.Author.Tests.{lt-leb, not-true, not-false}
+use borrow.Author.Tests.{lt-leb}
 use Rattle.object.specs.declared.hash_tables.Definition.{Definition}
 use Rattle.scope.specs.declared.links.Link.{Link}
 use Rattle.binder.specs.declared.turn.Turn.{Turn}
@@ -8,11 +8,11 @@ use Rattle.binder.specs.Steps.Relocating.{copy_fits}
 use Rattle.binder.proofs.copy.copy_fits.Goals as goal
 
 -- what a call of `ends_inside` tells
-told : {b : Bool} (x size : ℕ) → b ≡ leb x size → not b ≡ false → x ≤ size
-told {b} x size e h = leb-true x size (sym e ∙ not-false b h)
+told : {b : Bool} (x size : ℕ) → b ≡ leb x size → b ≡ true → x ≤ size
+told {b} x size e h = leb-true x size (sym e ∙ h)
 
-not_told : {b : Bool} (x size : ℕ) → b ≡ leb x size → not b ≡ true → size < x
-not_told {b} x size e h = leb-false x size (sym e ∙ not-true b h)
+not_told : {b : Bool} (x size : ℕ) → b ≡ leb x size → b ≡ false → size < x
+not_told {b} x size e h = leb-false x size (sym e ∙ h)
 
 -- the sums fit
 sum_fits : (x y n size : ℕ) → x + y + n ≤ size → size < 2 ^ 64 → x + y < 2 ^ 64

@@ -1,5 +1,6 @@
 use Rattle.std.proofs.Common.{◌≡◌, ◌-◌, sym, arith, rules}
 use Rattle.binder.proofs.ClaimLaws.{clash, windows_begin, windows_go, windows_end}
+use borrow.Author.Tests.{not-false}
 use Rattle.binder.proofs.crossing.claims_apart.Goals as goal
 
 pub loop-w-init : goal.loop-w-init
@@ -16,11 +17,11 @@ returns-then-not-c c =
 
 pub loop-w-smaller : goal.loop-w-smaller
 loop-w-smaller c =
-    let l = (c.claims_in-c.ensures.1 (c.if-not-c.false)).ahead in omega (arith, l, c.loop-w-test.true)
+    let l = (c.claims_in-c.ensures.1 (not-false _ c.if-not-c.false)).ahead in omega (arith, l, c.loop-w-test.true)
 
 pub loop-w-preserved : goal.loop-w-preserved
 loop-w-preserved c =
-    (c.claims_in-c.ensures.0, windows_go c.args.image.now c.args.r c.loop-w.w _ c.loop-w.invariant.1 (c.claims_in-c.ensures.1 (c.if-not-c.false)))
+    (c.claims_in-c.ensures.0, windows_go c.args.image.now c.args.r c.loop-w.w _ c.loop-w.invariant.1 (c.claims_in-c.ensures.1 (not-false _ c.if-not-c.false)))
 
 pub returns : goal.returns
 returns c =

@@ -43,7 +43,7 @@ loop-i-preserved-then-c-eq0 c =
       omega arith,
       omega (arith, l.invariant.4),
       walk_skips a.first a.seen a.kept.now (seen_of a.table.now a.arena.now a.t (held_by a.o))
-          (entries_of (image_in a.arena.now a.t) (held_by a.o)) l.i l.s l.auto l.invariant.5
+          (entries_of (image_in a.arena.now a.t) (held_by a.o)) l.i l.s l.kept l.invariant.5
           (omega (arith, l.invariant.1, c.loop-i-test.true))
           (sym
           (ap (λ (c : Copy). c.size)
@@ -67,11 +67,11 @@ returns-then-crosses_kept c =
       omega (arith, l.invariant.3, l.invariant.2),
       l.invariant.0,
       walk_stops a.first a.seen a.kept.now (seen_of a.table.now a.arena.now a.t (held_by a.o))
-          (entries_of (image_in a.arena.now a.t) (held_by a.o)) l.i l.s l.auto l.invariant.5
+          (entries_of (image_in a.arena.now a.t) (held_by a.o)) l.i l.s l.kept l.invariant.5
           (omega (arith, l.invariant.1, c.loop-i-test.true)) c.copy_of-c.result
           (c.copy_of-c.ensures ∙ ap (seen_of a.table.now a.arena.now a.t (held_by a.o)) c.entry_at.ensures)
           c.if-c-eq0.false (c.smaller.ensures ∙ ap (λ (n : ℕ). min n round) c.monus.ensures) c.crosses_kept.ensures c.if-crosses_kept.true
-          l.auto,
+          l.kept,
     )
 
 pub keep_copy-requires : goal.keep_copy-requires
@@ -96,7 +96,7 @@ loop-i-preserved c =
       omega (arith, c.loop-i-test.true),
       omega (arith, l.invariant.4),
       walk_goes a.first a.seen a.kept.now (seen_of a.table.now a.arena.now a.t (held_by a.o))
-          (entries_of (image_in a.arena.now a.t) (held_by a.o)) l.i l.s l.auto l.invariant.5
+          (entries_of (image_in a.arena.now a.t) (held_by a.o)) l.i l.s l.kept l.invariant.5
           (omega (arith, l.invariant.1, c.loop-i-test.true)) c.copy_of-c.result
           (c.copy_of-c.ensures ∙ ap (seen_of a.table.now a.arena.now a.t (held_by a.o)) c.entry_at.ensures)
           c.if-c-eq0.false (c.smaller.ensures ∙ ap (λ (n : ℕ). min n round) c.monus.ensures) c.crosses_kept.ensures c.if-crosses_kept.false
@@ -115,6 +115,6 @@ returns c =
       omega (arith, l.invariant.2),
       l.invariant.0,
       walk_ends a.first a.seen a.kept.now (seen_of a.table.now a.arena.now a.t (held_by a.o))
-          (entries_of (image_in a.arena.now a.t) (held_by a.o)) l.i l.s _ l.auto l.invariant.5
+          (entries_of (image_in a.arena.now a.t) (held_by a.o)) l.i l.s _ l.kept l.invariant.5
           (omega (arith, l.invariant.1, c.loop-i-test.false)),
     )

@@ -36,10 +36,10 @@ returns-then-s c =
       c.scan_at-s.ensures.2,
       λ r.
           scan_stops a.table.now (inputs_in a.bytes.now a.parts) a.arena.now (take a.order.count a.order.list) a.first
-          l.i l.seen l.auto (l.invariant.4 r)
+          l.i l.seen l.kept (l.invariant.4 r)
           (omega (arith, take_long a.order.list a.order.count l.invariant.1, c.loop-i-test.true)) c.scan_at-s.result _
           (walk_here a.table.now (inputs_in a.bytes.now a.parts) a.arena.now a.order.list a.order.count l.i l.invariant.1
-          c.loop-i-test.true a.first l.seen l.auto _ c.scan_at-s.result c.file_of-file.ensures c.scan_at-s.ensures.3 r)
+          c.loop-i-test.true a.first l.seen l.kept _ c.scan_at-s.result c.file_of-file.ensures c.scan_at-s.ensures.3 r)
           c.if-s.true,
     )
 
@@ -57,10 +57,10 @@ loop-i-preserved c =
       omega (arith, c.scan_at-s.ensures.0, l.invariant.3),
       λ r.
           scan_goes a.table.now (inputs_in a.bytes.now a.parts) a.arena.now (take a.order.count a.order.list) a.first
-          l.i l.seen l.auto (l.invariant.4 r)
+          l.i l.seen l.kept (l.invariant.4 r)
           (omega (arith, take_long a.order.list a.order.count l.invariant.1, c.loop-i-test.true)) c.scan_at-s.result _
           (walk_here a.table.now (inputs_in a.bytes.now a.parts) a.arena.now a.order.list a.order.count l.i l.invariant.1
-          c.loop-i-test.true a.first l.seen l.auto _ c.scan_at-s.result c.file_of-file.ensures c.scan_at-s.ensures.3 r)
+          c.loop-i-test.true a.first l.seen l.kept _ c.scan_at-s.result c.file_of-file.ensures c.scan_at-s.ensures.3 r)
           c.if-s.false,
     )
 
@@ -77,6 +77,6 @@ returns c =
       l.invariant.0,
       λ r.
           scan_ends a.table.now (inputs_in a.bytes.now a.parts) a.arena.now (take a.order.count a.order.list) a.first
-          l.i _ l.seen l.auto (l.invariant.4 r)
+          l.i _ l.seen l.kept (l.invariant.4 r)
           (omega (arith, take_long a.order.list a.order.count l.invariant.1, c.loop-i-test.false)),
     )

@@ -44,7 +44,7 @@ loop-k-preserved c =
       c.loop-k.invariant.1,
       load_turn (setting_at a.address) (inputs_in a.bytes.now a.parts) a.arena.now c.loop-k.arena c.loop-k.table c.loop-k.free c.loop-k.k c.loop-k.invariant.2 (omega (arith, c.loop-k.invariant.1)) c.load_next-p.new.arena c.load_next-p.result
           (rw c.file_of-file.ensures at c.load_next-p.ensures) c.in-At.s c.in-At.is c.load_next-p.auto.arena _
-          (c.put_link.ensures.back.0 (omega (arith, c.requires.0, room))) c.put_link.ensures.back.1.0 (c.put_link.ensures.back.1.1 (omega (arith, c.requires.0, room))),
+          (c.put_link.ensures.back (omega (arith, c.requires.0, room))) c.put_link.ensures.others (c.put_link.ensures.filtered (omega (arith, c.requires.0, room))),
     )
 
 pub overflow_sub-arena : goal.overflow_sub-arena

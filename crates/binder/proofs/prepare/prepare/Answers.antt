@@ -37,5 +37,5 @@ pub returns : goal.returns
 returns c =
     prepare_loads (setting_at c.args.address) c.args.types (inputs_in c.args.bytes.now c.args.parts) c.args.arena.now
     (sym c.arena_ok.ensures ∙ c.if-not-arena_ok.false) c.in-Passed.is (sym c.duplicate-t.ensures.0 ∙ c.if-t-ne0.false) _ _ _ _ c.load_all-m.ensures (omega (arith, c.requires.0, c.requires.1))
-    (c.put_set.ensures.said.0 ∙ sym c.requires.1) c.put_set.ensures.said.1 c.put_set.ensures.links.0
-    (λ before. c.put_set.ensures.links.1 (λ k l. before k (omega (arith, c.requires.1))))
+    (c.put_set.ensures.said.0 ∙ sym c.requires.1) c.put_set.ensures.said.1 c.put_set.ensures.links
+    (λ before. c.put_set.ensures.filtered (λ k l. before k (omega (arith, c.requires.1))))

@@ -30,6 +30,5 @@ shape_of-arena c = c.copy_found.auto.arena
 pub returns : goal.returns
 returns c =
     let a = c.args in
-    let g = c.s-1.given in
     copying_sought a.table.now a.t (held_by a.o) a.e a.i a.p a.arena.now a.report.now c.symbol_of-c.ensures c.in-Checked.is c.bounds_of-b.ensures.segments c.search_copy-s.ensures
-    (copy_there a.table.now a.t _ a.e a.i c.in-Checked.y a.p a.arena.now a.report.now g.0.0 g.0.1.0 g.0.1.1.0 g.1 c.smaller-n.ensures c.link_at-link.ensures c.copy_found.ensures)
+    (copy_there a.table.now a.t _ a.e a.i c.in-Checked.y a.p a.arena.now a.report.now c.in-Found.object c.in-Found.definition c.in-Found.address c.in-Found.is c.smaller-n.ensures c.link_at-link.ensures c.copy_found.ensures)

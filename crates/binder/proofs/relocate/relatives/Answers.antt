@@ -35,14 +35,14 @@ loop-i-preserved c =
     let a = c.args in
     let l = c.loop-i in
     let s = c.store_in in (
-      s.auto.0 ∙ l.invariant.0,
+      s.auto.s ∙ l.invariant.0,
       omega (arith, l.invariant.1),
       omega (arith, c.loop-i-test.true),
       omega (arith, l.invariant.3),
       l.invariant.4,
       l.invariant.5,
       l.invariant.6,
-      relatives_next a.base a.at a.low a.high a.start l.i a.part.now l.part s.new.0 l.invariant.1 l.invariant.7
+      relatives_next a.base a.at a.low a.high a.start l.i a.part.now l.part s.new.s l.invariant.1 l.invariant.7
           (relative_written a.base a.at a.low a.high l.i l.part l.invariant.3 c.u32_in.ensures c.if-u32_in-ne8.false c.u64_in-place.ensures (omega (arith, c.if-place-low.false)) (omega (arith, c.if-last-place.false, l.invariant.5)) c.u64_in.ensures c.sum_u64-v.ensures s.ensures),
     )
 

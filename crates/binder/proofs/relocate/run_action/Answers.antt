@@ -15,7 +15,7 @@ shape_of-report-in-Passed c =
 pub returns-in-Passed : goal.returns-in-Passed
 unfolding run_action
 returns-in-Passed c =
-    rw (← c.action_at-a.ensures, c.in-Passed.is, ← c.wrapping_add_u32.ensures) (ap (with_arena _) c.note.ensures)
+    rw (← c.action_at-a.ensures, c.in-Passed.is, ← c.wrapping_add_u32.ensures.value) (ap (with_arena _) c.note.ensures)
 
 pub returns-in-Irelative : goal.returns-in-Irelative
 unfolding run_action

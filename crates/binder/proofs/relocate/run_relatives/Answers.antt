@@ -32,5 +32,5 @@ returns c =
       s.ensures.0,
       s.ensures.1,
       relatives_passed a.table.now (c.applies_relative.ensures (c.if-not-applies_relative.false)) a.t a.at a.n a.low a.high g.entries
-          a.start s.result a.arena.now s.new.0 s.ensures.0 s.ensures.1 (omega (arith, g.span)) s.ensures.2,
+          a.start s.result a.arena.now s.new.part s.ensures.0 s.ensures.1 (omega (arith, g.span)) s.ensures.2,
     )

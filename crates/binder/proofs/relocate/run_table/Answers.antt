@@ -9,22 +9,6 @@ use Rattle.binder.proofs.KeptLaws.{kept_symbols, entry_kept}
 use Rattle.binder.proofs.RunLaws.{entries_left, entry_stops, entry_goes, entries_end}
 use Rattle.binder.proofs.relocate.run_table.Goals as goal
 
--- after the runs: what is left from the entry that they stopped at comes to what the whole does, and the symbols are as they were
-passed :
-    (c : tie.After-keep invariant-loop decreases-loop)
-    → let a = c.before.before.before.before.before.before.before.before.before.before.before.before.before.before.before.before.before.args in
-    let g = c.before.before.before.symbolics in
-    (entries_left a.table.now a.t (held_by a.o) a.x.at a.x.first a.x.count g.result.next (left c.keep.result g.new.0 c.before.before.before.before.before.before.before.before.before.before.loop.report)
-    ≡ run_table a.table.now a.t (held_by a.o) a.x.at a.x.first a.x.count 0 (left a.p a.arena.now a.report.now))
-    × SymbolsOf a.t (held_by a.o) c.before.before.before.before.before.before.before.before.before.before.before.symbols-of.result g.new.0
-passed c =
-    let a = c.before.before.before.before.before.before.before.before.before.before.before.before.before.before.before.before.before.args in
-    let l = c.before.before.before.before.before.before.before.before.before.before.loop in
-    let f = c.before.before.before.before.before.before.before.run-relatives in
-    let g = c.before.before.before.symbolics in
-    rw c.keep.ensures
-    (runs_passed a.table.now a.t (held_by a.o) c.before.before.before.before.before.before.before.before.before.before.before.symbols-of.result a.x.at a.x.first a.x.count l.w.low l.w.high l.q l.arena f.new.0 g.new.0 l.report l.i f.result g.result f.ensures.2 g.ensures.2 (rw c.before.before.before.before.before.before.before.before.before.before.before.before.before.bounds_of.ensures.segments at l.invariant.3) l.invariant.4 l.invariant.5 l.invariant.6)
-
 pub loop-i-init : goal.loop-i-init
 loop-i-init c = (refl, refl, omega arith, range_none _, λ h. absurd (omega arith), c.symbols_of-y.ensures, rw sub-zero)
 
@@ -42,8 +26,18 @@ shape_of-report-then-n-j c = c.loop-i.invariant.1
 
 pub returns-then-n-j : goal.returns-then-n-j
 returns-then-n-j c =
+    let passed :
+        (entries_left c.args.table.now c.args.t (held_by c.args.o) c.args.x.at c.args.x.first c.args.x.count c.symbolics-r.result.next (left c.keep-q.result c.symbolics-r.new.arena c.loop-i.report)
+        ≡ run_table c.args.table.now c.args.t (held_by c.args.o) c.args.x.at c.args.x.first c.args.x.count 0 (left c.args.p c.args.arena.now c.args.report.now))
+        × SymbolsOf c.args.t (held_by c.args.o) c.symbols_of-y.result c.symbolics-r.new.arena =
+        let a = c.args in
+        let l = c.loop-i in
+        let f = c.run_relatives in
+        let g = c.symbolics-r in
+        rw c.keep-q.ensures
+        (runs_passed a.table.now a.t (held_by a.o) c.symbols_of-y.result a.x.at a.x.first a.x.count l.w.low l.w.high l.q l.arena f.new.arena g.new.arena l.report l.i f.result g.result f.ensures.2 g.ensures.2 (rw c.bounds_of-b.ensures.segments at l.invariant.3) l.invariant.4 l.invariant.5 l.invariant.6) in
     let a = c.args in
-    entries_end a.table.now a.t (held_by a.o) a.x.at a.x.first a.x.count c.symbolics-r.result.next c.if-n-j.true (passed c).0
+    entries_end a.table.now a.t (held_by a.o) a.x.at a.x.first a.x.count c.symbolics-r.result.next c.if-n-j.true passed.0
 
 pub run_action-q-requires : goal.run_action-q-requires
 run_action-q-requires c = c.requires
@@ -56,12 +50,22 @@ shape_of-report-then-q-ne0 c = c.run_action-q.auto.report ∙ c.loop-i.invariant
 
 pub returns-then-q-ne0 : goal.returns-then-q-ne0
 returns-then-q-ne0 c =
+    let passed :
+        (entries_left c.args.table.now c.args.t (held_by c.args.o) c.args.x.at c.args.x.first c.args.x.count c.symbolics-r.result.next (left c.keep-q.result c.symbolics-r.new.arena c.loop-i.report)
+        ≡ run_table c.args.table.now c.args.t (held_by c.args.o) c.args.x.at c.args.x.first c.args.x.count 0 (left c.args.p c.args.arena.now c.args.report.now))
+        × SymbolsOf c.args.t (held_by c.args.o) c.symbols_of-y.result c.symbolics-r.new.arena =
+        let a = c.args in
+        let l = c.loop-i in
+        let f = c.run_relatives in
+        let g = c.symbolics-r in
+        rw c.keep-q.ensures
+        (runs_passed a.table.now a.t (held_by a.o) c.symbols_of-y.result a.x.at a.x.first a.x.count l.w.low l.w.high l.q l.arena f.new.arena g.new.arena l.report l.i f.result g.result f.ensures.2 g.ensures.2 (rw c.bounds_of-b.ensures.segments at l.invariant.3) l.invariant.4 l.invariant.5 l.invariant.6) in
     let a = c.args in
     let l = c.loop-i in
     let g = c.symbolics-r in
     let k = c.run_action-q in
-    entry_stops a.table.now a.t (held_by a.o) a.x.at a.x.first a.x.count g.result.next c.keep-q.result g.new.0 l.report {b = k.new.0} {noted = k.new.1.0}
-    (omega (arith, c.if-n-j.false)) c.rela_in-e.ensures refl c.wrapping_add_u32-number.ensures k.ensures (passed c).0 c.if-q-ne0.true
+    entry_stops a.table.now a.t (held_by a.o) a.x.at a.x.first a.x.count g.result.next c.keep-q.result g.new.arena l.report {b = k.new.arena} {noted = k.new.report}
+    (omega (arith, c.if-n-j.false)) c.rela_in-e.ensures refl c.wrapping_add_u32-number.ensures.value k.ensures passed.0 c.if-q-ne0.true
 
 pub range_after-w-requires : goal.range_after-w-requires
 range_after-w-requires c = c.loop-i.invariant.3
@@ -74,20 +78,30 @@ loop-i-smaller c = omega (arith, c.run_relatives.ensures.0, c.symbolics-r.ensure
 
 pub loop-i-preserved : goal.loop-i-preserved
 loop-i-preserved c =
+    let passed :
+        (entries_left c.args.table.now c.args.t (held_by c.args.o) c.args.x.at c.args.x.first c.args.x.count c.symbolics-r.result.next (left c.keep-q.result c.symbolics-r.new.arena c.loop-i.report)
+        ≡ run_table c.args.table.now c.args.t (held_by c.args.o) c.args.x.at c.args.x.first c.args.x.count 0 (left c.args.p c.args.arena.now c.args.report.now))
+        × SymbolsOf c.args.t (held_by c.args.o) c.symbols_of-y.result c.symbolics-r.new.arena =
+        let a = c.args in
+        let l = c.loop-i in
+        let f = c.run_relatives in
+        let g = c.symbolics-r in
+        rw c.keep-q.ensures
+        (runs_passed a.table.now a.t (held_by a.o) c.symbols_of-y.result a.x.at a.x.first a.x.count l.w.low l.w.high l.q l.arena f.new.arena g.new.arena l.report l.i f.result g.result f.ensures.2 g.ensures.2 (rw c.bounds_of-b.ensures.segments at l.invariant.3) l.invariant.4 l.invariant.5 l.invariant.6) in
     let a = c.args in
     let l = c.loop-i in
     let f = c.run_relatives in
     let g = c.symbolics-r in
     let k = c.run_action-q in
-    let x = passed c in (
-      k.auto.0 ∙ (g.auto.0 ∙ (f.auto.0 ∙ l.invariant.0)),
-      k.auto.1.0 ∙ l.invariant.1,
+    let x = passed in (
+      k.auto.arena ∙ (g.auto.arena ∙ (f.auto.arena ∙ l.invariant.0)),
+      k.auto.report ∙ l.invariant.1,
       omega (arith, c.if-n-j.false),
       c.range_after-w.ensures,
       λ h. c.if-q-ne0.false,
-      kept_symbols a.t (held_by a.o) c.symbols_of-y.result g.new.0 k.new.0 (entry_kept a.t (held_by a.o) a.table.now c.wrapping_add_u32-number.result c.rela_in-e.result c.keep-q.result g.new.0 l.report (row_at a.table.now c.rela_in-e.result.rtype) k.result k.new.0 k.new.1.0 k.ensures) x.1,
-      entry_goes a.table.now a.t (held_by a.o) a.x.at a.x.first a.x.count g.result.next c.keep-q.result g.new.0 l.report {b = k.new.0} {noted = k.new.1.0}
-          (omega (arith, c.if-n-j.false)) c.rela_in-e.ensures refl c.wrapping_add_u32-number.ensures k.ensures x.0 c.if-q-ne0.false,
+      kept_symbols a.t (held_by a.o) c.symbols_of-y.result g.new.arena k.new.arena (entry_kept a.t (held_by a.o) a.table.now c.wrapping_add_u32-number.result c.rela_in-e.result c.keep-q.result g.new.arena l.report (row_at a.table.now c.rela_in-e.result.rtype) k.result k.new.arena k.new.report k.ensures) x.1,
+      entry_goes a.table.now a.t (held_by a.o) a.x.at a.x.first a.x.count g.result.next c.keep-q.result g.new.arena l.report {b = k.new.arena} {noted = k.new.report}
+          (omega (arith, c.if-n-j.false)) c.rela_in-e.ensures refl c.wrapping_add_u32-number.ensures.value k.ensures x.0 c.if-q-ne0.false,
     )
 
 pub shape_of-arena : goal.shape_of-arena

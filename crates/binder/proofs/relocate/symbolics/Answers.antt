@@ -6,18 +6,6 @@ use Rattle.binder.proofs.LoopLaws.{counts_down}
 use Rattle.binder.specs.Steps.RunSteps.{EntryHere}
 use Rattle.binder.proofs.relocate.symbolics.Goals as goal
 
--- the entry was read
-here_in :
-    (c : tie.After-known-told invariant-loop decreases-loop)
-    → let a = c.before.before.before.before.before.before.before.before.before.before.before.before.before.before.before.before.args in
-    let l = c.before.before.before.before.before.before.before.loop in
-    let e = c.before.e.given in
-    EntryHere a.table.now l.arena a.t a.y l.k a.w.low a.w.high e.0.0 e.0.1.0 e.0.1.1.0 e.0.1.1.1.0 e.0.1.1.1.1.0
-here_in c =
-    let a = c.before.before.before.before.before.before.before.before.before.before.before.before.before.before.before.before.args in
-    let l = c.before.before.before.before.before.before.before.loop in
-    subst (EntryRead a.table.now l.arena a.t a.y l.k a.w.low a.w.high) c.before.e.given.1 c.before.before.before.symbol-entry.ensures
-
 pub returns-then-not-in_reach : goal.returns-then-not-in_reach
 returns-then-not-in_reach c =
     (omega arith, c.requires.0, λ r _ _ _ _ _ _. (refl, kept_none _ r _))
@@ -68,11 +56,15 @@ returns-in_default-a c =
 
 pub overflow_add-t : goal.overflow_add-t
 overflow_add-t c =
-    let l = c.loop-p in let g = l.invariant.4 in let h = here_in c in search (rules, g.span, g.inside, h.below, l.invariant.0, c.well_formed.0)
+    let here_in : EntryHere c.args.table.now c.loop-p.arena c.args.t c.args.y c.loop-p.k c.args.w.low c.args.w.high c.in-Here.field c.in-Here.place c.in-Here.index c.in-Here.name c.in-Here.addend =
+        subst (EntryRead c.args.table.now c.loop-p.arena c.args.t c.args.y c.loop-p.k c.args.w.low c.args.w.high) c.in-Here.is c.symbol_entry-e.ensures in
+    let l = c.loop-p in let g = l.invariant.4 in let h = here_in in search (rules, g.span, g.inside, h.below, l.invariant.0, c.well_formed.0)
 
 pub store_in-requires : goal.store_in-requires
 store_in-requires c =
-    let l = c.loop-p in let g = l.invariant.4 in let h = here_in c in search (rules, g.span, g.inside, h.below, l.invariant.0, c.well_formed.0)
+    let here_in : EntryHere c.args.table.now c.loop-p.arena c.args.t c.args.y c.loop-p.k c.args.w.low c.args.w.high c.in-Here.field c.in-Here.place c.in-Here.index c.in-Here.name c.in-Here.addend =
+        subst (EntryRead c.args.table.now c.loop-p.arena c.args.t c.args.y c.loop-p.k c.args.w.low c.args.w.high) c.in-Here.is c.symbol_entry-e.ensures in
+    let l = c.loop-p in let g = l.invariant.4 in let h = here_in in search (rules, g.span, g.inside, h.below, l.invariant.0, c.well_formed.0)
 
 pub overflow_add-p : goal.overflow_add-p
 overflow_add-p c =
@@ -88,18 +80,20 @@ loop-p-smaller c =
 
 pub loop-p-preserved : goal.loop-p-preserved
 loop-p-preserved c =
+    let here_in : EntryHere c.args.table.now c.loop-p.arena c.args.t c.args.y c.loop-p.k c.args.w.low c.args.w.high c.in-Here.field c.in-Here.place c.in-Here.index c.in-Here.name c.in-Here.addend =
+        subst (EntryRead c.args.table.now c.loop-p.arena c.args.t c.args.y c.loop-p.k c.args.w.low c.args.w.high) c.in-Here.is c.symbol_entry-e.ensures in
     let a = c.args in
     let l = c.loop-p in
     let g = l.invariant.4 in
     let s = c.store_in in
-    let h = here_in c in (
-      s.auto.0 ∙ l.invariant.0,
+    let h = here_in in (
+      s.auto.s ∙ l.invariant.0,
       omega (arith, l.invariant.1),
       omega (arith, c.loop-p-test.true),
       omega (arith, l.invariant.3),
       g,
       l.invariant.5,
-      symbolic_turn a.table.now a.t a.y a.at a.n a.w.low a.w.high l.p l.arena {found = c.in-At.found} {b = s.new.0} c.loop-p-test.true g.entries l.invariant.5 l.invariant.3
+      symbolic_turn a.table.now a.t a.y a.at a.n a.w.low a.w.high l.p l.arena {found = c.in-At.found} {b = s.new.s} c.loop-p-test.true g.entries l.invariant.5 l.invariant.3
           h refl
           (sym c.in-At.is ∙ c.address_of-a.ensures) (rw (← c.value_of-v.ensures) s.ensures) a.s a.arena.now l.invariant.6,
     )

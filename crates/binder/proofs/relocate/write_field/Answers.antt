@@ -18,7 +18,7 @@ half_width Direct32S ne = refl
 pub returns-then-not-fits : goal.returns-then-not-fits
 unfolding field_of
 returns-then-not-fits c =
-    rw (← c.value_of-v.ensures, ← c.fits2.ensures, c.if-not-fits.true, c.refused.ensures)
+    rw (← c.value_of-v.ensures, ← c.fits.ensures, c.if-not-fits.true, c.refused.ensures)
 
 pub shape_of-arena-then-width_of-eq8 : goal.shape_of-arena-then-width_of-eq8
 shape_of-arena-then-width_of-eq8 c =
@@ -27,7 +27,7 @@ shape_of-arena-then-width_of-eq8 c =
 pub returns-then-width_of-eq8 : goal.returns-then-width_of-eq8
 unfolding field_of
 returns-then-width_of-eq8 c =
-    rw (← c.value_of-v.ensures, ← c.fits2.ensures, c.if-not-fits.false, ← c.width_of.ensures, c.if-width_of-eq8.true, c.write_word.ensures)
+    rw (← c.value_of-v.ensures, ← c.fits.ensures, c.if-not-fits.false, ← c.width_of.ensures, c.if-width_of-eq8.true, c.write_word.ensures)
 
 pub shape_of-arena : goal.shape_of-arena
 shape_of-arena c =
@@ -36,4 +36,4 @@ shape_of-arena c =
 pub returns : goal.returns
 unfolding field_of
 returns c =
-    rw (← c.value_of-v.ensures, ← c.fits2.ensures, c.if-not-fits.false, half_width _ (λ e. c.if-width_of-eq8.false (c.width_of.ensures ∙ e)), c.write_half.ensures)
+    rw (← c.value_of-v.ensures, ← c.fits.ensures, c.if-not-fits.false, half_width _ (λ e. c.if-width_of-eq8.false (c.width_of.ensures ∙ e)), c.write_half.ensures)

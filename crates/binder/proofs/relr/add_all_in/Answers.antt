@@ -10,7 +10,7 @@ pub loop-n-preserved : goal.loop-n-preserved
 loop-n-preserved c =
     let l = c.loop-n in
     let s = c.add_word_in in (
-      s.auto.0 ∙ l.invariant.0,
+      s.auto.part ∙ l.invariant.0,
       omega arith,
       omega arith,
       l.invariant.3,

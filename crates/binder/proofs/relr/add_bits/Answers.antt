@@ -1,9 +1,9 @@
-use Rattle.std.proofs.Common.{◌≡◌, ◌+◌, ◌-◌, ◌*◌, ◌/◌, ◌%◌, ◌<◌, ◌≤◌, true, length, take, sym, refl, ap, ◌∙◌, ⊎_elim, arith}
-use borrow.Author.Tests.{not-false}
+use Rattle.std.proofs.Common.{◌≡◌, ◌+◌, ◌-◌, ◌*◌, ◌/◌, ◌%◌, ◌<◌, ◌≤◌, true, length, take, sym, refl, ap, ◌∙◌, arith}
 use Rattle.object.specs.TableBytes.{in_writable}
 use Rattle.binder.specs.Steps.Relocating.{add_bits}
 use Rattle.binder.proofs.BitLaws.{bit_0, bit_1, refused, none}
 use Rattle.binder.proofs.relr.add_bits.Goals as goal
+use Rattle.binder.proofs.relr.add_bits.Goals.{then-left-eq1+else-not-in_writable, else-left-eq1}
 
 pub loop-n-init : goal.loop-n-init
 loop-n-init c = (refl, omega arith, omega arith, refl)
@@ -23,23 +23,23 @@ loop-n-preserved c =
     let a = c.args in
     let l = c.loop-n in
     let ss = take a.b.count a.b.segments in
-    ⊎_elim
-    (λ w. (
-      ap length w.7 ∙ (w.4.kept.0 ∙ l.invariant.0),
-      omega arith,
-      omega arith,
-      ap (add_bits a.base ss (l.n - 1) (l.p + 8) (l.left / 2)) (w.7 ∙ w.4.ensures)
-          ∙ (sym (bit_1 a.base ss l.n l.p l.left l.part (omega arith) w.0.taken (sym w.1.ensures ∙ not-false _ w.2.left))
-          ∙ l.invariant.3),
-    ))
-    (λ w. (
-      ap length w.1 ∙ l.invariant.0,
-      omega arith,
-      omega arith,
-      ap (add_bits a.base ss (l.n - 1) (l.p + 8) (l.left / 2)) w.1
-          ∙ (sym (bit_0 a.base ss l.n l.p l.left l.part (omega arith) w.0.left) ∙ l.invariant.3),
-    ))
-    c.if-left-eq1.branch
+    elim c.if-left-eq1.branch [
+      then-left-eq1+else-not-in_writable w ↦ (
+        ap length w.part-is ∙ (w.add_word.auto.part ∙ l.invariant.0),
+        omega arith,
+        omega arith,
+        ap (add_bits a.base ss (l.n - 1) (l.p + 8) (l.left / 2)) (w.part-is ∙ w.add_word.ensures)
+            ∙ (sym (bit_1 a.base ss l.n l.p l.left l.part (omega arith) w.if-left-eq1.true (sym w.in_writable.ensures ∙ w.if-not-in_writable.false))
+            ∙ l.invariant.3),
+      )
+      | else-left-eq1 w ↦ (
+        ap length w.part-is ∙ l.invariant.0,
+        omega arith,
+        omega arith,
+        ap (add_bits a.base ss (l.n - 1) (l.p + 8) (l.left / 2)) w.part-is
+            ∙ (sym (bit_0 a.base ss l.n l.p l.left l.part (omega arith) w.if-left-eq1.false) ∙ l.invariant.3),
+      )
+    ]
 
 pub shape_of-part : goal.shape_of-part
 shape_of-part c = c.loop-n.invariant.0

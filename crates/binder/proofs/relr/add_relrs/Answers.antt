@@ -37,9 +37,10 @@ module _ (t : Turn) (r : Record) (n i location : ℕ) (a : List ℕ) (h : i < n)
       {ss : List Segment} {w : ℕ} {e : Relr} {s : Shifted} → r.segments ≡ ss → w ≡ relr_at (take t.span a) r.relr i → e ≡ relr_of w → s ≡ add_relr t.base ss location e a
       → add_relrs t r (n - i) i location a ≡ then_relr (add_relrs t r (n - (i + 1)) (i + 1)) s
   unfolding add_relrs
-  turn same rd is g =
+  turn {e = e} {s = s} same rd is g =
       let z : n - i ≡ suc (n - (i + 1)) = omega arith in
-      rw (z, g, is, rd, same) refl
+      let f : s ≡ add_relr t.base r.segments location e a = g ∙ ap (λ (x : List Segment). add_relr t.base x location e a) (sym same) in
+      rw (z, f, is, rd) refl
 
 none : (t : Turn) (r : Record) (n i location : ℕ) (a : List ℕ) → n ≤ 0 → add_relrs t r n i location a ≡ summed 0 a
 unfolding add_relrs
@@ -73,7 +74,7 @@ loop-i-preserved c =
     let l = c.loop-i in
     let m = c.add_relr-m in
     let n = c.cut_to_32-n.result in (
-      m.auto.0 ∙ l.invariant.0,
+      m.auto.part ∙ l.invariant.0,
       omega arith,
       subst (λ (s : Shifted). location_of s ≤ far) (sym m.ensures) (still_near a.t.base _ l.location l.invariant.2 _ l.part),
       λ r same at.

@@ -7,4 +7,4 @@ pub returns : goal.returns
 returns c =
     let a = c.args in
     let s = c.add_relrs in
-    relrs_in a.t (held_by a.o) a.arena.now s.new.0 s.result c.smaller-off.ensures s.ensures
+    relrs_in a.t (held_by a.o) a.arena.now s.new.part s.result c.smaller-off.ensures s.ensures

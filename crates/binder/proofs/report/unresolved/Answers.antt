@@ -14,4 +14,4 @@ shape_of-report c = c.note-q.auto.report
 pub returns : goal.returns
 unfolding unresolved_of
 returns c =
-    rw (← c.binding.ensures, ne_eqb _ _ c.if-binding-eq2.false, ← c.wrapping_add_u32.ensures, ← c.note-q.ensures, c.mark_undefined.ensures)
+    rw (← c.binding.ensures, ne_eqb _ _ c.if-binding-eq2.false, ← c.wrapping_add_u32.ensures.value, ← c.note-q.ensures, c.mark_undefined.ensures)
