@@ -24,8 +24,8 @@ loop-i-preserved c =
     let l = c.loop-i in
     let p = c.put_word-at in
     let rest = hex_lines (name_at c.args.report.now (l.i + 1)) in (
-      p.auto.0 ∙ l.invariant.0,
-      omega (arith, p.auto.0, next_place l.out l.at (hex_line (get_or c.args.report.now l.i 0)) p.ensures),
+      p.auto.out ∙ l.invariant.0,
+      omega (arith, p.auto.out, next_place l.out l.at (hex_line (get_or c.args.report.now l.i 0)) p.ensures),
       omega arith,
       ap (λ (s : Written). print s rest) p.ensures ∙ print_join (written l.out l.at) (hex_line (get_or c.args.report.now l.i 0)) rest
           ∙ rw (name_more c.args.report.now l.i (omega arith) c.if-w-eq0.false) at l.invariant.3,

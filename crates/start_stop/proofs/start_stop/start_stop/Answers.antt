@@ -41,19 +41,19 @@ list_set-l-requires c =
 
 pub shape_of-arena : goal.shape_of-arena
 shape_of-arena c =
-    c.finish-2.auto.arena ∙ c.List-set_of_Decides.auto.1.1.0
+    c.finish-2.auto.arena ∙ c.list_set-l.auto.arena
 
 pub shape_of-report : goal.shape_of-report
 shape_of-report c =
-    c.finish-2.auto.report ∙ c.List-set_of_Decides.auto.1.1.1.1.1.1.0 ∙ c.clear_words.auto.s
+    c.finish-2.auto.report ∙ c.list_set-l.auto.report ∙ c.clear_words.auto.s
 
 pub shape_of-start : goal.shape_of-start
 shape_of-start c =
-    c.finish-2.auto.start ∙ c.List-set_of_Decides.auto.1.1.1.1.1.1.1.0 ∙ c.clear_addresses.auto.list
+    c.finish-2.auto.start ∙ c.list_set-l.auto.start ∙ c.clear_addresses.auto.list
 
 pub shape_of-stop : goal.shape_of-stop
 shape_of-stop c =
-    c.finish-2.auto.stop ∙ c.List-set_of_Decides.auto.1.1.1.1.1.1.1.1.0 ∙ c.clear_addresses-2.auto.list
+    c.finish-2.auto.stop ∙ c.list_set-l.auto.stop ∙ c.clear_addresses-2.auto.list
 
 pub returns : goal.returns
 returns c =
@@ -62,5 +62,5 @@ returns c =
     let ws : length c.clear_addresses.new.list ≡ length a.start.now = c.clear_addresses.auto.list in
     let wt : length c.clear_addresses-2.new.list ≡ length a.stop.now = c.clear_addresses-2.auto.list in
     c.finish-2.ensures
-    ∙ (rw (wr, ws, wt) at c.List-set_of_Decides.ensures
+    ∙ (rw (wr, ws, wt) at c.list_set-l.ensures
     ∙ sheet_listed (setting_of a.address a.types.now) a.sheet.now a.bytes.now (length a.arena.now) _ c.parts_of-parts.ensures a.policy (length a.report.now) (length a.start.now) (length a.stop.now) (omega (arith, c.if-parts-lt2.false)))
