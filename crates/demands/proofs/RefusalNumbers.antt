@@ -1,5 +1,5 @@
 -- Which numbers and which objects refusals have. Assumes nothing.
-use mathlib.Core.Path.{◌≡◌, refl}
+use mathlib.Core.Path.{◌≡◌, refl, sym, ◌∙◌, subst}
 use mathlib.Core.Bool.{Bool, true, false}
 use mathlib.Core.Logic.{◌⊎◌, inl, inr, ⊎_elim, ◌≢◌}
 use mathlib.Core.List.{List, [], ◌∷◌, ◌++◌}
@@ -315,9 +315,13 @@ unfolding first_undefined
 first_undefined_lem row S files [] ne = absurd (ne refl)
 first_undefined_lem row S files (k ∷ ks) ne =
     ⊎_elim
-    (λ (t : has_undefined row S k (get_or files k no_file) ≡ true). rw t (has_head k ks))
+    (λ (t : has_undefined row S k (get_or files k no_file) ≡ true).
+    let f : first_undefined row S files (k ∷ ks) ≡ k = rw t in
+    subst (λ (x : ℕ). has x (k ∷ ks) ≡ true) (sym f) (has_head k ks))
     (λ (t : has_undefined row S k (get_or files k no_file) ≡ false).
-    rw t (has_cons (first_undefined row S files ks) k ks (first_undefined_lem row S files ks (rw t at ne))))
+    let f : first_undefined row S files (k ∷ ks) ≡ first_undefined row S files ks = rw t in
+    subst (λ (x : ℕ). has x (k ∷ ks) ≡ true) (sym f)
+    (has_cons (first_undefined row S files ks) k ks (first_undefined_lem row S files ks (λ e. ne (f ∙ e)))))
     (decide (has_undefined row S k (get_or files k no_file)))
 
 -- ---- 3: an object with a library before it, or none

@@ -4,14 +4,14 @@ use Rattle.export.proofs.store_reply.Goals as goal
 pub returns-in-Found : goal.returns-in-Found
 returns-in-Found c =
     let told = c.in-Found.is in
-    (rw told, rw told c.store.ensures)
+    record { value = rw told; answer_after = rw told c.store.ensures }
 
 pub returns-in-Absent : goal.returns-in-Absent
 returns-in-Absent c =
     let told = c.in-Absent.is in
-    (rw told, rw told c.store-in-Absent.ensures)
+    record { value = rw told; answer_after = rw told c.store-in-Absent.ensures }
 
 pub returns-in-Refused : goal.returns-in-Refused
 returns-in-Refused c =
     let told = c.in-Refused.is in
-    (rw told c.pack.ensures, rw told c.store-in-Refused.ensures)
+    record { value = rw told c.pack.ensures; answer_after = rw told c.store-in-Refused.ensures }
