@@ -253,7 +253,7 @@ copies_row_lem ignored h = bool_clash (sym h)
 copies_row_lem passed_over h = bool_clash (sym h)
 copies_row_lem turned_away h = bool_clash (sym h)
 copies_row_lem marked_refuse h = bool_clash (sym h)
-copies_row_lem (writes search f) h = bool_clash (sym h)
+copies_row_lem (writes sought f) h = bool_clash (sym h)
 copies_row_lem copies h = refl
 
 module _ (table a : List ℕ) (t : Turn) (r : Record) (e : Rela) where
@@ -263,7 +263,7 @@ module _ (table a : List ℕ) (t : Turn) (r : Record) (e : Rela) where
   no_copies_row passed_over h = refl
   no_copies_row turned_away h = refl
   no_copies_row marked_refuse h = refl
-  no_copies_row (writes search f) h = refl
+  no_copies_row (writes sought f) h = refl
   no_copies_row copies h = bool_clash h
 
   module _ {x : Row} (row : copies ≡ x) {c : CheckedSymbol} (check : c ≡ checked_symbol (image_in a t) r e.symbol) where

@@ -73,7 +73,7 @@ module _ (table a : List ℕ) (t : Turn) (r : Record) where
   not_copied e passed_over h = refl
   not_copied e turned_away h = refl
   not_copied e marked_refuse h = refl
-  not_copied e (writes search f) h = refl
+  not_copied e (writes sought f) h = refl
   not_copied e copies h = clash h
 
   -- no COPY entries, no copies
@@ -298,7 +298,7 @@ module _ (setting : Setting) (size : ℕ) (table : List ℕ) (h pr : File) (fs :
   within_row e passed_over some = absurd (some refl)
   within_row e turned_away some = absurd (some refl)
   within_row e marked_refuse some = absurd (some refl)
-  within_row e (writes search f) some = absurd (some refl)
+  within_row e (writes sought f) some = absurd (some refl)
   within_row e copies some = within_checked e (checked_symbol image r e.symbol) refl some
 
   -- the program's copies lie in its claims

@@ -138,7 +138,7 @@ module _ (setting : Setting) (size : ℕ) (table : List ℕ) (h pr : File) (fs :
       by_row e passed_over z = refl
       by_row e turned_away z = refl
       by_row e marked_refuse z = refl
-      by_row e (writes search g) z = refl
+      by_row e (writes sought g) z = refl
       by_row e copies z =
           rw image_is (checked e (checked_symbol image r e.symbol) refl z)
 

@@ -40,7 +40,7 @@ copy_by S k image r e ignored = []
 copy_by S k image r e passed_over = []
 copy_by S k image r e turned_away = []
 copy_by S k image r e marked_refuse = []
-copy_by S k image r e (writes search f) = []
+copy_by S k image r e (writes sought f) = []
 copy_by S k image r e copies =
     copy_found S k e.place (symbol_at image r.symbols e.symbol).size (resolve_copy S (wanted_by image r e.symbol))
 

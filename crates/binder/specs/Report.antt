@@ -44,7 +44,7 @@ is_passed ignored = false
 is_passed passed_over = true
 is_passed turned_away = false
 is_passed marked_refuse = false
-is_passed (writes search f) = false
+is_passed (writes sought f) = false
 is_passed copies = false
 
 -- the words of the entries, the first of which has the number `i`

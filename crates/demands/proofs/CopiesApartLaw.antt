@@ -132,7 +132,7 @@ module _ (row : ℕ → Row) (S : Objs) (k : ℕ) (image : List ℕ) (r : Record
   entry_one e passed_over z = inl refl
   entry_one e turned_away z = inl refl
   entry_one e marked_refuse z = inl refl
-  entry_one e (writes search f) z = inl refl
+  entry_one e (writes sought f) z = inl refl
   entry_one e copies z =
       ⊎_elim
       (λ s. found_one e.place (symbol_at image r.symbols e.symbol).size (resolve_copy S (wanted_by image r e.symbol)) (rw s.0 at z))

@@ -16,7 +16,7 @@ entry p rtype s a = record { place = p; rtype = rtype; symbol = s; addend = a }
 
 -- what a row writes, for those that write
 abbrev pub calculation_of : Row → Calculation
-calculation_of (writes search f) = f
+calculation_of (writes sought f) = f
 calculation_of ignored = word64 (λ S A B P. 0)
 calculation_of passed_over = word64 (λ S A B P. 0)
 calculation_of turned_away = word64 (λ S A B P. 0)

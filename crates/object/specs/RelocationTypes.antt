@@ -37,7 +37,7 @@ pub data Row : Type 0 where
   turned_away : Row
   marked_refuse : Row
   copies : Row
-  writes : (search : Search) (calculation : Calculation) → Row
+  writes : (sought : Search) (calculation : Calculation) → Row
 
 -- "a 32-bit result must be that sum, read as unsigned for type 10 and as signed for 2 and 11"
 abbrev pub fits_unsigned32 : ℕ → Bool

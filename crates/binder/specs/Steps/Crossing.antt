@@ -34,7 +34,7 @@ copies_row ignored = false
 copies_row passed_over = false
 copies_row turned_away = false
 copies_row marked_refuse = false
-copies_row (writes search f) = false
+copies_row (writes sought f) = false
 copies_row copies = true
 
 abbrev pub empty_copy : Copy
@@ -60,7 +60,7 @@ module _ (table a : List ℕ) where
   copy_seen t r e passed_over = empty_copy
   copy_seen t r e turned_away = empty_copy
   copy_seen t r e marked_refuse = empty_copy
-  copy_seen t r e (writes search f) = empty_copy
+  copy_seen t r e (writes sought f) = empty_copy
   copy_seen t r e copies = copy_checked t r e (checked_symbol (image_in a t) r e.symbol)
 
   abbrev pub seen_of : Turn → Record → Rela → Copy
