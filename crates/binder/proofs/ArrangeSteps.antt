@@ -1,11 +1,10 @@
 -- What the proofs of `unlisted` and `arrange` rest on. Assumes nothing.
-use Rattle.std.proofs.Common.{◌≡◌, ℕ, zero, suc, ◌+◌, ◌-◌, ◌<◌, ◌≤◌, min, Bool, true, false, not, ltb, leb, ◌⊎◌, List, [], ◌∷◌, ◌++◌, length, get_or, take, set, replicate, sym, refl, ap, ◌∙◌, inl, inr, ⊎_elim, add-one, arith, length-set, length-take, get_or-set_other, get_or-set_same, take-suc-set, ltb-false, ltb-true, le-ltb, lt-ltb, le-leb, leb-true}
+use Rattle.std.proofs.Common.{◌≡◌, ℕ, zero, suc, ◌+◌, ◌-◌, ◌<◌, ◌≤◌, min, Bool, true, false, not, ltb, leb, List, [], ◌∷◌, ◌++◌, length, get_or, take, set, replicate, sym, refl, ap, ◌∙◌, ⊎_elim, add-one, arith, length-set, length-take, get_or-set_other, get_or-set_same, take-suc-set, ltb-false, ltb-true, le-ltb, lt-ltb, le-leb, leb-true}
 use native.Mathlib.Decide.{ℕ_discrete}
 use Rattle.words.specs.Choice.{both}
 use Rattle.model.specs.Order as order
 use Rattle.model.specs.Order.{listed, first_first, up_from, visit, order_of}
 use Rattle.model.proofs.OrderLaws.{decide, order_length}
-use Rattle.binder.specs.declared.order.Order.{Order}
 use Rattle.binder.specs.Steps.Table.{needs_row, Ordered}
 use Rattle.binder.specs.Steps.OrderState.{State, unmarked, ordered, used, Room, Marks, Visited, Unlisted}
 

@@ -1,5 +1,5 @@
 -- What a caller of `arrange` reads off its contract, and when the table stands for needs that are given otherwise. Assumes nothing.
-use Rattle.std.proofs.Common.{◌≡◌, ℕ, zero, suc, ◌+◌, ◌*◌, ◌<◌, ◌≤◌, min, List, [], ◌∷◌, length, get_or, take, sym, refl, ap, ◌∙◌, arith, get_or-take}
+use Rattle.std.proofs.Common.{◌≡◌, ℕ, zero, suc, ◌+◌, ◌*◌, ◌<◌, ◌≤◌, min, List, [], ◌∷◌, length, get_or, sym, refl, ap, ◌∙◌, arith, get_or-take}
 use Rattle.words.specs.Choice.{pick}
 use Rattle.words.specs.Memory as memory
 use Rattle.words.specs.Memory.{Mem, mem, tab, from}

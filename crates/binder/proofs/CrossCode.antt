@@ -1,5 +1,5 @@
 -- What the functions of the module crossing need, over plain values. Assumes nothing.
-use Rattle.std.proofs.Common.{◌≡◌, ℕ, zero, suc, ◌+◌, ◌-◌, ◌*◌, ◌<◌, ◌≤◌, min, Bool, true, false, not, ltb, leb, List, [], ◌∷◌, ◌++◌, length, get_or, take, drop, set, sym, refl, ap, ◌∙◌, subst, ⊎_elim, arith, length-append, length-drop, length-set, drop_of_length-le, take_all, get_or-set_other, get_or-take, get_or-set_same, take-take, get_or-append-add, le-ltb, lt-ltb, eq-eqb, ne_eqb, le-leb, leb-false, leb-true}
+use Rattle.std.proofs.Common.{◌≡◌, ℕ, zero, suc, ◌+◌, ◌-◌, ◌*◌, ◌<◌, ◌≤◌, min, Bool, true, false, not, ltb, leb, List, [], ◌∷◌, ◌++◌, length, get_or, take, drop, set, sym, refl, ap, ◌∙◌, subst, arith, length-append, length-drop, length-set, drop_of_length-le, take_all, get_or-set_other, get_or-set_same, get_or-append-add, le-ltb, lt-ltb, le-leb, leb-false, leb-true}
 use native.Mathlib.Decide.{dec_lt, dec_le}
 use borrow.Author.Tests.{lt-leb}
 use lib.ListN.{get_or-append}
@@ -17,17 +17,11 @@ use Rattle.scope.specs.Steps.Links.{link_at}
 use Rattle.scope.specs.declared.links.Link.{Link}
 use Rattle.scope.specs.declared.scope.Resolved.{Resolved}
 use Rattle.scope.specs.declared.scope.Resolved.TheVariants.{Absent, Found}
-use Rattle.binder.specs.Steps.Relocating.{image_in, cut_to32, copy_fits, sought_for_copy, turn_of, again_refusal, again_record, Left, left}
-use Rattle.binder.specs.Steps.Relocating.{summed, refused_by, keeps, run_relrs, run_table, until_tables, started, run_order, run_until}
-use Rattle.binder.specs.declared.report.Progress.{Progress}
-use Rattle.sheet.specs.Sheet.{Input, no_input}
+use Rattle.binder.specs.Steps.Relocating.{image_in, cut_to32, copy_fits, sought_for_copy}
 use Rattle.binder.specs.Steps.Crossing.{copies_row, empty_copy, copy_linked, copy_to, copy_checked, copy_seen, entries_by, entries_of, no_rela}
-use Rattle.binder.specs.Steps.Crossing.{round, kept_at, kept_from, kept_with, KeptCopies, earlier_of, Bounded, CrossingIn}
+use Rattle.binder.specs.Steps.Crossing.{round, kept_at, kept_from, kept_with, KeptCopies, earlier_of, Bounded}
 use Rattle.binder.specs.Copies.{meets, crosses}
-use Rattle.binder.specs.Steps.Finished.{UntilReadable, Crossed}
-use Rattle.binder.specs.Verdict.{first, verdict}
-use Rattle.binder.specs.declared.Verdict.{Verdict}
-use Rattle.binder.specs.declared.Verdict as verdicts
+use Rattle.binder.specs.Verdict.{first}
 use Rattle.binder.specs.declared.turn.Turn.{Turn}
 use Rattle.binder.specs.declared.crossing.Copy.{Copy}
 use Rattle.binder.specs.declared.crossing.Crossing.{Crossing}

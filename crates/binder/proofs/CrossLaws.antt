@@ -1,7 +1,7 @@
 -- Refusal 28 in the chain of an order: where no copy crosses an earlier one the verdict is that without 28; where one does, it is what is met up
 -- to that entry, or 28. Assumes nothing.
 use Rattle.std.proofs.Common.{◌≡◌, ℕ, Bool, true, false, eqb, List, [], ◌∷◌, ◌++◌, get_or, sym, refl, ap, ◌∙◌, subst, append_assoc, append-nil, ne_eqb}
-use Rattle.words.specs.Choice.{pick, either, some}
+use Rattle.words.specs.Choice.{pick, some}
 use Rattle.model.specs.Objects.{Objs}
 use Rattle.object.specs.RelocationTypes.{Row}
 use Rattle.object.specs.Record.{Record}

@@ -1,38 +1,36 @@
 -- What the code does about refusal 28 comes to the definition: over the placed arena of a loaded set, the first copy that crosses an earlier one
 -- is found, and what is met before it. Assumes nothing.
-use Rattle.std.proofs.Common.{◌≡◌, ℕ, zero, suc, ◌+◌, ◌<◌, ◌≤◌, Bool, true, false, eqb, ◌⊎◌, List, [], ◌∷◌, ◌++◌, length, get_or, take, drop, replicate, sym, refl, ap, ◌∙◌, subst, inl, inr, ⊎_elim, append-nil, arith, take-suc, eq-eqb, ne_eqb, eqb-true}
+use Rattle.std.proofs.Common.{◌≡◌, ℕ, zero, suc, ◌+◌, ◌<◌, ◌≤◌, Bool, true, false, eqb, List, [], ◌∷◌, ◌++◌, length, get_or, take, drop, replicate, sym, refl, ap, ◌∙◌, subst, ⊎_elim, arith, take-suc, eqb-true}
 use borrow.Author.Tests.{eqb-false}
 use lib.Seq.{split_at}
-use Rattle.words.specs.Choice.{pick, some}
+use Rattle.words.specs.Choice.{some}
 use Rattle.words.specs.Memory.{mem}
 use Rattle.model.specs.Objects.{Objs, count}
-use Rattle.model.specs.Order.{times, OnceEach}
+use Rattle.model.specs.Order.{OnceEach}
 use Rattle.model.specs.Relocation.{placed}
 use Rattle.model.proofs.OrderLaws.{decide}
-use Rattle.object.specs.Record.{Record}
 use Rattle.object.specs.declared.relocate.Rela.{Rela}
 use Rattle.sheet.specs.Sheet.{Input, no_input}
 use Rattle.binder.specs.Setting.{Setting}
-use Rattle.binder.specs.Instance.{File, file_image, file_record, named_words, relas_of}
+use Rattle.binder.specs.Instance.{File, file_image, file_record, relas_of}
 use Rattle.binder.specs.Copies.{crosses}
-use Rattle.binder.specs.Verdict.{first, verdict, no_file, words_verdict, order_verdict}
+use Rattle.binder.specs.Verdict.{first, verdict, no_file, order_verdict}
 use Rattle.binder.specs.declared.Verdict.{Verdict}
 use Rattle.binder.specs.declared.Verdict.TheVariants.{Passed, Refused}
-use Rattle.binder.specs.Steps.PlainVerdict.{plain_entries, plain_order}
-use Rattle.binder.specs.Steps.Relocating.{left, started, turn_of, run_order, run_until}
+use Rattle.binder.specs.Steps.PlainVerdict.{plain_order}
+use Rattle.binder.specs.Steps.Relocating.{left, started, run_order, run_until}
 use Rattle.binder.specs.Steps.Crossing.{gather, no_rela, Quiet, seen_at, entries_at, copies_among, copies_before, Readable, CrossesAt, copies_met, FirstCrossing, CrossingIn}
 use Rattle.binder.specs.Steps.Finished.{UntilReadable, Crossed}
-use Rattle.binder.specs.declared.turn.Turn.{Turn}
 use Rattle.binder.specs.declared.crossing.Copy.{Copy}
 use Rattle.binder.specs.declared.crossing.Crossing.{Crossing}
 use Rattle.binder.specs.declared.report.Progress.{Progress}
-use Rattle.binder.proofs.OutcomeLaws.{refused_not, verdict_passed}
+use Rattle.binder.proofs.OutcomeLaws.{refused_not}
 use Rattle.binder.proofs.QueryLaws.{placed_is}
-use Rattle.binder.proofs.Runs.{first_assoc, verdict_none, first_met}
+use Rattle.binder.proofs.Runs.{verdict_none}
 use Rattle.binder.proofs.Steady.{files, set, file_at, LoadedSet, PlacedAt}
 use Rattle.binder.proofs.SteadyLaws.{starts, placed_steady}
 use Rattle.binder.proofs.PlainLaws.{plain_quiet}
-use Rattle.binder.proofs.CrossLaws.{quiet_split, AgreesAt, AgreesIn, gathered, met_until, order_quiet, order_crossed}
+use Rattle.binder.proofs.CrossLaws.{AgreesIn, gathered, met_until, order_quiet, order_crossed}
 use Rattle.binder.proofs.SeenIs.{agrees, entries_are, readable}
 use Rattle.binder.proofs.RelocatedIs.{in_range, Until, until_is}
 

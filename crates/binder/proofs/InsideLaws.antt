@@ -1,5 +1,5 @@
 -- What refusals 17 and 18 leave of an object: its words, its entries' places and a COPY's source lie inside spans. Assumes nothing.
-use Rattle.std.proofs.Common.{◌≡◌, ℕ, ◌+◌, ◌*◌, ◌≤◌, min, Bool, true, false, not, eqb, leb, List, [], ◌∷◌, map, sym, refl, ap, ◌∙◌, subst, ⊎_elim, true≢false, arith, ne_eqb, leb-true}
+use Rattle.std.proofs.Common.{◌≡◌, ℕ, ◌+◌, ◌*◌, ◌≤◌, min, Bool, true, false, not, eqb, leb, List, [], ◌∷◌, map, sym, refl, ap, subst, ⊎_elim, true≢false, arith, ne_eqb, leb-true}
 use mathlib.Core.List.Memᴰ
 use mathlib.Core.List.{Memᴰ}
 use Rattle.words.specs.Choice.{pick, both, some}
@@ -37,7 +37,7 @@ use Rattle.object.specs.declared.program_header.Segment.{Segment}
 use Rattle.object.specs.declared.program_header.Dynamic.{Dynamic}
 use Rattle.object.specs.declared.program_header.Dynamic.TheVariants.{Missing, At}
 use Rattle.object.proofs.RefusalLaws.{required}
-use Rattle.binder.specs.Instance.{file_record, places_of, wanted_by, entry_by, entry_of}
+use Rattle.binder.specs.Instance.{places_of, wanted_by, entry_by, entry_of}
 use Rattle.binder.specs.Verdict.{verdict, word_refusal, copy_ok, copy_refusal, field_refusal, symbol_then, refusal_by, entry_refusal, words_verdict}
 use Rattle.binder.specs.Steps.PlainVerdict.{plain_entries}
 use Rattle.binder.specs.declared.Verdict.TheVariants.{Passed}

@@ -1,13 +1,12 @@
 -- What a call to `bind_ordered` comes to, step by step, is its definition. Assumes nothing.
-use Rattle.std.proofs.Common.{◌≡◌, ℕ, zero, suc, ◌+◌, ◌-◌, ◌*◌, ◌^◌, ◌<◌, ◌≤◌, min, Bool, true, false, not, eqb, List, [], ◌∷◌, ◌++◌, map, length, get_or, take, drop, replicate, sym, refl, ap, ◌∙◌, subst, arith, eq-eqb}
+use Rattle.std.proofs.Common.{◌≡◌, ℕ, suc, ◌+◌, ◌-◌, ◌*◌, ◌^◌, ◌<◌, ◌≤◌, Bool, true, false, List, [], ◌∷◌, map, length, get_or, take, replicate, sym, refl, ap, ◌∙◌, subst, arith, eq-eqb}
 use lib.ListN.{length-map}
-use Rattle.words.specs.Choice.{pick, both, either, some}
-use Rattle.words.specs.Names.{same_bytes}
+use Rattle.words.specs.Choice.{some}
 use Rattle.words.proofs.Choice.{both_true}
 use Rattle.model.specs.Objects.{count}
 use Rattle.model.specs.Layout.{objs_of}
 use Rattle.model.specs.Order.{up_from, OnceEach}
-use Rattle.sheet.specs.Sheet.{Input, no_input}
+use Rattle.sheet.specs.Sheet.{Input}
 use Rattle.sheet.specs.Steps.Parts.{inputs_in, Tabled}
 use Rattle.sheet.specs.declared.sheet.Parts.{Parts}
 use Rattle.sheet.proofs.PartLaws.{handed_in_lem}
@@ -18,14 +17,12 @@ use Rattle.binder.specs.declared.Policy.{Policy}
 use Rattle.binder.specs.declared.Verdict.{Verdict}
 use Rattle.binder.specs.declared.Verdict.TheVariants.{Passed, Refused}
 use Rattle.binder.specs.declared.order.Order.{Order}
-use Rattle.binder.specs.Bind.{files_of, names_of, unless, prepare_verdict, types_verdict, refused_bind, bind_in, outcome_of}
+use Rattle.binder.specs.Bind.{files_of, names_of, unless, prepare_verdict, types_verdict, refused_bind, bind_in}
 use Rattle.binder.specs.OwnOrder.{is_order, is_copy, has_copy, library_copies, may_take, bind_ordered_set, bind_ordered_of}
 use Rattle.binder.specs.Steps.Prepared.{Prepared}
-use Rattle.binder.specs.Steps.Relocating.{cut_to32, image_in, turn_of, again_refusal, again_record, row_at}
-use Rattle.binder.specs.Steps.Finished.{finished_of, RelocatedOr}
+use Rattle.binder.specs.Steps.Relocating.{cut_to32, again_refusal, again_record, row_at}
+use Rattle.binder.specs.Steps.Finished.{RelocatedOr}
 use Rattle.binder.specs.Steps.OrderTaken.{Held, copy_in, copy_again, copy_at, copies_at, Taken, BoundOrdered}
-use Rattle.scope.specs.Steps.Links.{link_at}
-use Rattle.scope.specs.Steps.ScopeCode.{image_at}
 use Rattle.binder.proofs.FileLaws.{host_file, file_of}
 use Rattle.binder.proofs.SoundLaws.{count_is}
 use Rattle.binder.proofs.OrderIs.{names_length}

@@ -1,7 +1,7 @@
 -- Orders that are handed in: what the loops over them have left to look at, and what an order that is one has. Assumes nothing.
-use Rattle.std.proofs.Common.{◌≡◌, ℕ, zero, suc, ◌+◌, ◌-◌, ◌<◌, ◌≤◌, Bool, true, false, eqb, ◌⊎◌, List, [], ◌∷◌, ◌++◌, length, get_or, take, drop, set, sym, refl, ap, ◌∙◌, subst, inl, inr, ⊎_elim, true≢false, add-one, arith, length-append, drop_of_length-le, length-take, drop-cons, take-suc, take-suc-set, eq-eqb, ne_eqb, eqb-true}
+use Rattle.std.proofs.Common.{◌≡◌, ℕ, zero, suc, ◌+◌, ◌-◌, ◌<◌, ◌≤◌, Bool, true, false, eqb, List, [], ◌∷◌, ◌++◌, length, get_or, take, drop, set, sym, refl, ap, ◌∙◌, subst, ⊎_elim, true≢false, add-one, arith, length-append, drop_of_length-le, drop-cons, take-suc, take-suc-set, eq-eqb, ne_eqb, eqb-true}
 use native.Mathlib.Decide.{dec_lt}
-use lib.Seq.{take-length, split_at}
+use lib.Seq.{split_at}
 use Rattle.words.specs.Choice.{pick, both, either, every, some}
 use Rattle.words.proofs.Choice.{both_true}
 use Rattle.model.specs.Order.{has, listed, up_from, times, Distinct, none, one_more, OnceEach}

@@ -1,6 +1,6 @@
 -- Where only the program copies, and to places that are apart by its symbols' own sizes, no copy crosses an earlier one: the destinations lie in
 -- the claims, and the sources in other objects. Assumes nothing.
-use Rattle.std.proofs.Common.{◌≡◌, ℕ, zero, suc, ◌+◌, ◌-◌, ◌<◌, ◌≤◌, min, max, Bool, true, false, not, eqb, ltb, leb, ◌⊎◌, List, [], ◌∷◌, ◌++◌, length, get_or, sym, refl, ap, ◌∙◌, subst, inl, inr, ⊎_elim, append_assoc, append-nil, arith, length-take, le-ltb, leb-true}
+use Rattle.std.proofs.Common.{◌≡◌, ℕ, zero, suc, ◌+◌, ◌<◌, ◌≤◌, min, max, Bool, true, false, not, eqb, ltb, leb, ◌⊎◌, List, [], ◌∷◌, ◌++◌, length, get_or, sym, refl, ap, ◌∙◌, subst, inl, inr, ⊎_elim, append_assoc, append-nil, arith, length-take, le-ltb, leb-true}
 use native.Mathlib.Decide.{dec_le}
 use borrow.Author.Tests.{eqb-false}
 use Rattle.words.specs.Choice.{pick, either, some}

@@ -1,9 +1,8 @@
 -- Loading the objects of a set, one after another: the turn of the loop and its ends; preparing a set. Assumes nothing.
-use Rattle.std.proofs.Common.{◌≡◌, ℕ, zero, suc, ◌+◌, ◌-◌, ◌*◌, ◌%◌, ◌^◌, ◌<◌, ◌≤◌, Bool, true, false, eqb, ltb, leb, ◌⊎◌, List, [], ◌∷◌, map, length, get_or, take, drop, sym, refl, ap, ◌∙◌, subst, inl, inr, ⊎_elim, add-zero, add-one, arith, length-drop, length-take, drop-cons, le-ltb, lt-ltb, eq-eqb, ne_eqb, le-leb, leb-true}
+use Rattle.std.proofs.Common.{◌≡◌, ℕ, zero, suc, ◌+◌, ◌-◌, ◌%◌, ◌^◌, ◌<◌, ◌≤◌, Bool, true, false, eqb, ltb, leb, ◌⊎◌, List, [], ◌∷◌, map, length, get_or, take, drop, sym, refl, ap, ◌∙◌, subst, inl, inr, ⊎_elim, add-zero, add-one, arith, length-drop, length-take, drop-cons, le-ltb, lt-ltb, eq-eqb, ne_eqb, leb-true}
 use mathlib.Core.Path.{fun_ext}
-use borrow.Author.Tests.{lt-leb}
 use borrow.Rule.Slice.PartMut.{put_mid}
-use lib.ListN.{length-map, get_or-map}
+use lib.ListN.{length-map}
 use lib.Seq.{drop-length}
 use Rattle.words.specs.Choice.{pick}
 use Rattle.words.specs.Memory.{Mem, In, mem, write, patch}
@@ -25,8 +24,8 @@ use Rattle.sheet.specs.Steps.Parts.{inputs_in, Tabled}
 use Rattle.sheet.specs.declared.sheet.Parts.{Parts}
 use Rattle.sheet.proofs.PartLaws.{two_parts}
 use Rattle.binder.specs.Setting.{Setting}
-use Rattle.binder.specs.Instance.{File, file_record, next_offset, offset_of}
-use Rattle.binder.specs.Verdict.{first, verdict, no_file, load_verdict}
+use Rattle.binder.specs.Instance.{File, next_offset, offset_of}
+use Rattle.binder.specs.Verdict.{verdict, no_file, load_verdict}
 use Rattle.binder.specs.declared.Verdict.{Verdict}
 use Rattle.binder.specs.declared.Verdict.TheVariants.{Passed, Refused}
 use Rattle.binder.specs.Bind.{files_of, objects_of, unless, prepare_verdict}

@@ -1,5 +1,5 @@
 -- The answer of a query, refusal by refusal: `query` against its definition. Assumes nothing.
-use Rattle.std.proofs.Common.{◌≡◌, ℕ, ◌+◌, ◌^◌, ◌<◌, ◌≤◌, true, false, ltb, List, [], ◌∷◌, map, length, replicate, sym, refl, ap, ◌∙◌, ⊎_elim, arith, le-ltb, lt-ltb}
+use Rattle.std.proofs.Common.{◌≡◌, ℕ, ◌<◌, ◌≤◌, true, false, List, [], ◌∷◌, map, length, replicate, sym, ap, ◌∙◌, arith, le-ltb, lt-ltb}
 use lib.ListN.{length-map}
 use Rattle.words.specs.Memory.{mem, tab}
 use Rattle.words.specs.Hash.{gnu_hash, elf_hash}
@@ -9,7 +9,6 @@ use Rattle.model.specs.Relocation.{placed}
 use Rattle.model.specs.Symbols.{by_name}
 use Rattle.model.specs.Scope.{resolve}
 use Rattle.model.specs.Layout.{objs_of}
-use Rattle.model.proofs.OrderLaws.{decide}
 use Rattle.sheet.specs.Sheet.{Input}
 use Rattle.sheet.specs.Steps.Parts.{inputs_in, Tabled}
 use Rattle.sheet.specs.declared.sheet.Parts.{Parts}
@@ -22,7 +21,6 @@ use Rattle.binder.specs.Steps.ScopeModel.{scoped_of}
 use Rattle.binder.specs.Steps.Prepared.{Prepared}
 use Rattle.binder.specs.declared.Reply.{Reply}
 use Rattle.binder.specs.declared.Reply as replies
-use Rattle.scope.specs.declared.scope.Resolved.{Resolved}
 use Rattle.binder.specs.declared.Verdict.{Verdict}
 use Rattle.binder.specs.declared.Verdict.TheVariants.{Passed, Refused}
 use Rattle.binder.proofs.PrepareLaws.{Ready, passes, sheet_refused, sheet_passed}

@@ -1,5 +1,5 @@
 -- The searches over the table of links are the model's `resolve` and `resolve_copy`, where each link is that of its object. Assumes nothing.
-use Rattle.std.proofs.Common.{◌≡◌, ℕ, suc, ◌+◌, ◌-◌, ◌<◌, ◌≤◌, Bool, true, false, List, [], ◌∷◌, length, get_or, sym, refl, ap, ◌∙◌, subst, mod-eq_of_lt, arith}
+use Rattle.std.proofs.Common.{◌≡◌, ℕ, suc, ◌+◌, ◌-◌, ◌<◌, Bool, true, false, List, [], ◌∷◌, length, get_or, sym, refl, ap, ◌∙◌, subst, mod-eq_of_lt, arith}
 use Rattle.words.specs.Choice.{pick}
 use Rattle.words.specs.Words.{sum64}
 use Rattle.words.specs.Hash.{gnu_hash, elf_hash}

@@ -1,13 +1,11 @@
 -- The copies that the code finds over the placed arena are those of the entries that no refusal meets. Assumes nothing.
-use Rattle.std.proofs.Common.{◌≡◌, ℕ, zero, suc, ◌+◌, ◌*◌, ◌^◌, ◌<◌, ◌≤◌, min, Bool, true, false, eqb, ◌⊎◌, List, [], ◌∷◌, ◌++◌, length, get_or, sym, refl, ap, ◌∙◌, subst, inl, inr, ⊎_elim, arith, eq-eqb, ne_eqb, eqb-true}
-use borrow.Author.Tests.{eqb-false}
+use Rattle.std.proofs.Common.{◌≡◌, ℕ, suc, ◌+◌, ◌<◌, ◌≤◌, min, Bool, true, false, eqb, List, [], ◌∷◌, length, get_or, sym, refl, ap, ◌∙◌, subst, ⊎_elim, arith}
 use Rattle.words.specs.Choice.{pick}
 use Rattle.model.specs.Symbols.{absent, answer}
 use Rattle.model.specs.Symbols as model
 use Rattle.model.specs.Objects.{Objs, count, obj}
 use Rattle.model.specs.Scope.{resolve_copy}
 use Rattle.model.proofs.Scope.{resolve_copy_range}
-use Rattle.model.proofs.OrderLaws.{decide}
 use Rattle.object.specs.Refusal.{require}
 use Rattle.object.specs.TableBytes.{in_writable}
 use Rattle.object.specs.Symbol.{symbol_at, symbol_name}
@@ -17,7 +15,7 @@ use Rattle.object.specs.declared.symbol.Symbol.{Symbol}
 use Rattle.object.specs.declared.hash_tables.Definition.{Definition}
 use Rattle.object.specs.declared.relocate.Rela.{Rela}
 use Rattle.object.specs.declared.entry_symbol.CheckedSymbol.{CheckedSymbol}
-use Rattle.object.specs.declared.entry_symbol.CheckedSymbol.TheVariants.{Refused, Checked}
+use Rattle.object.specs.declared.entry_symbol.CheckedSymbol.TheVariants.{Checked}
 use Rattle.sheet.specs.Sheet.{Input, no_input}
 use Rattle.scope.specs.Steps.Links.{link_at}
 use Rattle.scope.specs.declared.links.Link.{Link}
@@ -25,13 +23,12 @@ use Rattle.scope.specs.declared.scope.Resolved.{Resolved}
 use Rattle.scope.specs.declared.scope.Resolved.TheVariants.{Absent, Found}
 use Rattle.binder.specs.Setting.{Setting}
 use Rattle.binder.specs.Instance.{File, file_image, file_record, definition_of, relas_of, wanted_by}
-use Rattle.binder.specs.Copies.{copy_found, copy_by, entry_copy}
-use Rattle.binder.specs.Verdict.{copy_ok, copy_refusal, symbol_then, refusal_by, entry_refusal}
+use Rattle.binder.specs.Copies.{copy_found, copy_by}
+use Rattle.binder.specs.Verdict.{copy_ok, copy_refusal, symbol_then, refusal_by}
 use Rattle.binder.specs.Steps.ScopeModel.{scoped_of}
 use Rattle.binder.specs.Steps.Relocating.{image_in, cut_to32, copy_fits, sought_for_copy, turn_of, again_refusal}
 use Rattle.binder.specs.Steps.Crossing.{empty_copy, copy_linked, copy_to, copy_checked, copy_seen, one_copy, entries_by, seen_at, again_of, entries_at}
 use Rattle.binder.specs.declared.turn.Turn.{Turn}
-use Rattle.binder.specs.declared.crossing.Copy.{Copy}
 use Rattle.binder.proofs.InsideLaws.{name_is, writable_inside}
 use Rattle.binder.proofs.Steady.{set, file_at, LoadedSet, PlacedAt, Steady}
 use Rattle.binder.proofs.SteadyLaws.{lies, copy_searches, placed_steady, copy_tests, counts, again}

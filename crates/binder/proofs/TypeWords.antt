@@ -1,7 +1,7 @@
 -- Laws of the words of the types, as the code goes over them. Assumes nothing.
-use Rattle.std.proofs.Common.{◌≡◌, ℕ, suc, ◌+◌, ◌*◌, ◌^◌, ◌<◌, ◌≤◌, Bool, true, false, eqb, List, ◌∷◌, length, get_or, drop, sym, refl, ap, ◌∙◌, add-one, arith, take_all, drop-cons, eq-eqb, ne_eqb}
+use Rattle.std.proofs.Common.{◌≡◌, ℕ, suc, ◌+◌, ◌^◌, ◌<◌, ◌≤◌, Bool, true, false, eqb, List, length, get_or, drop, sym, refl, ap, ◌∙◌, add-one, arith, take_all, drop-cons, eq-eqb, ne_eqb}
 use lib.Seq.{drop-length}
-use Rattle.words.specs.Choice.{pick, both, either}
+use Rattle.words.specs.Choice.{pick, either}
 use Rattle.words.specs.Memory.{mem, tab, patch}
 use Rattle.words.proofs.Slices.{mem_past, mem_tab, length_tab, tab_mem, take_patch, length_patch}
 use Rattle.object.specs.RelocationTypes.{may_apply, type_word, word_ok, words_ok, types_ok, supplied_word, supplied_types}

@@ -1,6 +1,6 @@
 -- The words of the types in the table of a set, behind its links, its count and its address; what preparing a set leaves does not hang on them.
 -- Assumes nothing.
-use Rattle.std.proofs.Common.{◌≡◌, ℕ, ◌+◌, ◌-◌, ◌*◌, ◌<◌, ◌≤◌, eqb, ◌⊎◌, List, [], ◌∷◌, length, get_or, sym, refl, ap, ◌∙◌, subst, inl, inr, arith, le-ltb, eqb-true}
+use Rattle.std.proofs.Common.{◌≡◌, ℕ, ◌+◌, ◌-◌, ◌<◌, ◌≤◌, eqb, List, [], ◌∷◌, length, get_or, sym, refl, ap, ◌∙◌, subst, inl, arith, le-ltb, eqb-true}
 use native.Mathlib.Decide.{dec_lt}
 use Rattle.words.specs.Memory.{Mem, mem, write, patch}
 use Rattle.words.proofs.Choice.{both_true}
@@ -10,14 +10,14 @@ use Rattle.object.specs.RelocationTypes.{row_under, row_in, types_ok}
 use Rattle.object.specs.Placed.{object_span, object_bytes}
 use Rattle.object.specs.Loaded.{object_refusal}
 use Rattle.sheet.specs.Sheet.{Input, arena_ok, duplicate_of}
-use Rattle.scope.specs.Steps.Links.{link_at, count_in, address_in, FilteredBelow, Filtered}
+use Rattle.scope.specs.Steps.Links.{count_in, Filtered}
 use Rattle.scope.proofs.LinkLaws.{link_same, filter_same}
 use Rattle.binder.specs.Setting.{Setting, setting_of, setting_at}
 use Rattle.binder.specs.Instance.{File, offset_of}
-use Rattle.binder.specs.Verdict.{first, verdict, load_verdict}
+use Rattle.binder.specs.Verdict.{first, verdict}
 use Rattle.binder.specs.declared.Verdict.{Verdict}
 use Rattle.binder.specs.declared.Verdict.TheVariants.{Passed}
-use Rattle.binder.specs.Bind.{files_of, objects_of, unless, prepare_verdict, types_verdict}
+use Rattle.binder.specs.Bind.{files_of, unless, prepare_verdict, types_verdict}
 use Rattle.binder.specs.Steps.Prepared.{load_from, place_files, Linked, Prepared}
 use Rattle.binder.specs.Steps.Relocating.{row_at}
 use Rattle.binder.proofs.LoadsSame.{loads_same}

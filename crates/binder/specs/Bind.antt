@@ -2,7 +2,7 @@
 -- "Refused, in checking order", "Relocated bytes and report", "An address for a name" (the public query); demand 1, "a refusal leaves zeros
 -- in arena and report". Assumes nothing.
 use Rattle.std.specs.Prelude.{ℕ, ◌-◌, Bool, true, false, List, [], ◌∷◌, ◌++◌, map, length, drop, replicate, ◌==◌, nat_le, nat_lt}
-use Rattle.words.specs.Choice.{pick, both, either}
+use Rattle.words.specs.Choice.{pick}
 use Rattle.words.specs.Memory.{tab}
 use Rattle.model.specs.Symbols.{by_name, absent, answer}
 use Rattle.model.specs.Symbols as symbols

@@ -1,7 +1,7 @@
 -- The objects of a set as the model has them: its objects made of files by the reader's definitions. Document 01, "Placed bytes" ("base =
 -- arena address + offset"), "An address for a name", "Relocated bytes and report"; document 02, (a). An object depends on its file, on whether
 -- it is the host's, on its offset and on the setting, and on nothing else. Assumes nothing.
-use Rattle.std.specs.Prelude.{ℕ, ◌+◌, ◌-◌, ◌*◌, ◌/◌, Bool, true, false, List, [], ◌∷◌, ◌++◌, map, length}
+use Rattle.std.specs.Prelude.{ℕ, ◌+◌, ◌-◌, ◌*◌, ◌/◌, Bool, List, [], ◌∷◌, ◌++◌, map}
 use Rattle.words.specs.Choice.{pick}
 use Rattle.model.specs.Symbols.{Wanted, by_name, none, hit}
 use Rattle.model.specs.Symbols as model

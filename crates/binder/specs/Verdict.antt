@@ -1,6 +1,6 @@
 -- Refusals of a set, each with its object: 4 to 12 and 21 object by object, 14 to 18, 22, 25 and 28 entry by entry in binding order. Document
 -- 01, "Refused, in checking order"; document 02, (a), (b), (f) and (h). All are functions of the placed images. Assumes nothing.
-use Rattle.std.specs.Prelude.{ℕ, zero, suc, ◌+◌, ◌-◌, min, Bool, true, false, not, List, [], ◌∷◌, ◌++◌, ◌==◌, nat_le, slice_index_or}
+use Rattle.std.specs.Prelude.{ℕ, ◌+◌, ◌-◌, min, Bool, true, not, List, [], ◌∷◌, ◌++◌, ◌==◌, nat_le, slice_index_or}
 use Rattle.words.specs.Choice.{pick, both, either}
 use Rattle.model.specs.Symbols.{Definition, Resolved, absent, answer}
 use Rattle.model.specs.Objects.{Objs, obj}
@@ -8,7 +8,6 @@ use Rattle.model.specs.Scope.{resolve, resolve_copy}
 use Rattle.model.specs.Relocation.{address_or0}
 use Rattle.object.specs.Refusal.{require}
 use Rattle.object.specs.TableBytes.{in_writable}
-use Rattle.object.specs.Symbol.{binding_of}
 use Rattle.object.specs.RelocationTypes.{Calculation, Row, no_search, in_scope, ignored, passed_over, turned_away, marked_refuse, copies, writes}
 use Rattle.object.specs.Entries.{Word, place, nowhere}
 use Rattle.object.specs.Record.{Record, checked_symbol}

@@ -1,5 +1,5 @@
 -- The copies of a bound set are apart. Assumes nothing.
-use mathlib.Core.Path.{◌≡◌, refl, sym, ap, subst, ◌∙◌}
+use mathlib.Core.Path.{◌≡◌, refl, sym, subst, ◌∙◌}
 use mathlib.Core.Bool.{Bool, true, false, not, true≢false}
 use mathlib.Core.Logic.{◌⊎◌, inl, inr, ⊎_elim}
 use mathlib.Core.List.{List, [], ◌∷◌, ◌++◌, append-nil, append_assoc}
@@ -10,7 +10,7 @@ use borrow.Author.Tests.{leb-true, lt-ltb}
 use lib.Dec.{eqb, leb}
 use lib.ListN.{length, get_or, take}
 use lib.Seq.{get_or-take}
-use Rattle.words.specs.Choice.{pick, both, either, some}
+use Rattle.words.specs.Choice.{pick, either, some}
 use Rattle.words.specs.Memory.{In}
 use Rattle.words.proofs.Choice.{both_true}
 use Rattle.model.specs.Symbols.{Definition, Resolved, absent, answer}
@@ -20,7 +20,7 @@ use Rattle.object.specs.Refusal.{require}
 use Rattle.object.specs.TableBytes.{in_writable}
 use Rattle.object.specs.Symbol.{symbol_at}
 use Rattle.object.specs.RelocationTypes.{Row, ignored, passed_over, turned_away, marked_refuse, copies, writes}
-use Rattle.object.specs.Record.{Record, checked_symbol}
+use Rattle.object.specs.Record.{Record}
 use Rattle.object.specs.declared.relocate.Rela.{Rela}
 use Rattle.sheet.specs.Sheet.{set_of}
 use Rattle.binder.specs.Instance.{File, file_image, file_record, named_words, relas_of, wanted_by}

@@ -1,21 +1,21 @@
 -- The statements on `bind_ordered` hold. Assumes nothing.
 use mathlib.Core.Path.{◌≡◌, refl, sym, ap, subst, ◌∙◌, fun_ext}
 use mathlib.Core.Bool.{Bool, true, false}
-use mathlib.Core.Logic.{◌⊎◌, inl, inr, ⊎_elim, ◌≢◌}
-use mathlib.Core.List.{List, [], ◌∷◌, ◌++◌, map}
+use mathlib.Core.Logic.{◌⊎◌, inl, inr}
+use mathlib.Core.List.{List, [], ◌∷◌, map}
 use Prim.Native.Nat.{ℕ, ◌+◌, ◌-◌, ◌^◌, ◌≤◌, ◌<◌}
 use native.Mathlib.Omega.{arith}
 use borrow.Author.Tests.{eqb-true, eq-eqb}
 use lib.Dec.{eqb, leb}
-use lib.ListN.{length, get_or, replicate, length-map}
-use Rattle.words.specs.Choice.{pick, both, either, every, some}
+use lib.ListN.{length, get_or, length-map}
+use Rattle.words.specs.Choice.{pick, either, every, some}
 use Rattle.words.specs.Names.{same_bytes}
 use Rattle.words.specs.Memory.{tab}
 use Rattle.words.proofs.Choice.{both_true}
 use Rattle.words.proofs.NameLaws.{same_refl}
 use Rattle.words.proofs.Slices.{length_tab}
 use Rattle.model.specs.Objects.{Objs, count}
-use Rattle.model.specs.Order.{has, times, OnceEach}
+use Rattle.model.specs.Order.{times, OnceEach}
 use Rattle.model.specs.Relocation.{bound}
 use Rattle.model.specs.Layout.{objs_of}
 use Rattle.model.proofs.OrderFree.{order_free}
@@ -24,8 +24,6 @@ use Rattle.sheet.specs.Sheet.{Input, sheet_ok, set_of}
 use Rattle.sheet.proofs.SheetLonger.{Shape, sheet_shape}
 use Rattle.binder.specs.declared.Policy.{Policy}
 use Rattle.binder.specs.declared.Policy.TheVariants.{Strict, Lenient}
-use Rattle.binder.specs.declared.Answer as answers
-use Rattle.binder.specs.declared.Answer.{Answer}
 use Rattle.binder.specs.declared.Verdict.{Verdict}
 use Rattle.binder.specs.declared.Verdict.TheVariants.{Passed, Refused}
 use Rattle.binder.specs.Setting.{Setting, setting_of}
@@ -36,23 +34,7 @@ use Rattle.binder.specs.Report.{object_words, order_words, first_undefined}
 use Rattle.binder.specs.SetOrder.{set_order}
 use Rattle.binder.specs.Steps.Prepared.{load_from}
 use Rattle.binder.specs.Steps.PlainVerdict.{plain_order}
-use Rattle.binder.specs.Bind.{
-  files_of,
-  names_of,
-  objects_of,
-  unless,
-  prepare_verdict,
-  types_verdict,
-  allows,
-  relocate_verdict,
-  Outcome,
-  outcome,
-  refused_bind,
-  outcome_of,
-  bind_in,
-  bind_set,
-  bind_of,
-}
+use Rattle.binder.specs.Bind.{files_of, names_of, objects_of, unless, prepare_verdict, types_verdict, allows, relocate_verdict, refused_bind, outcome_of, bind_in, bind_set, bind_of}
 use Rattle.binder.specs.OwnOrder.{is_order, library_copies, may_take, bind_ordered_set, bind_ordered_of}
 use Rattle.binder.proofs.FileLaws.{host_file, file_of, files_are}
 use Rattle.binder.proofs.SoundLaws.{count_is, set_sound}
@@ -60,19 +42,9 @@ use Rattle.binder.proofs.OrderIs.{set_order_lem, names_length}
 use Rattle.binder.proofs.OutcomeLaws.{refused_not, first_passed, unless_passed, order_plain, objects_in, order_in, sheet_verdict, bind_one, bound_outcome}
 use Rattle.binder.proofs.PrepareLaws.{files_length}
 use Rattle.binder.proofs.OwnOrderLaws.{count_has, order_once, once_order}
-use Rattle.demands.specs.LongerSet.{PassesLoading, set_objects}
 use Rattle.demands.specs.OrderReport.{numbers_of}
-use Rattle.demands.specs.Refusals.{BindNumber, ObjectOf}
-use Rattle.demands.specs.OwnOrders.{
-  OrderCases,
-  OrderRefused,
-  SameBinding,
-  OrderFree,
-  DocumentOrder,
-  OrderUsed,
-  OrderedAnswers,
-  OrderedRefused,
-}
+use Rattle.demands.specs.Refusals.{BindNumber}
+use Rattle.demands.specs.OwnOrders.{OrderCases, OrderRefused, SameBinding, OrderFree, DocumentOrder, OrderUsed, OrderedAnswers}
 use Rattle.demands.proofs.PassedSet.{prepared, sheet_prepared, counts}
 use Rattle.demands.proofs.ProgramCopies.{Plain, row_plain, only_program, library_none}
 use Rattle.demands.proofs.OrdersAlike.{once_times, once_among, verdicts_same, undefined_same, lengths_same, again, order_words_lem}

@@ -8,10 +8,10 @@ use native.Mathlib.Omega.{arith}
 use lib.Dec.{eqb, ltb}
 use lib.ListN.{length, get_or}
 use Rattle.words.specs.Choice.{pick, either, some}
-use Rattle.model.specs.Objects.{Entry, fixed, symbol, Obj, Objs, count, obj}
+use Rattle.model.specs.Objects.{Entry, fixed, symbol, Obj, Objs, obj}
 use Rattle.model.specs.Longer.{NotCopy, OnlyProgramCopies}
 use Rattle.model.specs.Layout.{objs_of}
-use Rattle.object.specs.RelocationTypes.{Calculation, Search, Row, no_search, in_scope, ignored, passed_over, turned_away, marked_refuse, copies, writes, applied_row, type_word, row_under, row_in}
+use Rattle.object.specs.RelocationTypes.{Calculation, Search, Row, no_search, in_scope, ignored, passed_over, turned_away, marked_refuse, writes, applied_row, type_word, row_under, row_in}
 use Rattle.object.specs.Record.{Record}
 use Rattle.object.specs.declared.relocate.Rela.{Rela}
 use Rattle.binder.specs.Setting.{Setting}

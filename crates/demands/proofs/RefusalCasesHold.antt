@@ -5,13 +5,13 @@ use mathlib.Core.Logic.{◌≢◌}
 use mathlib.Core.Path.{◌≡◌, refl, sym, ◌∙◌}
 use Prim.Native.Nat.{ℕ, suc, ◌%◌}
 use native.Mathlib.Omega.{arith}
-use lib.Dec.{eqb, leb, ltb}
+use lib.Dec.{eqb, leb}
 use lib.ListN.{length}
 use borrow.Author.Tests.{le-ltb, le-leb}
 use Rattle.words.specs.Choice.{both, every}
 use Rattle.words.specs.Page.{page_size}
 use Rattle.object.specs.Refusal.{require, after}
-use Rattle.object.specs.Header.{magic, class, encoding, header_size, header_count, table_end, file_type, machine, is_shared_object, is_x86, headers_inside, header_refusal}
+use Rattle.object.specs.Header.{magic, class, encoding, header_count, table_end, file_type, machine, is_shared_object, is_x86, headers_inside, header_refusal}
 use Rattle.object.specs.Segments.{flags_ok}
 use Rattle.object.specs.Alignment.{power_up_to, align_ok, align_of}
 use Rattle.object.specs.Placed.{segments_of, object_span, object_align, file_refusal, place_refusal}

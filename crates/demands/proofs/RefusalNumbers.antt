@@ -22,7 +22,7 @@ use Rattle.object.specs.Header.{header_refusal}
 use Rattle.object.specs.ProgramHeader.{loads_of, dynamic_of}
 use Rattle.object.specs.Alignment.{align_ok}
 use Rattle.object.specs.Placed.{segments_of, object_image, file_refusal, place_refusal}
-use Rattle.object.specs.Record.{Record, sizes_refusal, fields_refusal, read_refusal, checked_symbol, index_ok, is_table_of, name_of}
+use Rattle.object.specs.Record.{Record, sizes_refusal, fields_refusal, read_refusal, checked_symbol, index_ok, is_table_of}
 use Rattle.object.specs.Symbol.{symbol_at}
 use Rattle.object.specs.HashCheck.{symbol_ok}
 use Rattle.object.specs.TableBytes.{in_writable}

@@ -1,18 +1,18 @@
 -- Demand 1's statements on `start_stop` hold. Assumes nothing.
-use mathlib.Core.Path.{◌≡◌, refl, sym, ap, ◌∙◌, subst}
+use mathlib.Core.Path.{◌≡◌, refl, sym, ap, ◌∙◌}
 use mathlib.Core.Bool.{Bool, true, false}
 use mathlib.Core.Logic.{◌⊎◌, inl, inr, ⊎_elim}
 use mathlib.Core.List.{List, [], ◌∷◌, ◌++◌}
-use Prim.Native.Nat.{ℕ, suc, ◌+◌, ◌-◌, ◌≤◌, ◌<◌}
+use Prim.Native.Nat.{ℕ, ◌+◌, ◌-◌, ◌≤◌, ◌<◌}
 use native.Mathlib.Omega.{arith}
 use borrow.Author.Tests.{leb-true, eq-eqb}
 use lib.Dec.{leb, eqb}
 use lib.ListN.{length, take, replicate, length-append, length-replicate}
 use lib.Seq.{take-append_seam}
-use Rattle.words.specs.Choice.{pick, both, either}
+use Rattle.words.specs.Choice.{pick, both}
 use Rattle.words.proofs.Choice.{both_true, either_right}
 use Rattle.model.specs.Order.{has}
-use Rattle.sheet.specs.Sheet.{Input, sheet_ok, set_of}
+use Rattle.sheet.specs.Sheet.{Input, set_of}
 use Rattle.binder.specs.declared.Policy.{Policy}
 use Rattle.binder.specs.declared.Answer as answers
 use Rattle.binder.specs.declared.Verdict.{Verdict}
@@ -42,8 +42,7 @@ use Rattle.start_stop.specs.StartStop.{
   start_stop_of,
 }
 use Rattle.demands.specs.LongerSet.{BoundBy}
-use Rattle.demands.specs.Refusals.{BindNumber, ObjectOf}
-use Rattle.demands.specs.StartStopCall.{StartStopNumber, StartStopRefused, StartStopRefusals, BindsFirst, StartStopLengths, CountedWords}
+use Rattle.demands.specs.StartStopCall.{StartStopRefused, StartStopRefusals, BindsFirst, StartStopLengths, CountedWords}
 use Rattle.demands.proofs.PassedSet.{counts, order_objects}
 use Rattle.demands.proofs.RefusalsHold.{bind_refusals, lengths}
 

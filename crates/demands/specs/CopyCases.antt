@@ -1,6 +1,6 @@
 -- Document 02, (h), "COPY places that cross": cases of two copies and of an entry. Words in quotes are document 02's. Each stands for one way to read
 -- the request wrongly. Assumes nothing.
-use Rattle.std.specs.Prelude.{Bool, true, false, List, [], ◌∷◌, ◌≡◌, ℕ}
+use Rattle.std.specs.Prelude.{true, false, List, [], ◌∷◌, ◌≡◌, ℕ}
 use Rattle.model.specs.Symbols.{Definition, absent, answer}
 use Rattle.model.specs.Objects.{Objs}
 use Rattle.object.specs.RelocationTypes.{Row, passed_over}
@@ -9,7 +9,7 @@ use Rattle.object.specs.declared.relocate.Rela.{Rela}
 use Rattle.binder.specs.declared.crossing.Copy.{Copy}
 use Rattle.binder.specs.declared.Verdict.TheVariants.{Refused}
 use Rattle.binder.specs.Copies.{crosses, copy_found, copy_by, entry_copy}
-use Rattle.binder.specs.Verdict.{entry_refusal, cross_refusal, entries_verdict}
+use Rattle.binder.specs.Verdict.{entry_refusal, entries_verdict}
 
 -- `size` bytes from `source` to `to`
 abbrev pub copy : ℕ → ℕ → ℕ → Copy

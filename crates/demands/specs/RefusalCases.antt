@@ -1,10 +1,10 @@
 -- Document 01, "Refused, in checking order", and document 02, (a) and (c): cases of refusals 4 to 11, 13, 14, 18, 19 and 21 and of the search, each
 -- for every file, record or set of which the facts before the arrow hold. Words in quotes are the documents'. Each stands for one way to read them
 -- wrongly. Assumes nothing.
-use Rattle.std.specs.Prelude.{Bool, true, false, List, [], ◌∷◌, ◌≢◌, ◌≡◌, ℕ, ◌+◌, ◌%◌, min, eqb, leb, length}
+use Rattle.std.specs.Prelude.{Bool, true, false, List, [], ◌∷◌, ◌≢◌, ◌≡◌, ℕ, ◌%◌, min, eqb, leb, length}
 use Rattle.words.specs.Page.{page_size}
 use Rattle.model.specs.Symbols.{Definition, answer}
-use Rattle.model.specs.Objects.{Objs, obj}
+use Rattle.model.specs.Objects.{Objs}
 use Rattle.sheet.specs.Sheet.{Input}
 use Rattle.object.specs.Header.{file_type, machine, header_count, table_end, is_shared_object, is_x86, header_refusal}
 use Rattle.object.specs.ProgramHeader.{dynamic_of}
@@ -26,11 +26,10 @@ use Rattle.object.specs.declared.hash_tables.HashTable.TheVariants.{Gnu}
 use Rattle.object.specs.declared.hash_tables.Found.TheVariants.{Hit}
 use Rattle.object.specs.declared.hash_tables.SymbolCount.TheVariants.{Known}
 use Rattle.object.specs.declared.entry_symbol.CheckedSymbol.TheVariants.{Refused}
-use Rattle.binder.specs.declared.Policy.{Policy}
 use Rattle.binder.specs.declared.Policy.TheVariants.{Strict, Lenient}
 use Rattle.binder.specs.declared.Verdict.TheVariants as verdicts
 use Rattle.binder.specs.Setting.{Setting}
-use Rattle.binder.specs.Verdict.{copy_ok, copy_refusal}
+use Rattle.binder.specs.Verdict.{copy_refusal}
 use Rattle.binder.specs.Bind.{allows, prepare_verdict, refused_query, ask_set}
 
 -- a PT_LOAD of 16 bytes at 0 with these flags, p_memsz and p_align

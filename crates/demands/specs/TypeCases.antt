@@ -1,7 +1,7 @@
 -- Document 02, (f), "Our own table of types": what a word of the types does to the entries of its type, which words 24 refuses, and that "The supplied
 -- words are shown to bind every set as the fixed list did". Words in quotes are document 02's. Each case stands for one way to read the request
 -- wrongly. `setting_before` is the setting of before (binder/specs/Steps/TypesBefore). Assumes nothing.
-use Rattle.std.specs.Prelude.{Bool, true, false, List, ◌++◌, ◌≡◌, ℕ, ◌≤◌, ◌<◌, eqb, get_or, set, take}
+use Rattle.std.specs.Prelude.{true, false, List, ◌++◌, ◌≡◌, ℕ, ◌≤◌, ◌<◌, eqb, get_or, set, take}
 use Rattle.words.specs.Choice.{pick}
 use Rattle.model.specs.Objects.{pass, Objs}
 use Rattle.object.specs.RelocationTypes.{applied_row, passed_over, type_word, row_in, types_ok, supplied_types}

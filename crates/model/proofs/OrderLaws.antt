@@ -7,8 +7,8 @@ use mathlib.Core.List.{List, [], ◌∷◌, ◌++◌}
 use native.Mathlib.Omega.{arith}
 use lib.Dec.{leb, ltb, eqb}
 use lib.ListN.{length, get_or, length-append}
-use borrow.Author.Tests.{eq-eqb, ne_eqb, eqb-true, eqb-false, leb-true, ltb-true, le-leb, lt-ltb, not-true}
-use Rattle.words.specs.Choice.{pick, both, either}
+use borrow.Author.Tests.{eq-eqb, eqb-true, eqb-false, leb-true, ltb-true, le-leb, lt-ltb, not-true}
+use Rattle.words.specs.Choice.{both, either}
 use Rattle.words.proofs.Choice.{both_true, either_true, either_left, either_right}
 use Rattle.model.specs.Order.{has, listed, fresh, first_first, last_first, up_from, visit, order_of, Distinct, Before, Reach, times, OnceEach}
 use Rattle.model.specs.Order.Distinct.{none, one_more}

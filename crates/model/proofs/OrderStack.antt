@@ -2,7 +2,7 @@
 use Prim.Native.Nat.{ℕ, zero, suc, ◌+◌, ◌≤◌, ◌<◌}
 use mathlib.Core.Path.{◌≡◌, refl, sym, ap, subst, ◌∙◌}
 use mathlib.Core.Bool.{Bool, true, false, not, true≢false}
-use mathlib.Core.Logic.{◌⊎◌, inl, inr, ⊎_elim}
+use mathlib.Core.Logic.{⊎_elim}
 use mathlib.Core.List.{List, [], ◌∷◌, ◌++◌}
 use native.Mathlib.Omega.{arith}
 use lib.Dec.{eqb}
@@ -14,7 +14,7 @@ use Rattle.model.specs.Order.Distinct.{none}
 use Rattle.model.specs.EventStack.{Event, push, Runs, discover_all}
 use Rattle.model.specs.EventStack.Event.{discover, emit}
 use Rattle.model.specs.EventStack.Runs.{done, emits, skips, opens}
-use Rattle.model.proofs.OrderLaws.{Way, way_cons, short, decide, clash, either_assoc, range_listed, has_head, has_cases, has_snoc, passed, visit_fresh}
+use Rattle.model.proofs.OrderLaws.{Way, way_cons, short, decide, either_assoc, range_listed, has_head, has_cases, has_snoc, passed, visit_fresh}
 
 seen_not_fresh : (l p o : Bool) → either p o ≡ true → both l (both (not p) (not o)) ≡ false
 seen_not_fresh false p o h = refl

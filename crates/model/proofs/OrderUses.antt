@@ -2,11 +2,11 @@
 use Prim.Native.Nat.{ℕ, zero, suc, ◌+◌, ◌≤◌, ◌<◌}
 use mathlib.Core.Path.{◌≡◌, sym, ap, ◌∙◌}
 use mathlib.Core.Bool.{true}
-use mathlib.Core.Logic.{◌⊎◌, ⊎_elim}
+use mathlib.Core.Logic.{⊎_elim}
 use mathlib.Core.List.{List, [], ◌∷◌, ◌++◌}
 use native.Mathlib.Omega.{arith}
 use lib.ListN.{length, get_or}
-use Rattle.model.specs.Order.{has, up_from, order_of}
+use Rattle.model.specs.Order.{has, order_of}
 use Rattle.model.specs.EventStack.{Event, Runs, RustOrder}
 use Rattle.model.specs.EventStack.Runs.{done, emits, skips, opens}
 use Rattle.model.proofs.OrderLaws.{has_head, has_cons, clash, nothing_else, order_length}

@@ -2,7 +2,7 @@
 use mathlib.Core.Path.{◌≡◌, refl, sym, ap, ◌∙◌}
 use mathlib.Core.Bool.{Bool, true, false}
 use mathlib.Core.List.{List, [], ◌∷◌, ◌++◌, append-nil, append_assoc}
-use Prim.Native.Nat.{ℕ, zero, suc, ◌+◌, ◌-◌, ◌*◌, ◌≤◌, ◌<◌, min}
+use Prim.Native.Nat.{ℕ, suc, ◌+◌, ◌-◌, ◌*◌, ◌≤◌, ◌<◌, min}
 use native.Mathlib.Omega.{arith}
 use native.Mathlib.Numerals.{add-one}
 use native.Mathlib.Decide.{dec_lt, ℕ_discrete}
@@ -15,8 +15,7 @@ use Rattle.words.specs.Memory.{mem}
 use Rattle.words.specs.Words.{le_at}
 use Rattle.object.specs.declared.dynamic_array.Field.{Field}
 use Rattle.object.specs.declared.dynamic_array.Needs.{Needs}
-use Rattle.object.specs.declared.dynamic_array.DynamicArray.{DynamicArray}
-use Rattle.object.specs.DynamicArray.{Item, item_at, item_room, items_in, end_in, ends_inside, no_field, field, last_value, first_of, all_of}
+use Rattle.object.specs.DynamicArray.{Item, item_at, item_room, items_in, end_in, ends_inside, field, last_value, first_of, all_of}
 use Rattle.object.specs.DynamicTags as DT
 use Rattle.object.specs.DynamicFields.{field_of, fields_of, needed_offsets}
 use Rattle.object.specs.Steps.Slots.{slot_of, slot_field, field_in, kept_of, put_of, need_step, Needed, ArrayAt}

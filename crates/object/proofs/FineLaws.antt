@@ -14,7 +14,7 @@ use Rattle.object.specs.declared.hash_tables.HashTable.TheVariants.{SysV, Gnu}
 use Rattle.object.specs.declared.hash_tables.View.{View}
 use Rattle.object.specs.declared.table_bytes.Bounds.{Bounds}
 use Rattle.object.specs.declared.check.Shortcuts.{Shortcuts}
-use Rattle.object.specs.TableBytes.{is_table, table_bytes, table_name}
+use Rattle.object.specs.TableBytes.{is_table, table_bytes}
 use Rattle.object.specs.Steps.LastZero.{RunOf}
 use Rattle.object.specs.Symbol.{symbol_from, symbol_at}
 use Rattle.object.specs.HashCheck.{chain_ok, symbol_ok}

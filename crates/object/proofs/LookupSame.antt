@@ -10,7 +10,7 @@ use native.Mathlib.Omega.{arith}
 use borrow.Author.Tests.{eqb-true, eqb-false, ltb-true, not-true}
 use lib.Dec.{eqb, leb}
 use lib.ListN.{length}
-use Rattle.words.specs.Choice.{both, pick, below, every}
+use Rattle.words.specs.Choice.{both, pick, every}
 use Rattle.words.specs.Memory.{mem}
 use Rattle.words.specs.Words.{le_at}
 use Rattle.words.specs.Names.{name_at}
@@ -28,7 +28,7 @@ use Rattle.object.specs.declared.hash_tables.SymbolCount.TheVariants.{Unknown, K
 use Rattle.object.specs.TableBytes.{table_bytes, table_name, Agree}
 use Rattle.object.specs.Symbol.{symbol_from, symbol_at, symbol_name}
 use Rattle.object.specs.HashTable.{sysv_at, gnu_at, bucket_count, bucket_at, chain_at, is_last, next_symbol, fuel, walk, walk_from, reached, may_hold, bucket_of, is_hit, is_exported_hit, first_in, find_by, lookup_by, lookup_in, answer_of, answer_by, answer_in}
-use Rattle.object.specs.HashCheck.{start_of, table_size, numbers_ok, bucket_ok, length_ok, chain_ok, symbol_ok, step_ok, walk_ok, table_ok}
+use Rattle.object.specs.HashCheck.{start_of, table_size, numbers_ok, chain_ok, symbol_ok, step_ok, walk_ok, table_ok}
 use Rattle.object.specs.SymbolCount.{highest, last_reached, past_walk, table_count, count_of}
 use Rattle.object.proofs.Ranges.{split, below_at, below_all}
 use Rattle.object.proofs.CountLaws.{highest_of}

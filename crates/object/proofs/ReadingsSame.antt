@@ -12,11 +12,11 @@ use Rattle.words.specs.Memory.{mem}
 use Rattle.words.specs.Words.{le_at}
 use Rattle.words.proofs.Choice.{both_true}
 use Rattle.object.specs.TableBytes.{table_bytes, table_name, Agree}
-use Rattle.object.specs.Symbol.{symbol_at, symbol_name}
+use Rattle.object.specs.Symbol.{symbol_at}
 use Rattle.object.specs.HashCheck.{symbol_ok, table_ok}
-use Rattle.object.specs.Entries.{rela_at, relas_from, relr_at, relrs_from}
-use Rattle.object.specs.Record.{Record, view_of, is_table_of, needs_ok, relocations_ok, tables_ok, index_ok, checked_symbol, need_name}
-use Rattle.object.specs.Invariant.{SameReadings, Invariance}
+use Rattle.object.specs.Entries.{rela_at, relas_from, relrs_from}
+use Rattle.object.specs.Record.{Record, view_of, is_table_of, needs_ok, relocations_ok, tables_ok, index_ok, checked_symbol}
+use Rattle.object.specs.Invariant.{Invariance}
 use Rattle.object.specs.declared.entry_symbol.CheckedSymbol.TheVariants.{Refused, Checked}
 use Rattle.object.proofs.LookupSame.{number_same, number_here, name_same, symbol_same, symbol_name_same, view_same}
 

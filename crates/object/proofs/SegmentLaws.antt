@@ -9,7 +9,6 @@ use borrow.Author.Tests.{leb-true, eqb-true, eqb-false, not-true}
 use lib.Dec.{eqb, leb}
 use lib.ListN.{length, take, drop, get_or}
 use Rattle.words.specs.Choice.{both, every}
-use Rattle.words.specs.Memory.{from}
 use Rattle.words.specs.Page.{page_size, page_start, page_end}
 use Rattle.words.proofs.Choice.{both_true}
 use Rattle.object.specs.Segments.{sizes_ok, address_ok, segment_ok, pages_apart, all_apart, end_of, file_bytes}

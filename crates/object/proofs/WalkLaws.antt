@@ -6,7 +6,7 @@ use Prim.Native.Nat.{ℕ, zero, suc, ◌+◌, ◌≤◌, ◌<◌}
 use native.Mathlib.Nat.{not-suc-le-zero}
 use native.Mathlib.Omega.{arith}
 use borrow.Author.Tests.{ne_eqb, le-leb, lt-leb}
-use lib.Dec.{eqb, leb, leb-zero}
+use lib.Dec.{leb, leb-zero}
 use lib.ListN.{length}
 use Rattle.words.specs.Choice.{both, every}
 use Rattle.words.specs.Memory.{mem}

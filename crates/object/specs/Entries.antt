@@ -1,6 +1,6 @@
 -- Relocation entries. System V gABI, "Relocation" (Elf64_Rela: r_offset, r_info, r_addend; ELF64_R_SYM, ELF64_R_TYPE; Elf64_Relr);
 -- document 01, "Relocated bytes and report". Assumes nothing.
-use Rattle.std.specs.Prelude.{Bool, List, [], ◌∷◌, ◌++◌, ℕ, zero, suc, ◌+◌, ◌*◌, ◌/◌, ◌%◌, ◌^◌, eqb}
+use Rattle.std.specs.Prelude.{List, [], ◌∷◌, ◌++◌, ℕ, zero, suc, ◌+◌, ◌*◌, ◌/◌, ◌%◌, ◌^◌, eqb}
 use Rattle.words.specs.Choice.{pick}
 use Rattle.words.specs.Memory.{mem}
 use Rattle.words.specs.Words.{le_at}

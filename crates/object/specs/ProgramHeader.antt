@@ -1,6 +1,6 @@
 -- The program headers. System V gABI, "Program Header" (Elf64_Phdr: p_type, p_flags, p_offset, p_vaddr, p_filesz, p_memsz, p_align; PF_X 1,
 -- PF_W 2, PF_R 4). Document 01, "PT_LOAD (1)", "The last PT_DYNAMIC (2) counts". Assumes nothing.
-use Rattle.std.specs.Prelude.{Bool, List, [], ◌∷◌, ◌++◌, ℕ, zero, suc, ◌+◌, ◌*◌, eqb}
+use Rattle.std.specs.Prelude.{List, [], ◌∷◌, ◌++◌, ℕ, zero, suc, ◌+◌, ◌*◌, eqb}
 use Rattle.words.specs.Choice.{pick}
 use Rattle.words.specs.Memory.{mem}
 use Rattle.words.specs.Words.{le_at}

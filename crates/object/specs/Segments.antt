@@ -1,7 +1,7 @@
 -- The load segments: which are refused, the span, and the placed bytes. Document 01, "Placed bytes" and refusal 7; System V gABI,
 -- "Program Header" and "Program Loading". Assumes nothing.
 use Rattle.std.specs.Prelude.{Bool, true, not, List, [], ◌∷◌, ℕ, ◌+◌, ◌-◌, ◌/◌, ◌%◌, ◌^◌, max, eqb, leb, length}
-use Rattle.words.specs.Choice.{pick, both, either, every, some}
+use Rattle.words.specs.Choice.{both, either, every, some}
 use Rattle.words.specs.Memory.{Mem, mem, tab, from, write}
 use Rattle.words.specs.Page.{page_size, page_start, page_end}
 use Rattle.object.specs.Header.{table_end}

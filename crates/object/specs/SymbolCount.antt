@@ -1,7 +1,7 @@
 -- How many symbols an object has. System V gABI, "Hash Table": "The number of symbol table entries should equal nchain". Document 01: "Symbol
 -- count: where the string table lies above the symbol table, the difference divided by 24; else the SysV chain count, or one past the last
 -- index of the highest GNU bucket's chain; else unknown. A GNU table with all buckets 0 gives unknown". Assumes nothing.
-use Rattle.std.specs.Prelude.{Bool, List, [], ◌∷◌, ℕ, zero, suc, ◌+◌, ◌-◌, ◌/◌, max, eqb, ltb}
+use Rattle.std.specs.Prelude.{List, [], ◌∷◌, ℕ, zero, suc, ◌+◌, ◌-◌, ◌/◌, max, eqb, ltb}
 use Rattle.words.specs.Choice.{pick}
 use Rattle.words.specs.Memory.{mem}
 use Rattle.words.specs.Words.{le_at}

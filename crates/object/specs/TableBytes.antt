@@ -1,7 +1,7 @@
 -- Table bytes. Document 01, "The object record": "A table byte lies in its object's span and in no writable PT_LOAD's p_vaddr to
 -- p_vaddr + p_memsz; for the host, anywhere in the span" (the host keeps no segments). System V gABI, "Program Header" (p_flags: PF_W
 -- is 2). Assumes nothing.
-use Rattle.std.specs.Prelude.{Bool, true, false, not, List, ◌≡◌, ℕ, ◌+◌, ◌/◌, ◌%◌, eqb, leb, ltb, length}
+use Rattle.std.specs.Prelude.{Bool, true, not, List, ◌≡◌, ℕ, ◌+◌, ◌/◌, ◌%◌, eqb, leb, ltb, length}
 use Rattle.words.specs.Choice.{both, every, some, below}
 use Rattle.words.specs.Memory.{mem}
 use Rattle.words.specs.Names.{name_at}

@@ -2,7 +2,7 @@
 -- input a 32-bit little-endian sheet word count, the sheet (its words little-endian too) and the bytes, and binds leniently at 0x10000000 in
 -- 32,768 bytes with 1,024 report words; input cut short or over 65,536 bytes is refusal 1. It prints each report word before the first 0 as
 -- eight lower-case hexadecimal digits on its line, or `refused N object M` in decimal." Assumes nothing.
-use Rattle.std.specs.Prelude.{ℕ, zero, suc, ◌+◌, ◌-◌, ◌*◌, ◌/◌, ◌%◌, ◌^◌, ◌≤◌, min, ◌≡◌, Bool, true, false, List, [], ◌∷◌, ◌++◌, leb, ltb, length, take, drop}
+use Rattle.std.specs.Prelude.{ℕ, zero, suc, ◌+◌, ◌-◌, ◌*◌, ◌/◌, ◌%◌, ◌^◌, ◌≤◌, min, ◌≡◌, Bool, List, [], ◌∷◌, ◌++◌, leb, ltb, length, take, drop}
 use Rattle.words.specs.Choice.{pick, both}
 use Rattle.words.specs.Memory.{mem, tab, patch}
 use Rattle.words.specs.Words.{le_at}

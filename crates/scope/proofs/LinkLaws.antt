@@ -1,5 +1,5 @@
 -- The laws of the table of links: what is put is read, and what lies beside it is as it was. Assumes nothing.
-use Prim.Native.Nat.{ℕ, zero, suc, ◌+◌, ◌-◌, ◌*◌, ◌%◌, ◌^◌, ◌≤◌, ◌<◌}
+use Prim.Native.Nat.{ℕ, suc, ◌+◌, ◌-◌, ◌*◌, ◌%◌, ◌^◌, ◌≤◌, ◌<◌}
 use mathlib.Core.Bool.{Bool, true, false}
 use mathlib.Core.Path.{◌≡◌, refl, sym, ap, subst⁻¹, ◌∙◌}
 use mathlib.Core.Logic.{◌⊎◌, inl, inr}
@@ -8,7 +8,6 @@ use native.Mathlib.Omega.{arith}
 use native.Mathlib.Nat.{mod-eq_of_lt}
 use lib.ListN.{length, take, drop, get_or, set, length-set, get_or-append}
 use lib.Seq.{paste, length_paste_head, get_or-append-add, get_or-take, get_or-drop, length-take-le, get_or-set_same, get_or-set_other}
-use lib.Dec.{leb}
 use lib.Pow.{pow-lt}
 use borrow.Author.Tests.{eq-eqb, ne_eqb, le-leb, lt-leb}
 use Rattle.words.specs.Choice.{pick}
@@ -16,7 +15,7 @@ use Rattle.object.proofs.Ranges.{split}
 use Rattle.object.specs.declared.hash_tables.HashTable.{HashTable}
 use Rattle.object.specs.declared.hash_tables.HashTable.TheVariants.{Without, SysV, Gnu}
 use Rattle.scope.specs.declared.links.Link.{Link}
-use Rattle.scope.specs.Steps.Links.{hash_words, hash_of, narrow, nth, log_from, log_of, untested, testable, filter_words, filter_of, filter_at, link_words, link_at, count_in, address_in, FilteredAt, FilteredBelow, Filtered, spliced, with_link}
+use Rattle.scope.specs.Steps.Links.{hash_words, hash_of, narrow, nth, log_from, log_of, untested, testable, filter_words, filter_of, link_words, link_at, count_in, address_in, FilteredAt, FilteredBelow, Filtered, spliced, with_link}
 
 module _ (d : List ℕ) (at : ℕ) (s : List ℕ) (n : ℕ) (hd : at + n ≤ length d) (hs : n ≤ length s) where
   -- an element that was pasted

@@ -1,6 +1,6 @@
 -- Words that go to a list one after another, and what the loops over an order leave. Assumes nothing.
 use mathlib.Core.Path.{◌≡◌, refl, sym, ap, ◌∙◌, subst}
-use mathlib.Core.List.{List, [], ◌∷◌, ◌++◌, reverse, reverse_aux, append-nil, append_assoc}
+use mathlib.Core.List.{List, [], ◌∷◌, ◌++◌, reverse, reverse_aux}
 use mathlib.Core.Bool.{Bool, true, false}
 use mathlib.Core.Logic.{◌⊎◌, inl, inr, ⊎_elim}
 use native.Mathlib.Decide.{dec_lt}
@@ -12,7 +12,7 @@ use lib.Seq.{drop-cons, get_or-append-add}
 use Rattle.words.specs.Choice.{pick}
 use Rattle.words.specs.Words.{le_at, sum64}
 use Rattle.words.specs.Memory.{Mem, mem, tab, write, patch}
-use Rattle.words.proofs.Slices.{mem_past, mem_ext, length_tab, mem_tab, length_patch, mem_patch_at, patch_none, patch_one, patch_same, patch_join}
+use Rattle.words.proofs.Slices.{mem_ext, length_tab, mem_tab, length_patch, mem_patch_at, patch_none, patch_same, patch_join}
 use Rattle.words.proofs.Memory.{write_in, write_out}
 use Rattle.start_stop.specs.StartStop.{Array, Calls, function_of, words_of, starts_of, stops_of, in_turn, padded}
 use Rattle.start_stop.specs.Steps.Listed.{Put}

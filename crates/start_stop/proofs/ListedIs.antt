@@ -1,14 +1,13 @@
 -- What the code leaves, step by step, is the definition's: refusals 26 and 27, and the lists. Assumes nothing.
 use mathlib.Core.Path.{◌≡◌, refl, sym, ap, ◌∙◌, subst}
-use mathlib.Core.Bool.{Bool, true, false, not}
-use mathlib.Core.Logic.{◌⊎◌, inl, inr, ⊎_elim}
-use mathlib.Core.List.{List, [], ◌∷◌, ◌++◌, reverse, reverse_aux}
+use mathlib.Core.Bool.{true, false}
+use mathlib.Core.Logic.{⊎_elim}
+use mathlib.Core.List.{List, [], ◌∷◌, reverse_aux}
 use Prim.Native.Nat.{ℕ, zero, suc, ◌+◌, ◌*◌, ◌^◌, ◌≤◌, ◌<◌}
 use native.Mathlib.Omega.{arith}
 use borrow.Author.Tests.{le-leb, lt-leb, leb-true, eqb-true, eq-eqb}
 use lib.Dec.{eqb, leb}
 use lib.ListN.{length, get_or, replicate}
-use Rattle.words.specs.Choice.{pick, both, either}
 use Rattle.words.proofs.Choice.{both_true}
 use Rattle.model.proofs.OrderLaws.{decide}
 use Rattle.binder.specs.declared.Verdict.{Verdict}
@@ -19,7 +18,7 @@ use Rattle.binder.specs.Bind.{unless}
 use Rattle.binder.proofs.OutcomeLaws.{first_passed, unless_passed}
 use Rattle.start_stop.specs.StartStop as defs
 use Rattle.start_stop.specs.StartStop.{Array, Calls, words_of, starts_of, stops_of, in_turn, start_list, stop_list, in_span, arrays_ok, arrays_verdict, lists_verdict, listing_of, list_by}
-use Rattle.start_stop.specs.Steps.Rows.{row_at, calls_at, FewWords, AllFew, InOrder}
+use Rattle.start_stop.specs.Steps.Rows.{row_at, calls_at, AllFew, InOrder}
 use Rattle.start_stop.specs.Steps.Listed as listed
 use Rattle.start_stop.specs.Steps.Listed.{Put, finished_of, ListsMade}
 use Rattle.start_stop.specs.declared.Lists as lists

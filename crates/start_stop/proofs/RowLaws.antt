@@ -1,27 +1,19 @@
 -- The rows that the code fills, and the memory of an object's part. Assumes nothing.
-use mathlib.Core.Path.{◌≡◌, refl, sym, ap, ◌∙◌, fun_ext}
-use mathlib.Core.Bool.{true, false}
-use mathlib.Core.Logic.{◌⊎◌, inl, inr, ⊎_elim}
+use mathlib.Core.Path.{◌≡◌, refl, ap, ◌∙◌, fun_ext}
+use mathlib.Core.Logic.{inl}
 use mathlib.Core.List.{List}
 use native.Mathlib.Decide.{dec_lt}
 use Prim.Native.Nat.{ℕ, zero, suc, ◌+◌, ◌-◌, ◌*◌, ◌≤◌, ◌<◌}
 use native.Mathlib.Omega.{arith}
-use borrow.Author.Tests.{eqb-true}
-use lib.Dec.{eqb, ltb}
-use lib.ListN.{length, get_or, take, drop, replicate, length-drop, get_or-replicate, get_or-eq_default}
+use lib.ListN.{length, get_or, take, drop, replicate, length-drop}
 use lib.Seq.{take_all}
-use Rattle.words.specs.Choice.{pick}
-use Rattle.words.specs.Memory.{Mem, mem, from, write, patch}
-use Rattle.words.proofs.Slices.{mem_drop, mem_patch_at, length_patch}
+use Rattle.words.specs.Memory.{mem, from, write, patch}
+use Rattle.words.proofs.Slices.{mem_drop, mem_patch_at}
 use Rattle.words.proofs.Memory.{write_in, write_out}
-use Rattle.object.specs.declared.program_header.Dynamic.{Dynamic}
-use Rattle.object.specs.declared.program_header.Dynamic.TheVariants.{Missing, At}
-use Rattle.object.specs.declared.dynamic_array.Field.{Field}
-use Rattle.object.specs.DynamicArray.{no_field}
+use Rattle.object.specs.declared.program_header.Dynamic.TheVariants.{Missing}
 use Rattle.object.specs.DynamicTags as DT
-use Rattle.object.specs.DynamicFields.{Fields, fields_of}
+use Rattle.object.specs.DynamicFields.{Fields}
 use Rattle.object.specs.ProgramHeader.{dynamic_of}
-use Rattle.object.specs.Record.{entry_count}
 use Rattle.object.specs.Steps.Slots as slots
 use Rattle.object.specs.Steps.Slots.{slot_of, field_in, SameFields}
 use Rattle.scope.specs.declared.links.Link.{Link}

@@ -1,16 +1,15 @@
 -- What a call to `start_stop` comes to, step by step, is its definition. Assumes nothing.
 use mathlib.Core.Path.{◌≡◌, refl, sym, ap, ◌∙◌, subst}
-use mathlib.Core.Bool.{Bool, true, false}
-use mathlib.Core.Logic.{◌⊎◌, ⊎_elim}
-use mathlib.Core.List.{List, [], ◌∷◌, ◌++◌, map}
-use Prim.Native.Nat.{ℕ, zero, suc, ◌+◌, ◌^◌, ◌≤◌, ◌<◌}
+use mathlib.Core.Bool.{true, false}
+use mathlib.Core.Logic.{⊎_elim}
+use mathlib.Core.List.{List, [], ◌∷◌, map}
+use Prim.Native.Nat.{ℕ, zero, suc, ◌+◌, ◌≤◌, ◌<◌}
 use native.Mathlib.Omega.{arith}
 use native.Mathlib.Decide.{dec_lt}
 use borrow.Author.Tests.{eq-eqb}
 use lib.Dec.{eqb}
 use lib.ListN.{length, get_or, take, replicate, length-append, length-replicate, length-map, get_or-append}
 use lib.Seq.{get_or-append_seam}
-use Rattle.words.specs.Choice.{pick}
 use Rattle.words.specs.Memory.{Mem, mem, from}
 use Rattle.model.specs.Objects as objects
 use Rattle.model.specs.Objects.{obj}
@@ -18,12 +17,11 @@ use Rattle.model.specs.Order.{times, OnceEach}
 use Rattle.model.specs.Layout.{objs_of}
 use Rattle.model.proofs.OrderLaws.{decide}
 use Rattle.object.specs.Placed.{object_span}
-use Rattle.object.specs.ProgramHeader.{dynamic_of}
 use Rattle.object.specs.DynamicFields.{Fields}
 use Rattle.scope.specs.Steps.Links.{link_at}
 use Rattle.scope.specs.Steps.ScopeCode.{image_at}
 use Rattle.scope.specs.declared.links.Link.{Link}
-use Rattle.sheet.specs.Sheet.{Input, no_input}
+use Rattle.sheet.specs.Sheet.{Input}
 use Rattle.sheet.specs.Steps.Parts.{inputs_in, Tabled}
 use Rattle.sheet.specs.declared.sheet.Parts.{Parts}
 use Rattle.sheet.proofs.PartLaws.{handed_in_lem}
@@ -34,13 +32,12 @@ use Rattle.binder.specs.declared.Verdict.{Verdict}
 use Rattle.binder.specs.declared.Verdict.TheVariants.{Passed, Refused}
 use Rattle.binder.specs.declared.order.Order.{Order}
 use Rattle.binder.specs.Setting.{Setting}
-use Rattle.binder.specs.Instance.{File, file_image, object_from, object_at}
+use Rattle.binder.specs.Instance.{File, file_image, object_from}
 use Rattle.binder.specs.Verdict.{no_file}
 use Rattle.binder.specs.SetOrder.{set_order}
-use Rattle.binder.specs.Bind as bind
-use Rattle.binder.specs.Bind.{files_of, names_of, objects_of, types_verdict, outcome, bind_set, bind_of}
+use Rattle.binder.specs.Bind.{files_of, names_of, objects_of, types_verdict, outcome, bind_set}
 use Rattle.binder.specs.Steps.Relocating as relocating
-use Rattle.binder.specs.Steps.Prepared.{Prepared, link_of}
+use Rattle.binder.specs.Steps.Prepared.{Prepared}
 use Rattle.binder.specs.Steps.Needed.{Arranged}
 use Rattle.binder.specs.Steps.Finished as finished
 use Rattle.binder.specs.Steps.Finished.{RelocatedOr, BoundSet}

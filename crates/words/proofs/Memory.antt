@@ -1,10 +1,10 @@
 -- A write, byte by byte: inside its range, outside it, two writes side by side, two that do not meet. Assumes nothing.
-use Rattle.std.proofs.Common.{◌≡◌, ℕ, zero, suc, ◌+◌, ◌-◌, ◌<◌, ◌≤◌, Bool, true, false, ltb, leb, ◌⊎◌, sym, refl, ap, ◌∙◌, inl, inr, ⊎_elim, arith, le-ltb, lt-ltb, le-leb}
+use Rattle.std.proofs.Common.{◌≡◌, ℕ, ◌+◌, ◌-◌, ◌<◌, ◌≤◌, Bool, true, false, ltb, leb, ◌⊎◌, sym, refl, ap, ◌∙◌, inl, inr, ⊎_elim, arith, le-ltb, lt-ltb, le-leb}
 use mathlib.Core.Path.{fun_ext}
 use native.Mathlib.Decide.{dec_le, dec_lt}
 use borrow.Author.Tests.{lt-leb}
 use Rattle.words.specs.Choice.{pick, both}
-use Rattle.words.specs.Memory.{Mem, In, inside, write, from}
+use Rattle.words.specs.Memory.{Mem, In, write, from}
 
 abbrev pub Out : ℕ → ℕ → ℕ → Type 0
 Out at n i = (i < at) ⊎ (at + n ≤ i)

@@ -1,5 +1,5 @@
 -- The laws of page rounding. Assumes nothing.
-use Rattle.std.proofs.Common.{◌≡◌, ℕ, ◌+◌, ◌*◌, ◌%◌, ◌^◌, ◌<◌, ◌≤◌, List, [], ◌∷◌, map, refl, arith}
+use Rattle.std.proofs.Common.{◌≡◌, ℕ, ◌+◌, ◌%◌, ◌<◌, ◌≤◌, [], ◌∷◌, map, refl, arith}
 use Rattle.words.specs.Page.{page_size, page_start, page_offset, page_end}
 
 module _ (a : ℕ) where

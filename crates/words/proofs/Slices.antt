@@ -1,10 +1,9 @@
 -- The bytes of slices: their memory, parts of them, and what a write leaves. Assumes nothing.
-use Rattle.std.proofs.Common.{◌≡◌, ℕ, zero, suc, ◌+◌, ◌-◌, ◌<◌, ◌≤◌, min, Bool, true, false, ◌⊎◌, List, [], ◌∷◌, ◌++◌, map, length, get_or, take, drop, set, replicate, sym, refl, ap, ◌∙◌, inl, inr, ⊎_elim, append-nil, add-one, arith, length-append, length-drop, length-set, length-take, length-take-le, get_or-drop, take_all, get_or-set_other, get_or-take, get_or-set_same, get_or-append-add, ext_get_or}
+use Rattle.std.proofs.Common.{◌≡◌, ℕ, zero, suc, ◌+◌, ◌-◌, ◌<◌, ◌≤◌, min, ◌⊎◌, List, ◌∷◌, ◌++◌, map, length, get_or, take, drop, set, replicate, sym, refl, ap, ◌∙◌, inl, inr, ⊎_elim, add-one, arith, length-append, length-drop, length-set, length-take, length-take-le, get_or-drop, take_all, get_or-set_other, get_or-take, get_or-set_same, get_or-append-add, ext_get_or}
 use mathlib.Core.Path.{fun_ext}
 use native.Mathlib.Decide.{dec_lt, ℕ_discrete}
-use borrow.Rule.Slice.PartMut.{put_mid, Post-is}
+use borrow.Rule.Slice.PartMut.{put_mid}
 use lib.ListN.{length-map, get_or-append, get_or-eq_default}
-use lib.Seq.{drop-length, set_out}
 use Rattle.words.specs.Memory.{Mem, mem, tab, from, In, write, patch}
 use Rattle.words.proofs.Memory.{Out, in_or_out, write_in, write_out, write_none, write_cong, write_join, write_from}
 

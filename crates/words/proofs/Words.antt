@@ -1,9 +1,8 @@
 -- The laws of le_at and byte_of, each over the width. Assumes nothing.
-use Rattle.std.proofs.Common.{◌≡◌, ℕ, zero, suc, ◌+◌, ◌-◌, ◌*◌, ◌/◌, ◌%◌, ◌^◌, ◌<◌, ◌≤◌, min, ◌⊎◌, List, length, take, drop, sym, refl, ap, ◌∙◌, mod-eq_of_lt, mul_comm, add_comm, pow-suc, add-one, arith, lit<}
+use Rattle.std.proofs.Common.{◌≡◌, ℕ, zero, suc, ◌+◌, ◌*◌, ◌/◌, ◌%◌, ◌^◌, ◌<◌, ◌≤◌, min, List, length, take, drop, sym, refl, ap, ◌∙◌, mod-eq_of_lt, mul_comm, add_comm, pow-suc, add-one, arith, lit<}
 use native.Mathlib.Nat.{div-div-eq-div-mul, pow-succ', mod-one, one-le-pow}
 use native.Mathlib.Decide.{dec_lt}
 use lib.Arith.{mod-mul, digits_lt}
-use lib.ListN.{get_or-eq_default}
 use Rattle.words.specs.Memory.{Mem, mem, write}
 use Rattle.words.specs.Words.{le_at, byte_of}
 use Rattle.words.proofs.Memory.{Out, write_in, write_out}

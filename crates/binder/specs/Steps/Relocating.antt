@@ -1,7 +1,7 @@
 -- Relocating the objects of a set, one after another: what the code does, in its own order, over the arena as it is at each step. Document
 -- 01, "Relocated bytes and report", "Refused, in checking order" (14 to 18, 22, 25). `Bind` has what it comes to, from the placed bytes alone;
 -- proofs/RelocatedIs joins the two. Assumes nothing.
-use Rattle.std.specs.Prelude.{ℕ, zero, suc, ◌+◌, ◌-◌, ◌*◌, ◌/◌, ◌%◌, ◌^◌, ◌≤◌, min, Bool, true, false, not, ◌⊎◌, List, [], ◌∷◌, ◌++◌, length, take, drop, set, ◌==◌, nat_le, nat_lt, slice_index, slice_index_or, slice_set}
+use Rattle.std.specs.Prelude.{ℕ, zero, suc, ◌+◌, ◌-◌, ◌*◌, ◌/◌, ◌%◌, ◌^◌, ◌≤◌, min, Bool, true, false, not, ◌⊎◌, List, [], ◌∷◌, ◌++◌, length, take, drop, ◌==◌, nat_le, nat_lt, slice_index, slice_index_or, slice_set}
 use Rattle.words.specs.Choice.{pick, both, either}
 use Rattle.words.specs.Memory.{mem, from, patch}
 use Rattle.words.specs.Words.{le_at, byte_of, sum64}

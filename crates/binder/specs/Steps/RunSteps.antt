@@ -11,7 +11,7 @@ use Rattle.words.specs.Words.{le_at, byte_of, sum64}
 use Rattle.object.specs.Entries.{rela_at}
 use Rattle.object.specs.Steps.Actions.{row_by, field_by, searched_by}
 use Rattle.object.specs.declared.relocate.Field.{Field}
-use Rattle.object.specs.declared.relocate.Action.TheVariants.{Relative, Symbolic}
+use Rattle.object.specs.declared.relocate.Action.TheVariants.{Symbolic}
 use Rattle.scope.specs.declared.scope.Resolved.{Resolved}
 use Rattle.scope.specs.declared.scope.Resolved.TheVariants.{Absent, Found}
 use Rattle.binder.specs.declared.report.Progress.{Progress}

@@ -1,6 +1,6 @@
 -- The array of load segments that the code keeps, and what it stands for. Document 01: "The record keeps up to 16 load segments".
 -- Assumes nothing.
-use Rattle.std.specs.Prelude.{◌≡◌, List, ℕ, ◌≤◌, ◌<◌, min, length, take}
+use Rattle.std.specs.Prelude.{◌≡◌, List, ◌≤◌, ◌<◌, min, length, take}
 use Rattle.object.specs.declared.program_header.Segment.{Segment}
 use Rattle.object.specs.declared.program_header.Loads.{Loads}
 

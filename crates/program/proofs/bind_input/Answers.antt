@@ -2,7 +2,7 @@
 use Rattle.program.proofs.AnswerLaws.{short_refused, long_refused, whole_bound}
 use lib.ListN.{length}
 use native.Mathlib.Omega.{arith}
-use mathlib.Core.Path.{◌≡◌, sym, ◌∙◌}
+use mathlib.Core.Path.{sym, ◌∙◌}
 use Rattle.program.proofs.bind_input.Goals as goal
 
 pub returns-then-n-count : goal.returns-then-n-count

@@ -1,10 +1,10 @@
 -- `program::put_decimal` meets its contract. Assumes nothing.
 use Rattle.program.specs.Program.{digits, written, print}
 use mathlib.Core.List.{List}
-use mathlib.Core.Path.{◌≡◌, ap, ◌∙◌}
+use mathlib.Core.Path.{ap, ◌∙◌}
 use Rattle.program.proofs.PrintLaws.{width_most, decimal_part}
 use native.Mathlib.Omega.{arith}
-use Prim.Native.Nat.{ℕ, ◌≤◌}
+use Prim.Native.Nat.{ℕ}
 use Rattle.program.proofs.put_decimal.Goals as goal
 
 pub overflow_sub-start : goal.overflow_sub-start

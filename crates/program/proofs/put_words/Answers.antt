@@ -4,8 +4,8 @@ use Rattle.words.proofs.NameLaws.{name_more, name_stop, name_none}
 use Rattle.words.specs.Names.{name_at}
 use lib.ListN.{get_or}
 use native.Mathlib.Omega.{arith}
-use mathlib.Core.Path.{◌≡◌, refl, sym, ap, ◌∙◌}
-use Prim.Native.Nat.{◌+◌, ◌-◌, ◌≤◌}
+use mathlib.Core.Path.{refl, sym, ap, ◌∙◌}
+use Prim.Native.Nat.{◌+◌}
 use Rattle.program.proofs.put_words.Goals as goal
 
 pub loop-i-init : goal.loop-i-init

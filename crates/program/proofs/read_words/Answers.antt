@@ -3,8 +3,8 @@ use Rattle.program.specs.Program.{word_in}
 use Rattle.words.proofs.Slices.{patch_none, patch_next}
 use lib.ListN.{set, length-set}
 use native.Mathlib.Omega.{arith}
-use mathlib.Core.Path.{◌≡◌, sym, ap, ◌∙◌}
-use Prim.Native.Nat.{◌+◌, ◌-◌, ◌≤◌}
+use mathlib.Core.Path.{◌≡◌, sym, ap}
+use Prim.Native.Nat.{◌+◌}
 use Rattle.program.proofs.read_words.Goals as goal
 
 pub loop-i-init : goal.loop-i-init

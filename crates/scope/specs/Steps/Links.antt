@@ -9,7 +9,6 @@ use Rattle.std.proofs.Math.Seq.{paste}
 use Rattle.words.specs.Choice.{pick, both}
 use Rattle.object.specs.declared.hash_tables.HashTable.{HashTable}
 use Rattle.object.specs.declared.hash_tables.HashTable.TheVariants.{Without, SysV, Gnu}
-use Rattle.object.specs.declared.hash_tables.View.{View}
 use Rattle.scope.specs.declared.links.Link.{Link}
 
 -- ---- what the words say

@@ -5,7 +5,6 @@
 use Rattle.std.specs.Prelude.{◌≡◌, ℕ, suc, ◌-◌, List, [], ◌∷◌, take, drop}
 use Rattle.words.specs.Choice.{pick}
 use Rattle.words.specs.Words.{sum64}
-use Rattle.object.specs.declared.hash_tables.Definition.{Definition}
 use Rattle.object.specs.declared.hash_tables.Exported.{Exported}
 use Rattle.object.specs.declared.hash_tables.Exported.TheVariants as object
 use Rattle.object.specs.HashTable.{answer_by, address_of}

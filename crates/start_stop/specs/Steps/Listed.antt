@@ -1,5 +1,5 @@
 -- What the code leaves in a list, word by word, and what it answers. Assumes nothing.
-use Rattle.std.specs.Prelude.{List, [], ◌≡◌, ℕ, ◌+◌, length, replicate}
+use Rattle.std.specs.Prelude.{List, ◌≡◌, ℕ, ◌+◌, length}
 use Rattle.words.specs.Memory.{mem, patch}
 use Rattle.start_stop.specs.StartStop.{Calls, Listing, listing, refused_lists, list_by}
 use Rattle.start_stop.specs.declared.Lists.{Lists}

@@ -2,7 +2,7 @@
 use Rattle.binder.specs.Steps.Finished.{ends_by}
 use Rattle.binder.specs.Bind.{unless}
 use Rattle.binder.specs.Verdict.{verdict}
-use Rattle.std.proofs.Common.{◌≡◌, sym, ◌∙◌, eq-eqb, ne_eqb}
+use Rattle.std.proofs.Common.{sym, ◌∙◌, eq-eqb, ne_eqb}
 use Rattle.binder.proofs.bind.end.Goals as goal
 
 pub returns-then-p-ne0 : goal.returns-then-p-ne0

@@ -1,5 +1,5 @@
 -- `binder::crossing::claim_at` meets its contract. Assumes nothing.
-use Rattle.std.proofs.Common.{◌≡◌, ◌+◌, ◌-◌, ◌*◌, sym, ◌∙◌, arith, eq-eqb, ne_eqb}
+use Rattle.std.proofs.Common.{◌≡◌, ◌+◌, ◌*◌, sym, ◌∙◌, arith, eq-eqb, ne_eqb}
 use Rattle.binder.specs.Steps.Crossing as crossing-specs
 use Rattle.object.specs.Entries as entries
 use Rattle.object.specs.Symbol as symbols

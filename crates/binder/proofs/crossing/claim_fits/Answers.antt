@@ -1,5 +1,5 @@
 -- `binder::crossing::claim_fits` meets its contract. Assumes nothing.
-use Rattle.std.proofs.Common.{◌+◌, ◌-◌, ◌<◌, arith}
+use Rattle.std.proofs.Common.{◌+◌, ◌<◌, arith}
 use borrow.Author.Tests.{lt-leb}
 use Rattle.binder.proofs.ClaimLaws.{fits_test}
 use Rattle.binder.proofs.crossing.claim_fits.Goals as goal

@@ -1,5 +1,5 @@
 -- `binder::crossing::claim_in` meets its contract. Assumes nothing.
-use Rattle.std.proofs.Common.{◌-◌, ap, ◌∙◌}
+use Rattle.std.proofs.Common.{ap, ◌∙◌}
 use Rattle.binder.specs.Steps.Crossing.{claim_of}
 use Rattle.binder.proofs.ClaimLaws.{entry_first, entry_second}
 use Rattle.binder.proofs.crossing.claim_in.Goals as goal

@@ -1,4 +1,4 @@
-use Rattle.std.proofs.Common.{◌≡◌, ◌-◌, sym, arith, rules}
+use Rattle.std.proofs.Common.{sym, arith, rules}
 use Rattle.binder.proofs.ClaimLaws.{clash, windows_begin, windows_go, windows_end}
 use borrow.Author.Tests.{not-false}
 use Rattle.binder.proofs.crossing.claims_apart.Goals as goal

@@ -1,4 +1,4 @@
-use Rattle.std.proofs.Common.{ℕ, ◌+◌, ◌-◌, ◌≤◌, length, replicate, sym, ap, ◌∙◌, arith, leb-true}
+use Rattle.std.proofs.Common.{ℕ, ◌+◌, ◌≤◌, length, replicate, sym, ap, ◌∙◌, arith, leb-true}
 use Rattle.binder.proofs.LoopLaws.{counts_down}
 use Rattle.binder.proofs.ClaimLaws.{clash, walk_begins, walk_passes, walk_goes, walk_ends}
 use Rattle.binder.proofs.crossing.claims_in.Goals as goal

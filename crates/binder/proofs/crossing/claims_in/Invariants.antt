@@ -1,5 +1,5 @@
 -- `binder::crossing::claims_in` meets its contract. Assumes nothing.
-use Rattle.std.proofs.Common.{◌+◌, ◌-◌, ◌≤◌, ◌∙◌}
+use Rattle.std.proofs.Common.{◌-◌}
 use Rattle.binder.proofs.ClaimLaws.{ClaimsWalked}
 use Rattle.binder.proofs.crossing.claims_in.Given as goal
 

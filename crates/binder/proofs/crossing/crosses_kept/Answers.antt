@@ -1,4 +1,4 @@
-use Rattle.std.proofs.Common.{◌≡◌, ◌-◌, ◌≤◌, ap, ◌∙◌, arith}
+use Rattle.std.proofs.Common.{ap, ◌∙◌, arith}
 use Rattle.binder.specs.Copies.{crosses}
 use Rattle.binder.proofs.LoopLaws.{counts_down}
 use Rattle.binder.proofs.CrossCode.{some_begins, some_met, some_goes, some_ends}

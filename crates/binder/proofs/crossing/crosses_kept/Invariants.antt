@@ -1,5 +1,5 @@
 -- `binder::crossing::crosses_kept` meets its contract. Assumes nothing.
-use Rattle.std.proofs.Common.{◌≡◌, ◌-◌, ◌≤◌, ◌∙◌}
+use Rattle.std.proofs.Common.{◌≡◌, ◌-◌, ◌≤◌}
 use Rattle.words.specs.Choice.{some}
 use Rattle.binder.specs.Copies.{crosses}
 use Rattle.binder.specs.Steps.Crossing.{kept_from}

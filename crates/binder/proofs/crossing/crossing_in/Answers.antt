@@ -1,5 +1,5 @@
 -- `binder::crossing::crossing_in` meets its contract. Assumes nothing.
-use Rattle.std.proofs.Common.{◌-◌, sym, refl, inl, inr, arith}
+use Rattle.std.proofs.Common.{sym, refl, inl, inr, arith}
 use Rattle.binder.proofs.ClaimLaws.{clash}
 use Rattle.binder.proofs.crossing.crossing_in.Goals as goal
 

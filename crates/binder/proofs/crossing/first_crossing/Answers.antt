@@ -1,4 +1,4 @@
-use Rattle.std.proofs.Common.{◌≡◌, ◌-◌, ◌*◌, ◌^◌, ◌≤◌, take, arith, rules}
+use Rattle.std.proofs.Common.{take, arith, rules}
 use Rattle.sheet.specs.Steps.Parts.{inputs_in}
 use Rattle.binder.proofs.CrossCode.{earlier_bounded, earlier_less}
 use Rattle.binder.proofs.WalkLaws.{search_begin, search_goes, search_ends}

@@ -1,4 +1,4 @@
-use Rattle.std.proofs.Common.{◌≡◌, ℕ, ◌+◌, ◌-◌, ◌*◌, ◌≤◌, sym, ◌∙◌, subst, arith, ne_eqb}
+use Rattle.std.proofs.Common.{◌≡◌, ℕ, ◌-◌, sym, ◌∙◌, subst, arith, ne_eqb}
 use Rattle.object.specs.Entries.{relas_from}
 use Rattle.binder.specs.Steps.Crossing.{NoCopies}
 use Rattle.binder.proofs.LoopLaws.{counts_down}

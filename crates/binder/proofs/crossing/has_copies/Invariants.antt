@@ -1,5 +1,5 @@
 -- `binder::crossing::has_copies` meets its contract. Assumes nothing.
-use Rattle.std.proofs.Common.{◌≡◌, ◌+◌, ◌-◌, ◌*◌, ◌≤◌, ◌∙◌}
+use Rattle.std.proofs.Common.{◌≡◌, ◌+◌, ◌-◌, ◌*◌, ◌≤◌}
 use Rattle.object.specs.Entries.{relas_from}
 use Rattle.binder.specs.Steps.Crossing.{NoCopies}
 use Rattle.binder.proofs.crossing.has_copies.Given as goal

@@ -1,5 +1,5 @@
 -- `binder::crossing::plainly_apart` meets its contract. Assumes nothing.
-use Rattle.std.proofs.Common.{◌≡◌, ◌-◌, ◌≤◌, length}
+use Rattle.std.proofs.Common.{◌-◌, ◌≤◌, length}
 use Rattle.sheet.specs.Steps.Parts.{inputs_in}
 use Rattle.binder.proofs.ClaimLaws.{NoneBefore}
 use Rattle.binder.proofs.crossing.plainly_apart.Given as goal

@@ -1,4 +1,4 @@
-use Rattle.std.proofs.Common.{◌≡◌, ℕ, ◌+◌, ◌-◌, ◌*◌, ◌^◌, ◌≤◌, min, sym, ap, ◌∙◌, arith}
+use Rattle.std.proofs.Common.{ℕ, min, sym, ap, ◌∙◌, arith}
 use Rattle.object.specs.Record.{held_by}
 use Rattle.binder.specs.Steps.Relocating.{image_in}
 use Rattle.binder.specs.Steps.Crossing.{seen_of, entries_of, round}

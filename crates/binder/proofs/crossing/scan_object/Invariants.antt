@@ -1,5 +1,5 @@
 -- `binder::crossing::scan_object` meets its contract. Assumes nothing.
-use Rattle.std.proofs.Common.{◌≡◌, ◌+◌, ◌-◌, ◌*◌, ◌^◌, ◌≤◌, length, ◌∙◌}
+use Rattle.std.proofs.Common.{◌≡◌, ◌+◌, ◌-◌, ◌*◌, ◌^◌, ◌≤◌, length}
 use Rattle.object.specs.Record.{held_by}
 use Rattle.binder.specs.Steps.Relocating.{image_in}
 use Rattle.binder.specs.Steps.Crossing.{seen_of, entries_of, round}

@@ -1,4 +1,4 @@
-use Rattle.std.proofs.Common.{◌≡◌, ◌-◌, ◌*◌, ◌^◌, ◌≤◌, length, take, sym, ◌∙◌, arith, rules}
+use Rattle.std.proofs.Common.{◌≡◌, length, take, sym, ◌∙◌, arith, rules}
 use Rattle.sheet.specs.Steps.Parts.{inputs_in}
 use Rattle.binder.proofs.LoopLaws.{counts_down}
 use Rattle.binder.proofs.ApartLaws.{bool_clash}

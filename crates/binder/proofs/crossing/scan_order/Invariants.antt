@@ -1,5 +1,5 @@
 -- `binder::crossing::scan_order` meets its contract. Assumes nothing.
-use Rattle.std.proofs.Common.{◌≡◌, ◌-◌, ◌*◌, ◌^◌, ◌≤◌, length, take, ◌∙◌}
+use Rattle.std.proofs.Common.{◌≡◌, ◌-◌, ◌*◌, ◌^◌, ◌≤◌, length, take}
 use Rattle.sheet.specs.Steps.Parts.{inputs_in}
 use Rattle.binder.specs.Steps.Crossing.{round, Readable}
 use Rattle.binder.proofs.WalkLaws.{Scanning}

@@ -1,5 +1,5 @@
 -- `binder::crossing::tables_again` meets its contract. Assumes nothing.
-use Rattle.std.proofs.Common.{◌-◌, ap, ◌∙◌}
+use Rattle.std.proofs.Common.{ap, ◌∙◌}
 use Rattle.object.specs.Record.{Record}
 use Rattle.binder.specs.Steps.Crossing.{tables_of}
 use Rattle.binder.proofs.crossing.tables_again.Goals as goal

@@ -1,5 +1,4 @@
 -- `binder::crossing::tables_copy` meets its contract. Assumes nothing.
-use Rattle.std.proofs.Common.{◌-◌}
 use Rattle.binder.proofs.ClaimLaws.{clash, no_copies_both}
 use Rattle.binder.proofs.crossing.tables_copy.Goals as goal
 

@@ -1,5 +1,4 @@
 -- `binder::crossing::tables_of` meets its contract. Assumes nothing.
-use Rattle.std.proofs.Common.{◌-◌}
 use Rattle.binder.proofs.crossing.tables_of.Goals as goal
 
 pub returns : goal.returns

@@ -1,4 +1,4 @@
-use Rattle.std.proofs.Common.{◌-◌, sym}
+use Rattle.std.proofs.Common.{sym}
 use Rattle.binder.proofs.LoopLaws.{counts_down}
 use Rattle.binder.proofs.ClaimLaws.{clash, taking_begins, taking_goes, taking_ends}
 use Rattle.binder.proofs.crossing.take_marks.Goals as goal

@@ -1,4 +1,4 @@
-use Rattle.std.proofs.Common.{◌≡◌, ◌-◌, ◌≤◌, arith, rules}
+use Rattle.std.proofs.Common.{arith, rules}
 use Rattle.binder.proofs.LoopLaws.{counts_down}
 use Rattle.sheet.specs.Steps.Parts.{inputs_in}
 use Rattle.binder.specs.Steps.Needed.{needs_at}

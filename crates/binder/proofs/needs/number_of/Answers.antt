@@ -1,4 +1,4 @@
-use Rattle.std.proofs.Common.{◌≡◌, ◌-◌, ◌≤◌, true, false, length, sym, refl, ap, ◌∙◌, arith, rules}
+use Rattle.std.proofs.Common.{◌≡◌, true, false, length, sym, refl, ap, ◌∙◌, arith, rules}
 use Rattle.words.proofs.Slices.{length_mapped}
 use Rattle.binder.proofs.LoopLaws.{counts_down}
 use Rattle.words.specs.Names.{same_bytes}

@@ -1,5 +1,5 @@
 -- `binder::needs::number_of` meets its contract. The invariant: the search from object `j` on gives what the whole one gives. Assumes nothing.
-use Rattle.std.proofs.Common.{◌≡◌, ◌-◌, ◌≤◌, ◌∙◌}
+use Rattle.std.proofs.Common.{◌≡◌, ◌-◌, ◌≤◌}
 use Rattle.sheet.specs.Steps.Parts.{inputs_in}
 use Rattle.binder.proofs.NeedsLaws.{number_from}
 use Rattle.binder.proofs.needs.number_of.Given as goal

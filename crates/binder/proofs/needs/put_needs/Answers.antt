@@ -1,4 +1,4 @@
-use Rattle.std.proofs.Common.{◌≡◌, ℕ, ◌+◌, ◌-◌, ◌*◌, ◌<◌, ◌≤◌, List, set, sym, ap, ◌∙◌, arith, length-set, rules}
+use Rattle.std.proofs.Common.{ℕ, ◌+◌, ◌*◌, List, set, sym, ap, ◌∙◌, arith, length-set, rules}
 use Rattle.binder.proofs.LoopLaws.{counts_down}
 use Rattle.words.proofs.Slices.{patch_none, patch_next}
 use Rattle.sheet.specs.Steps.Parts.{inputs_in}

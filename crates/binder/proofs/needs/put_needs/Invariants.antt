@@ -1,5 +1,5 @@
 -- `binder::needs::put_needs` meets its contract. The invariant: the numbers of the first `i` needs are written. Assumes nothing.
-use Rattle.std.proofs.Common.{◌≡◌, ◌+◌, ◌-◌, ◌*◌, ◌<◌, ◌≤◌, length, get_or, ◌∙◌}
+use Rattle.std.proofs.Common.{◌≡◌, ◌-◌, ◌*◌, ◌<◌, ◌≤◌, length, get_or}
 use Rattle.words.specs.Memory.{patch}
 use Rattle.sheet.specs.Steps.Parts.{inputs_in}
 use Rattle.binder.proofs.NeedsLaws.{number_at}

@@ -1,4 +1,4 @@
-use Rattle.std.proofs.Common.{◌+◌, ◌-◌, arith}
+use Rattle.std.proofs.Common.{arith}
 use Rattle.binder.proofs.ArrangeSteps.{visit_none, visit_one, visit_all}
 use Rattle.binder.proofs.order.arrange.Goals as goal
 

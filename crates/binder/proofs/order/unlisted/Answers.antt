@@ -1,4 +1,4 @@
-use Rattle.std.proofs.Common.{◌+◌, ◌-◌, ◌≤◌, arith}
+use Rattle.std.proofs.Common.{arith}
 use Rattle.binder.proofs.ArrangeSteps.{clear_none, clear_one, clear_all}
 use Rattle.binder.proofs.order.unlisted.Goals as goal
 

@@ -1,4 +1,4 @@
-use Rattle.std.proofs.Common.{◌≡◌, ℕ, ◌+◌, ◌-◌, ◌≤◌, true, false, sym, ap, ◌∙◌, arith, eq-eqb, ne_eqb}
+use Rattle.std.proofs.Common.{◌≡◌, ℕ, ◌-◌, true, false, sym, ap, ◌∙◌, arith, eq-eqb, ne_eqb}
 use Rattle.binder.proofs.LoopLaws.{counts_down}
 use Rattle.binder.proofs.OwnOrderLaws.{some_entry, no_entry}
 use Rattle.binder.specs.OwnOrder.{is_copy}

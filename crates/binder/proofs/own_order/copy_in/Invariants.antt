@@ -1,4 +1,4 @@
-use Rattle.std.proofs.Common.{◌≡◌, ◌+◌, ◌-◌, ◌≤◌, ◌∙◌}
+use Rattle.std.proofs.Common.{◌≡◌, ◌-◌, ◌≤◌}
 use Rattle.binder.specs.OwnOrder.{is_copy}
 use Rattle.object.specs.Entries.{relas_from}
 use Rattle.words.specs.Choice.{some}

@@ -1,4 +1,4 @@
-use Rattle.std.proofs.Common.{◌≡◌, ℕ, ◌+◌, ◌-◌, ◌≤◌, true, false, eqb, sym, ap, ◌∙◌, arith, rules, eq-eqb, ne_eqb}
+use Rattle.std.proofs.Common.{◌≡◌, ℕ, ◌+◌, ◌-◌, true, false, eqb, sym, ap, ◌∙◌, arith, rules, eq-eqb, ne_eqb}
 use Rattle.binder.proofs.LoopLaws.{counts_down}
 use Rattle.binder.proofs.OwnOrderLaws.{every_up, every_up_none}
 use Rattle.model.specs.Order.{up_from, times}

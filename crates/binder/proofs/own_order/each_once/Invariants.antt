@@ -1,4 +1,4 @@
-use Rattle.std.proofs.Common.{◌≡◌, ◌+◌, ◌-◌, ◌≤◌, eqb, ◌∙◌}
+use Rattle.std.proofs.Common.{◌≡◌, ◌+◌, ◌-◌, ◌≤◌, eqb}
 use Rattle.model.specs.Order.{up_from, times}
 use Rattle.words.specs.Choice.{every}
 use Rattle.binder.proofs.own_order.each_once.Given as goal

@@ -1,6 +1,6 @@
 use Rattle.binder.proofs.OwnOrderLaws.{copy_stops, copy_goes}
 use Rattle.binder.proofs.RunLaws.{again_many, again_refusal_lem, again_record_lem}
-use Rattle.std.proofs.Common.{◌≡◌, sym, ◌∙◌, arith}
+use Rattle.std.proofs.Common.{sym, ◌∙◌, arith}
 use Rattle.binder.proofs.own_order.has_copy.Goals as goal
 
 pub returns-then-l-gt16 : goal.returns-then-l-gt16

@@ -1,4 +1,4 @@
-use Rattle.std.proofs.Common.{◌≡◌, ℕ, ◌+◌, ◌-◌, ◌≤◌, length, take, refl, ap, ◌∙◌, arith, length-set, rules}
+use Rattle.std.proofs.Common.{◌≡◌, ℕ, length, take, refl, ap, ◌∙◌, arith, length-set, rules}
 use Rattle.binder.proofs.LoopLaws.{counts_down}
 use Rattle.binder.proofs.OwnOrderLaws.{held_next}
 use lib.Seq.{take-length}

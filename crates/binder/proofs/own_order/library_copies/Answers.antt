@@ -1,4 +1,4 @@
-use Rattle.std.proofs.Common.{◌≡◌, ◌+◌, ◌-◌, ◌≤◌, true, false, sym, refl, ◌∙◌, arith, rules}
+use Rattle.std.proofs.Common.{true, false, sym, refl, ◌∙◌, arith, rules}
 use Rattle.binder.proofs.LoopLaws.{counts_down}
 use Rattle.binder.proofs.OwnOrderLaws.{some_up, some_up_none}
 use Rattle.binder.specs.Steps.OrderTaken.{copy_at}

@@ -1,4 +1,4 @@
-use Rattle.std.proofs.Common.{◌≡◌, ◌+◌, ◌-◌, ◌≤◌, ◌∙◌}
+use Rattle.std.proofs.Common.{◌≡◌, ◌-◌, ◌≤◌}
 use Rattle.binder.specs.Steps.OrderTaken.{copy_at}
 use Rattle.sheet.specs.Steps.Parts.{inputs_in}
 use Rattle.model.specs.Order.{up_from}

@@ -1,4 +1,4 @@
-use Rattle.std.proofs.Common.{◌≡◌, ◌+◌, ◌-◌, ◌≤◌, length, drop, ◌∙◌}
+use Rattle.std.proofs.Common.{◌≡◌, ◌-◌, ◌≤◌, length, drop}
 use Rattle.model.specs.Order.{listed}
 use Rattle.words.specs.Choice.{every}
 use Rattle.binder.proofs.own_order.only_libraries.Given as goal

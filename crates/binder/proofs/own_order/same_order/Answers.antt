@@ -1,4 +1,4 @@
-use Rattle.std.proofs.Common.{◌≡◌, ℕ, ◌+◌, ◌-◌, ◌≤◌, true, false, length, take, sym, refl, ap, ◌∙◌, arith, length-take, get_or-take, rules, eq-eqb, ne_eqb}
+use Rattle.std.proofs.Common.{◌≡◌, ℕ, true, false, length, take, sym, refl, ap, ◌∙◌, arith, length-take, get_or-take, rules, eq-eqb, ne_eqb}
 use Rattle.binder.proofs.LoopLaws.{counts_down}
 use Rattle.words.proofs.NameLaws.{same_more, same_end, same_lengths}
 use Rattle.words.specs.Names.{same_bytes}

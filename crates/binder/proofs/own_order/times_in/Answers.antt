@@ -1,4 +1,4 @@
-use Rattle.std.proofs.Common.{◌≡◌, ◌+◌, ◌-◌, ◌≤◌, ◌∙◌, arith}
+use Rattle.std.proofs.Common.{arith}
 use Rattle.binder.proofs.LoopLaws.{counts_down}
 use Rattle.binder.proofs.OwnOrderLaws.{times_next, times_done}
 use Rattle.binder.proofs.own_order.times_in.Goals as goal

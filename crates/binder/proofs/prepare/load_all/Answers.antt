@@ -1,4 +1,4 @@
-use Rattle.std.proofs.Common.{◌≡◌, ◌+◌, ◌-◌, ◌^◌, ◌<◌, ◌≤◌, length, sym, refl, ◌∙◌, arith, rules}
+use Rattle.std.proofs.Common.{◌+◌, ◌^◌, ◌<◌, ◌≤◌, length, sym, refl, ◌∙◌, arith, rules}
 use Rattle.sheet.specs.Steps.Parts.{inputs_in}
 use Rattle.binder.specs.Setting.{setting_at}
 use Rattle.binder.proofs.PrepareLaws.{load_begin, load_fail, load_fits, load_turn, load_finish}

@@ -1,5 +1,5 @@
 -- `binder::prepare::load_all` meets its contract. Assumes nothing.
-use Rattle.std.proofs.Common.{◌≡◌, ◌+◌, ◌-◌, ◌^◌, ◌<◌, ◌≤◌, length, ◌∙◌}
+use Rattle.std.proofs.Common.{◌≡◌, ◌-◌, length}
 use Rattle.sheet.specs.Steps.Parts.{inputs_in}
 use Rattle.binder.specs.Setting.{setting_at}
 use Rattle.binder.proofs.PrepareLaws.{Loading}

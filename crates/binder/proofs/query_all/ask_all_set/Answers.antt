@@ -1,5 +1,5 @@
 -- `binder::query_all::ask_all_set` meets its contract. Assumes nothing.
-use Rattle.std.proofs.Common.{◌≡◌, ℕ, length, sym, ap, ◌∙◌, arith}
+use Rattle.std.proofs.Common.{ℕ, length, sym, ap, ◌∙◌, arith}
 use Rattle.sheet.specs.Steps.Parts.{inputs_in}
 use Rattle.binder.specs.QueryAll.{refused_all}
 use Rattle.binder.proofs.QueryAllIs.{all_refused, all_thirteen, all_list, asked_all}

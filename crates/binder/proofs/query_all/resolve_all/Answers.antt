@@ -1,4 +1,4 @@
-use Rattle.std.proofs.Common.{◌≡◌, ◌-◌, refl, ap, ◌∙◌, arith, length-set}
+use Rattle.std.proofs.Common.{refl, ap, ◌∙◌, arith, length-set}
 use Rattle.model.specs.Relocation.{address_or0}
 use Rattle.scope.specs.declared.scope.Resolved.{Resolved}
 use Rattle.binder.specs.Steps.ScopeModel.{scoped_of}

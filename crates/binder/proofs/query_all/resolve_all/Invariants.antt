@@ -1,5 +1,5 @@
 -- `binder::query_all::resolve_all` meets its contract. The invariant: the words before `i` are those of the names before `at`. Assumes nothing.
-use Rattle.std.proofs.Common.{◌≡◌, ◌-◌, length, ◌∙◌}
+use Rattle.std.proofs.Common.{◌≡◌, ◌-◌, length}
 use Rattle.binder.specs.Steps.AllNames.{link_address}
 use Rattle.binder.proofs.AllNamesLaws.{Filling}
 use Rattle.binder.proofs.query_all.resolve_all.Given as goal

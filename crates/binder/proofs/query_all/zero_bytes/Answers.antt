@@ -1,4 +1,4 @@
-use Rattle.std.proofs.Common.{◌≡◌, ◌+◌, ◌-◌, ◌≤◌, arith}
+use Rattle.std.proofs.Common.{arith}
 use Rattle.binder.proofs.AllNamesLaws.{zeros_more, zeros_same, zeros_end}
 use Rattle.binder.proofs.query_all.zero_bytes.Goals as goal
 

@@ -1,4 +1,4 @@
-use Rattle.std.proofs.Common.{◌≡◌, ◌+◌, ◌-◌, ◌*◌, ◌≤◌, refl, ◌∙◌, arith}
+use Rattle.std.proofs.Common.{refl, ◌∙◌, arith}
 use Rattle.binder.proofs.LoopLaws.{counts_down}
 use Rattle.binder.proofs.RelativeLaws.{relative_written, relatives_none, relatives_next}
 use Rattle.binder.proofs.relocate.relatives.Goals as goal

@@ -1,5 +1,5 @@
 -- `binder::relocate::relatives` meets its contract. Assumes nothing.
-use Rattle.std.proofs.Common.{◌≡◌, ◌+◌, ◌-◌, ◌*◌, ◌≤◌, length, ◌∙◌}
+use Rattle.std.proofs.Common.{◌≡◌, ◌+◌, ◌-◌, ◌*◌, ◌≤◌, length}
 use Rattle.binder.specs.Steps.RunSteps.{RelativesWritten}
 use Rattle.binder.proofs.relocate.relatives.Given as goal
 

@@ -1,4 +1,4 @@
-use Rattle.std.proofs.Common.{◌≡◌, ◌-◌, ◌≤◌, length, refl, ◌∙◌, arith, rules}
+use Rattle.std.proofs.Common.{◌≡◌, length, refl, ◌∙◌, arith, rules}
 use Rattle.sheet.specs.Steps.Parts.{inputs_in}
 use Rattle.binder.proofs.RunLaws.{object_stops, object_goes, objects_end}
 use Rattle.binder.proofs.LoopLaws.{counts_down}

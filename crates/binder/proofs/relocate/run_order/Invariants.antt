@@ -1,5 +1,5 @@
 -- `binder::relocate::run_order` meets its contract. The invariant: what is left of the order comes to what the whole does. Assumes nothing.
-use Rattle.std.proofs.Common.{◌≡◌, ◌-◌, ◌≤◌, length, take, ◌∙◌}
+use Rattle.std.proofs.Common.{◌≡◌, ◌-◌, ◌≤◌, length, take}
 use Rattle.sheet.specs.Steps.Parts.{inputs_in}
 use Rattle.binder.specs.Steps.Relocating.{left, started, run_order}
 use Rattle.binder.proofs.RunLaws.{objects_left}

@@ -1,4 +1,4 @@
-use Rattle.std.proofs.Common.{◌≡◌, ◌-◌, ◌<◌, ◌≤◌, refl, ◌∙◌, arith}
+use Rattle.std.proofs.Common.{◌≡◌, refl, ◌∙◌, arith}
 use native.Mathlib.Nat.{sub-zero}
 use Rattle.object.proofs.Ranges.{range_none}
 use Rattle.object.specs.Record.{held_by}
@@ -27,15 +27,15 @@ shape_of-report-then-n-j c = c.loop-i.invariant.1
 pub returns-then-n-j : goal.returns-then-n-j
 returns-then-n-j c =
     let passed :
-        (entries_left c.args.table.now c.args.t (held_by c.args.o) c.args.x.at c.args.x.first c.args.x.count c.symbolics-r.result.next (left c.keep-q.result c.symbolics-r.new.arena c.loop-i.report)
-        ≡ run_table c.args.table.now c.args.t (held_by c.args.o) c.args.x.at c.args.x.first c.args.x.count 0 (left c.args.p c.args.arena.now c.args.report.now))
-        × SymbolsOf c.args.t (held_by c.args.o) c.symbols_of-y.result c.symbolics-r.new.arena =
-        let a = c.args in
-        let l = c.loop-i in
-        let f = c.run_relatives in
-        let g = c.symbolics-r in
-        rw c.keep-q.ensures
-        (runs_passed a.table.now a.t (held_by a.o) c.symbols_of-y.result a.x.at a.x.first a.x.count l.w.low l.w.high l.q l.arena f.new.arena g.new.arena l.report l.i f.result g.result f.ensures.2 g.ensures.2 (rw c.bounds_of-b.ensures.segments at l.invariant.3) l.invariant.4 l.invariant.5 l.invariant.6) in
+    (entries_left c.args.table.now c.args.t (held_by c.args.o) c.args.x.at c.args.x.first c.args.x.count c.symbolics-r.result.next (left c.keep-q.result c.symbolics-r.new.arena c.loop-i.report)
+    ≡ run_table c.args.table.now c.args.t (held_by c.args.o) c.args.x.at c.args.x.first c.args.x.count 0 (left c.args.p c.args.arena.now c.args.report.now))
+    × SymbolsOf c.args.t (held_by c.args.o) c.symbols_of-y.result c.symbolics-r.new.arena =
+    let a = c.args in
+    let l = c.loop-i in
+    let f = c.run_relatives in
+    let g = c.symbolics-r in
+    rw c.keep-q.ensures
+    (runs_passed a.table.now a.t (held_by a.o) c.symbols_of-y.result a.x.at a.x.first a.x.count l.w.low l.w.high l.q l.arena f.new.arena g.new.arena l.report l.i f.result g.result f.ensures.2 g.ensures.2 (rw c.bounds_of-b.ensures.segments at l.invariant.3) l.invariant.4 l.invariant.5 l.invariant.6) in
     let a = c.args in
     entries_end a.table.now a.t (held_by a.o) a.x.at a.x.first a.x.count c.symbolics-r.result.next c.if-n-j.true passed.0
 
@@ -51,15 +51,15 @@ shape_of-report-then-q-ne0 c = c.run_action-q.auto.report ∙ c.loop-i.invariant
 pub returns-then-q-ne0 : goal.returns-then-q-ne0
 returns-then-q-ne0 c =
     let passed :
-        (entries_left c.args.table.now c.args.t (held_by c.args.o) c.args.x.at c.args.x.first c.args.x.count c.symbolics-r.result.next (left c.keep-q.result c.symbolics-r.new.arena c.loop-i.report)
-        ≡ run_table c.args.table.now c.args.t (held_by c.args.o) c.args.x.at c.args.x.first c.args.x.count 0 (left c.args.p c.args.arena.now c.args.report.now))
-        × SymbolsOf c.args.t (held_by c.args.o) c.symbols_of-y.result c.symbolics-r.new.arena =
-        let a = c.args in
-        let l = c.loop-i in
-        let f = c.run_relatives in
-        let g = c.symbolics-r in
-        rw c.keep-q.ensures
-        (runs_passed a.table.now a.t (held_by a.o) c.symbols_of-y.result a.x.at a.x.first a.x.count l.w.low l.w.high l.q l.arena f.new.arena g.new.arena l.report l.i f.result g.result f.ensures.2 g.ensures.2 (rw c.bounds_of-b.ensures.segments at l.invariant.3) l.invariant.4 l.invariant.5 l.invariant.6) in
+    (entries_left c.args.table.now c.args.t (held_by c.args.o) c.args.x.at c.args.x.first c.args.x.count c.symbolics-r.result.next (left c.keep-q.result c.symbolics-r.new.arena c.loop-i.report)
+    ≡ run_table c.args.table.now c.args.t (held_by c.args.o) c.args.x.at c.args.x.first c.args.x.count 0 (left c.args.p c.args.arena.now c.args.report.now))
+    × SymbolsOf c.args.t (held_by c.args.o) c.symbols_of-y.result c.symbolics-r.new.arena =
+    let a = c.args in
+    let l = c.loop-i in
+    let f = c.run_relatives in
+    let g = c.symbolics-r in
+    rw c.keep-q.ensures
+    (runs_passed a.table.now a.t (held_by a.o) c.symbols_of-y.result a.x.at a.x.first a.x.count l.w.low l.w.high l.q l.arena f.new.arena g.new.arena l.report l.i f.result g.result f.ensures.2 g.ensures.2 (rw c.bounds_of-b.ensures.segments at l.invariant.3) l.invariant.4 l.invariant.5 l.invariant.6) in
     let a = c.args in
     let l = c.loop-i in
     let g = c.symbolics-r in
@@ -79,15 +79,15 @@ loop-i-smaller c = omega (arith, c.run_relatives.ensures.0, c.symbolics-r.ensure
 pub loop-i-preserved : goal.loop-i-preserved
 loop-i-preserved c =
     let passed :
-        (entries_left c.args.table.now c.args.t (held_by c.args.o) c.args.x.at c.args.x.first c.args.x.count c.symbolics-r.result.next (left c.keep-q.result c.symbolics-r.new.arena c.loop-i.report)
-        ≡ run_table c.args.table.now c.args.t (held_by c.args.o) c.args.x.at c.args.x.first c.args.x.count 0 (left c.args.p c.args.arena.now c.args.report.now))
-        × SymbolsOf c.args.t (held_by c.args.o) c.symbols_of-y.result c.symbolics-r.new.arena =
-        let a = c.args in
-        let l = c.loop-i in
-        let f = c.run_relatives in
-        let g = c.symbolics-r in
-        rw c.keep-q.ensures
-        (runs_passed a.table.now a.t (held_by a.o) c.symbols_of-y.result a.x.at a.x.first a.x.count l.w.low l.w.high l.q l.arena f.new.arena g.new.arena l.report l.i f.result g.result f.ensures.2 g.ensures.2 (rw c.bounds_of-b.ensures.segments at l.invariant.3) l.invariant.4 l.invariant.5 l.invariant.6) in
+    (entries_left c.args.table.now c.args.t (held_by c.args.o) c.args.x.at c.args.x.first c.args.x.count c.symbolics-r.result.next (left c.keep-q.result c.symbolics-r.new.arena c.loop-i.report)
+    ≡ run_table c.args.table.now c.args.t (held_by c.args.o) c.args.x.at c.args.x.first c.args.x.count 0 (left c.args.p c.args.arena.now c.args.report.now))
+    × SymbolsOf c.args.t (held_by c.args.o) c.symbols_of-y.result c.symbolics-r.new.arena =
+    let a = c.args in
+    let l = c.loop-i in
+    let f = c.run_relatives in
+    let g = c.symbolics-r in
+    rw c.keep-q.ensures
+    (runs_passed a.table.now a.t (held_by a.o) c.symbols_of-y.result a.x.at a.x.first a.x.count l.w.low l.w.high l.q l.arena f.new.arena g.new.arena l.report l.i f.result g.result f.ensures.2 g.ensures.2 (rw c.bounds_of-b.ensures.segments at l.invariant.3) l.invariant.4 l.invariant.5 l.invariant.6) in
     let a = c.args in
     let l = c.loop-i in
     let f = c.run_relatives in

@@ -1,5 +1,5 @@
 -- `binder::relocate::run_table` meets its contract. The invariant: what is left of the table comes to what the whole does; low .. high is writable, and is only asked for after an entry that was not refused; the symbols that need no test stay so. Assumes nothing.
-use Rattle.std.proofs.Common.{◌≡◌, ◌-◌, ◌<◌, ◌≤◌, length, take, ◌∙◌}
+use Rattle.std.proofs.Common.{◌≡◌, ◌-◌, ◌<◌, ◌≤◌, length, take}
 use Rattle.object.specs.Record.{held_by}
 use Rattle.object.specs.Steps.WritableRange.{WritableRange}
 use Rattle.binder.specs.Steps.RunSteps.{SymbolsOf}

@@ -1,4 +1,4 @@
-use Rattle.std.proofs.Common.{◌≡◌, ◌+◌, ◌-◌, ◌*◌, ◌≤◌, sym, refl, ◌∙◌, subst, arith, rules}
+use Rattle.std.proofs.Common.{sym, refl, ◌∙◌, subst, arith, rules}
 use Rattle.binder.specs.Steps.RunSteps.{EntryRead}
 use Rattle.binder.proofs.KeptLaws.{kept_none}
 use Rattle.binder.proofs.SymbolicLaws.{symbolic_turn}
@@ -57,13 +57,13 @@ returns-in_default-a c =
 pub overflow_add-t : goal.overflow_add-t
 overflow_add-t c =
     let here_in : EntryHere c.args.table.now c.loop-p.arena c.args.t c.args.y c.loop-p.k c.args.w.low c.args.w.high c.in-Here.field c.in-Here.place c.in-Here.index c.in-Here.name c.in-Here.addend =
-        subst (EntryRead c.args.table.now c.loop-p.arena c.args.t c.args.y c.loop-p.k c.args.w.low c.args.w.high) c.in-Here.is c.symbol_entry-e.ensures in
+    subst (EntryRead c.args.table.now c.loop-p.arena c.args.t c.args.y c.loop-p.k c.args.w.low c.args.w.high) c.in-Here.is c.symbol_entry-e.ensures in
     let l = c.loop-p in let g = l.invariant.4 in let h = here_in in search (rules, g.span, g.inside, h.below, l.invariant.0, c.well_formed.0)
 
 pub store_in-requires : goal.store_in-requires
 store_in-requires c =
     let here_in : EntryHere c.args.table.now c.loop-p.arena c.args.t c.args.y c.loop-p.k c.args.w.low c.args.w.high c.in-Here.field c.in-Here.place c.in-Here.index c.in-Here.name c.in-Here.addend =
-        subst (EntryRead c.args.table.now c.loop-p.arena c.args.t c.args.y c.loop-p.k c.args.w.low c.args.w.high) c.in-Here.is c.symbol_entry-e.ensures in
+    subst (EntryRead c.args.table.now c.loop-p.arena c.args.t c.args.y c.loop-p.k c.args.w.low c.args.w.high) c.in-Here.is c.symbol_entry-e.ensures in
     let l = c.loop-p in let g = l.invariant.4 in let h = here_in in search (rules, g.span, g.inside, h.below, l.invariant.0, c.well_formed.0)
 
 pub overflow_add-p : goal.overflow_add-p
@@ -81,7 +81,7 @@ loop-p-smaller c =
 pub loop-p-preserved : goal.loop-p-preserved
 loop-p-preserved c =
     let here_in : EntryHere c.args.table.now c.loop-p.arena c.args.t c.args.y c.loop-p.k c.args.w.low c.args.w.high c.in-Here.field c.in-Here.place c.in-Here.index c.in-Here.name c.in-Here.addend =
-        subst (EntryRead c.args.table.now c.loop-p.arena c.args.t c.args.y c.loop-p.k c.args.w.low c.args.w.high) c.in-Here.is c.symbol_entry-e.ensures in
+    subst (EntryRead c.args.table.now c.loop-p.arena c.args.t c.args.y c.loop-p.k c.args.w.low c.args.w.high) c.in-Here.is c.symbol_entry-e.ensures in
     let a = c.args in
     let l = c.loop-p in
     let g = l.invariant.4 in

@@ -1,5 +1,5 @@
 -- `binder::relocate::symbolics` meets its contract. Assumes nothing.
-use Rattle.std.proofs.Common.{◌≡◌, ◌+◌, ◌-◌, ◌*◌, ◌≤◌, length, ◌∙◌}
+use Rattle.std.proofs.Common.{◌≡◌, ◌+◌, ◌-◌, ◌*◌, ◌≤◌, length}
 use Rattle.binder.specs.Steps.RunSteps.{InReach, SymbolsPassed}
 use Rattle.binder.proofs.relocate.symbolics.Given as goal
 

@@ -1,4 +1,4 @@
-use Rattle.std.proofs.Common.{◌≡◌, ◌+◌, ◌-◌, ◌*◌, ◌^◌, ◌≤◌, sym, refl, ap, ◌∙◌, arith}
+use Rattle.std.proofs.Common.{◌+◌, ◌-◌, ◌^◌, sym, refl, ap, ◌∙◌, arith}
 use Rattle.binder.specs.Steps.Relocating.{add_bits}
 use Rattle.binder.proofs.BitLaws.{bit_of_all, none}
 use Rattle.binder.proofs.relr.add_all_in.Goals as goal

@@ -1,5 +1,4 @@
-use Rattle.std.proofs.Common.{◌≡◌, ◌+◌, ◌-◌, ◌*◌, ◌/◌, ◌%◌, ◌<◌, ◌≤◌, true, length, take, sym, refl, ap, ◌∙◌, arith}
-use Rattle.object.specs.TableBytes.{in_writable}
+use Rattle.std.proofs.Common.{◌+◌, ◌-◌, ◌/◌, length, take, sym, refl, ap, ◌∙◌, arith}
 use Rattle.binder.specs.Steps.Relocating.{add_bits}
 use Rattle.binder.proofs.BitLaws.{bit_0, bit_1, refused, none}
 use Rattle.binder.proofs.relr.add_bits.Goals as goal
@@ -24,7 +23,7 @@ loop-n-preserved c =
     let l = c.loop-n in
     let ss = take a.b.count a.b.segments in
     elim c.if-left-eq1.branch [
-      then-left-eq1+else-not-in_writable w ↦ (
+      | then-left-eq1+else-not-in_writable w ↦ (
         ap length w.part-is ∙ (w.add_word.auto.part ∙ l.invariant.0),
         omega arith,
         omega arith,

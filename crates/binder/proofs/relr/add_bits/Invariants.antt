@@ -1,5 +1,5 @@
 -- `binder::relr::add_bits` meets its contract. Assumes nothing.
-use Rattle.std.proofs.Common.{◌≡◌, ◌+◌, ◌-◌, ◌*◌, ◌/◌, ◌%◌, ◌<◌, ◌≤◌, length, take, ◌∙◌}
+use Rattle.std.proofs.Common.{◌≡◌, ◌+◌, ◌*◌, ◌≤◌, length, take}
 use Rattle.binder.specs.Steps.Relocating.{far, add_bits}
 use Rattle.binder.proofs.relr.add_bits.Given as goal
 

@@ -1,4 +1,4 @@
-use Rattle.std.proofs.Common.{◌≡◌, ◌+◌, ◌-◌, ◌*◌, ◌/◌, ◌≤◌, length, sym, refl, ap, ◌∙◌, arith}
+use Rattle.std.proofs.Common.{◌+◌, ◌-◌, ◌/◌, length, sym, refl, ap, ◌∙◌, arith}
 use Rattle.binder.specs.Steps.Relocating.{add_bits}
 use Rattle.binder.proofs.BitLaws.{bit_0, bit_1, none}
 use Rattle.binder.proofs.relr.add_bits_in.Goals as goal
@@ -12,7 +12,7 @@ loop-n-preserved c =
     let a = c.args in
     let l = c.loop-n in
     elim c.if-left-eq1.branch [
-      then-left-eq1 w ↦ (
+      | then-left-eq1 w ↦ (
         ap length w.part-is ∙ (w.add_word_in.auto.part ∙ l.invariant.0),
         omega arith,
         omega arith,

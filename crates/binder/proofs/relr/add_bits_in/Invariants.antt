@@ -1,5 +1,5 @@
 -- `binder::relr::add_bits_in` meets its contract. Assumes nothing.
-use Rattle.std.proofs.Common.{◌≡◌, ◌+◌, ◌-◌, ◌*◌, ◌/◌, ◌≤◌, List, length, ◌∙◌}
+use Rattle.std.proofs.Common.{◌≡◌, ◌+◌, ◌*◌, ◌≤◌, List, length}
 use Rattle.object.specs.declared.program_header.Segment.{Segment}
 use Rattle.object.specs.Steps.WritableRange.{WritableRange}
 use Rattle.binder.specs.Steps.Relocating.{add_bits}

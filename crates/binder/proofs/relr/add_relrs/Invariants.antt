@@ -1,5 +1,5 @@
 -- `binder::relr::add_relrs` meets its contract. Assumes nothing.
-use Rattle.std.proofs.Common.{◌≡◌, ◌+◌, ◌-◌, ◌<◌, ◌≤◌, length, take, ◌∙◌}
+use Rattle.std.proofs.Common.{◌≡◌, ◌-◌, ◌≤◌, length, take}
 use Rattle.object.specs.Record.{Record}
 use Rattle.binder.specs.Steps.Relocating.{far, add_relrs}
 use Rattle.binder.proofs.relr.add_relrs.Given as goal

@@ -1,5 +1,5 @@
 -- `binder::turn::copy_part` meets its contract: the bytes that are read are not among those that are written. Assumes nothing.
-use Rattle.std.proofs.Common.{◌≡◌, ◌+◌, ◌-◌, ◌<◌, ◌≤◌, ◌⊎◌, length, ◌∙◌}
+use Rattle.std.proofs.Common.{◌≡◌, ◌+◌, ◌-◌, ◌≤◌, length}
 use Rattle.words.specs.Memory.{mem, from, patch}
 use Rattle.binder.proofs.turn.copy_part.Given as goal
 

@@ -1,4 +1,4 @@
-use Rattle.std.proofs.Common.{◌≡◌, ◌+◌, ◌-◌, ◌≤◌, set, sym, refl, ap, ◌∙◌, arith, length-set, rules}
+use Rattle.std.proofs.Common.{◌≡◌, ◌+◌, set, sym, refl, ap, arith, length-set, rules}
 use Rattle.words.specs.Memory.{mem}
 use Rattle.words.proofs.Slices.{patch_none, patch_next}
 use Rattle.binder.proofs.types.put_types.Goals as goal

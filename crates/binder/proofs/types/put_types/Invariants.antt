@@ -1,5 +1,5 @@
 -- `binder::types::put_types` meets its contract. The invariant: the words before `i` are in the table. Assumes nothing.
-use Rattle.std.proofs.Common.{◌≡◌, ◌+◌, ◌-◌, ◌≤◌, length, ◌∙◌}
+use Rattle.std.proofs.Common.{◌≡◌, ◌-◌, ◌≤◌, length}
 use Rattle.words.specs.Memory.{mem, patch}
 use Rattle.binder.proofs.types.put_types.Given as goal
 

@@ -1,4 +1,4 @@
-use Rattle.std.proofs.Common.{◌≡◌, ◌+◌, ◌-◌, ◌≤◌, length, set, sym, ap, ◌∙◌, arith, length-set, rules}
+use Rattle.std.proofs.Common.{◌≡◌, ◌+◌, length, set, sym, ap, ◌∙◌, arith, length-set, rules}
 use Rattle.words.specs.Memory.{mem}
 use Rattle.words.proofs.Slices.{patch_none, patch_next}
 use Rattle.object.specs.RelocationTypes.{supplied_types}

@@ -1,5 +1,5 @@
 -- `binder::types::supply` meets its contract. The invariant: the words before `i` are written. Assumes nothing.
-use Rattle.std.proofs.Common.{◌≡◌, ◌+◌, ◌-◌, ◌≤◌, length, ◌∙◌}
+use Rattle.std.proofs.Common.{◌≡◌, ◌-◌, ◌≤◌, length}
 use Rattle.words.specs.Memory.{mem, patch}
 use Rattle.object.specs.RelocationTypes.{supplied_types}
 use Rattle.binder.proofs.types.supply.Given as goal

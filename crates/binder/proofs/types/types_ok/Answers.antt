@@ -1,4 +1,4 @@
-use Rattle.std.proofs.Common.{◌≡◌, ◌+◌, ◌-◌, ◌≤◌, sym, refl, ◌∙◌, arith, rules}
+use Rattle.std.proofs.Common.{sym, refl, ◌∙◌, arith, rules}
 use Rattle.binder.proofs.TypeWords.{words_count, words_turn, words_stop, words_end}
 use Rattle.binder.proofs.types.types_ok.Goals as goal
 

@@ -1,5 +1,5 @@
 -- `binder::types::types_ok` meets its contract. The invariant: what is left of the test comes to the whole. Assumes nothing.
-use Rattle.std.proofs.Common.{◌≡◌, ◌+◌, ◌-◌, ◌≤◌, length, ◌∙◌}
+use Rattle.std.proofs.Common.{◌≡◌, ◌-◌, ◌≤◌, length}
 use Rattle.binder.proofs.TypeWords.{WordsLeft}
 use Rattle.binder.proofs.types.types_ok.Given as goal
 

@@ -1,10 +1,7 @@
-use Prim.Native.Nat.{◌+◌, ◌^◌, ◌≤◌}
 use Rattle.object.proofs.FineLaws.{at_once}
 use Rattle.object.proofs.MarkLaws.{marked_use, passes_last, walk_start, walk_fails, walk_cut, walk_turn}
 use Rattle.object.specs.Steps.Marks.{Passes, step_in}
-use borrow.Author.Tests.{not-false}
 use mathlib.Core.Bool.{true}
-use mathlib.Core.Logic.{⊎_elim}
 use mathlib.Core.Path.{◌≡◌, sym, ◌∙◌}
 use native.Mathlib.Omega.{arith}
 use Rattle.object.proofs.check.follow.Goals as goal
@@ -36,10 +33,10 @@ returns-then-not-passes c =
 pub returns-then-is_last : goal.returns-then-is_last
 returns-then-is_last c =
     let passes_here : step_in c.args.b c.args.image.now c.args.v c.loop-left.s ≡ true =
-        elim c.if-not-passes_at_once.branch [
-          then-not-passes_at_once+else-not-passes w ↦ sym w.passes.ensures ∙ w.if-not-passes.false
-          | else-not-passes_at_once w ↦ at_once c.args.b c.args.image.now c.args.v c.args.q c.loop-left.s c.requires.2 (c.passes_at_once.ensures w.if-not-passes_at_once.false)
-        ] in
+    elim c.if-not-passes_at_once.branch [
+      | then-not-passes_at_once+else-not-passes w ↦ sym w.passes.ensures ∙ w.if-not-passes.false
+      | else-not-passes_at_once w ↦ at_once c.args.b c.args.image.now c.args.v c.args.q c.loop-left.s c.requires.2 (c.passes_at_once.ensures w.if-not-passes_at_once.false)
+    ] in
     let a = c.args in
     let l = c.loop-left in
     l.invariant.2.on (passes_last a.image.now a.v.table (step_in a.b a.image.now a.v) l.s c.chain_word-w.result c.chain_word-w.ensures passes_here (sym c.is_last.ensures ∙ c.if-is_last.true))
@@ -47,10 +44,10 @@ returns-then-is_last c =
 pub loop-left-preserved : goal.loop-left-preserved
 loop-left-preserved c =
     let passes_here : step_in c.args.b c.args.image.now c.args.v c.loop-left.s ≡ true =
-        elim c.if-not-passes_at_once.branch [
-          then-not-passes_at_once+else-not-passes w ↦ sym w.passes.ensures ∙ w.if-not-passes.false
-          | else-not-passes_at_once w ↦ at_once c.args.b c.args.image.now c.args.v c.args.q c.loop-left.s c.requires.2 (c.passes_at_once.ensures w.if-not-passes_at_once.false)
-        ] in
+    elim c.if-not-passes_at_once.branch [
+      | then-not-passes_at_once+else-not-passes w ↦ sym w.passes.ensures ∙ w.if-not-passes.false
+      | else-not-passes_at_once w ↦ at_once c.args.b c.args.image.now c.args.v c.args.q c.loop-left.s c.requires.2 (c.passes_at_once.ensures w.if-not-passes_at_once.false)
+    ] in
     let a = c.args in
     let l = c.loop-left in
     (omega arith, omega arith, walk_turn a.image.now a.v.table (step_in a.b a.image.now a.v) a.word l.s l.left l.invariant.2 c.chain_word-w.result c.next_symbol-s.result c.loop-left-test.true c.chain_word-w.ensures passes_here (sym c.is_last.ensures ∙ c.if-is_last.false) c.next_symbol-s.ensures.0)

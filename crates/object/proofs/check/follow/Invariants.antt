@@ -2,7 +2,6 @@
 use Prim.Native.Nat.{◌+◌, ◌^◌, ◌≤◌}
 use Rattle.object.proofs.MarkLaws.{WalkAt}
 use Rattle.object.specs.Steps.Marks.{step_in}
-use mathlib.Core.Path.{◌≡◌, ◌∙◌}
 use Rattle.object.proofs.check.follow.Given as goal
 
 abbrev pub invariant-loop-left : goal.invariant-loop-left

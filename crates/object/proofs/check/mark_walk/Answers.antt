@@ -1,4 +1,3 @@
-use Prim.Native.Nat.{◌+◌, ◌^◌, ◌≤◌}
 use Rattle.object.proofs.MarkLaws.{marked_more, passes_next}
 use Rattle.object.specs.Steps.Marks.{Passes}
 use mathlib.Core.Path.{sym, ◌∙◌}

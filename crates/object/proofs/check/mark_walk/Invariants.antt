@@ -2,7 +2,6 @@
 use Prim.Native.Nat.{ℕ, ◌+◌, ◌^◌, ◌≤◌}
 use Rattle.object.specs.Steps.Marks.{Marked, Passes}
 use mathlib.Core.Bool.{Bool}
-use mathlib.Core.Path.{◌∙◌}
 use Rattle.object.proofs.check.mark_walk.Given as goal
 
 abbrev pub invariant-loop-left : goal.invariant-loop-left

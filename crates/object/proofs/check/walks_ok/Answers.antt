@@ -1,5 +1,4 @@
 use borrow.Author.Rules.{rules}
-use Prim.Native.Nat.{◌-◌, ◌≤◌}
 use Rattle.object.proofs.MarkLaws.{marked_use, marked_from}
 use Rattle.object.proofs.Ranges.{below_more, below_no}
 use Rattle.object.proofs.WalkLaws.{bucket_empty, bucket_word_lem, word_ended}
@@ -9,7 +8,6 @@ use Rattle.object.specs.Steps.Marks.{Passes, step_in}
 use Rattle.object.specs.TableBytes.{is_table}
 use Rattle.words.specs.Choice.{below}
 use lib.ListN.{take}
-use mathlib.Core.Bool.{true}
 use mathlib.Core.Path.{◌≡◌, refl, sym, ◌∙◌}
 use native.Mathlib.Omega.{arith}
 use Rattle.object.proofs.check.walks_ok.Goals as goal

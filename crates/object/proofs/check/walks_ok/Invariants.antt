@@ -6,7 +6,7 @@ use Rattle.object.specs.TableBytes.{is_table}
 use Rattle.words.specs.Choice.{below}
 use lib.ListN.{take}
 use mathlib.Core.Bool.{true}
-use mathlib.Core.Path.{◌≡◌, ◌∙◌}
+use mathlib.Core.Path.{◌≡◌}
 use Rattle.object.proofs.check.walks_ok.Given as goal
 
 abbrev pub invariant-loop-i : goal.invariant-loop-i

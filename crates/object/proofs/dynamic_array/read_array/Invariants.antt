@@ -1,5 +1,3 @@
-use mathlib.Core.Path.{◌∙◌}
-use Prim.Native.Nat.{◌+◌, ◌<◌, ◌^◌}
 use Rattle.object.proofs.FieldLaws.{Walk}
 use Rattle.object.proofs.dynamic_array.read_array.Given as goal
 

@@ -3,7 +3,6 @@ use Rattle.object.proofs.ListTests.{every_turn, every_end}
 use Rattle.object.specs.Record.{needs_ok}
 use lib.ListN.{length}
 use native.Mathlib.Omega.{arith}
-use Prim.Native.Nat.{◌+◌, ◌-◌, ◌≤◌, ◌<◌}
 use mathlib.Core.Bool.{true, false}
 use mathlib.Core.Path.{◌≡◌, refl, sym, ◌∙◌}
 use Rattle.object.proofs.dynamic_fields.needs_ok.Invariants.{name_ok}

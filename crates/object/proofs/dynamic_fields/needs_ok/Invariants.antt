@@ -3,10 +3,10 @@ use Rattle.object.specs.TableBytes.{is_table, table_name}
 use Rattle.object.specs.declared.dynamic_fields.ObjectData.{ObjectData}
 use Rattle.words.specs.Choice.{every}
 use lib.ListN.{take, drop}
-use Prim.Native.Nat.{ℕ, ◌+◌, ◌-◌, ◌≤◌, ◌<◌}
+use Prim.Native.Nat.{ℕ, ◌+◌, ◌-◌, ◌≤◌}
 use mathlib.Core.List.{List}
 use mathlib.Core.Bool.{Bool}
-use mathlib.Core.Path.{◌≡◌, ◌∙◌}
+use mathlib.Core.Path.{◌≡◌}
 use Rattle.object.proofs.dynamic_fields.needs_ok.Given as goal
 
 -- the name of a need is in table bytes

@@ -1,5 +1,5 @@
 use Rattle.object.specs.Record.{relocations_ok}
-use mathlib.Core.Path.{◌≡◌, sym, ◌∙◌}
+use mathlib.Core.Path.{sym, ◌∙◌}
 use Rattle.object.proofs.dynamic_fields.relocations_ok.Goals as goal
 
 pub returns-then-not-table_bytes : goal.returns-then-not-table_bytes

@@ -1,5 +1,5 @@
 use Rattle.object.specs.Record.{tables_ok}
-use mathlib.Core.Path.{◌≡◌, sym, ◌∙◌}
+use mathlib.Core.Path.{sym, ◌∙◌}
 use Rattle.object.proofs.dynamic_fields.tables_ok.Goals as goal
 
 pub returns-then-not-needs_ok : goal.returns-then-not-needs_ok

@@ -1,5 +1,4 @@
 use Rattle.object.specs.Record.{index_ok}
-use mathlib.Core.Path.{◌∙◌}
 use Rattle.object.proofs.entry_symbol.index_ok.Goals as goal
 
 pub returns-in-Unknown : goal.returns-in-Unknown

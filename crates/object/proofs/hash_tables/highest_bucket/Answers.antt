@@ -1,5 +1,4 @@
 use borrow.Author.Rules.{rules}
-use Prim.Native.Nat.{◌-◌, ◌^◌, ◌≤◌, ◌<◌}
 use Rattle.object.proofs.CountLaws.{highest_more, highest_cut}
 use Rattle.object.specs.SymbolCount.{highest}
 use mathlib.Core.Path.{◌≡◌, refl, ap, ◌∙◌}

@@ -1,7 +1,7 @@
 -- `object::hash_tables::highest_bucket` meets its contract. The invariant: `best` is the largest word of the first `i` buckets. Assumes nothing.
 use Prim.Native.Nat.{◌-◌, ◌^◌, ◌≤◌, ◌<◌}
 use Rattle.object.specs.SymbolCount.{highest}
-use mathlib.Core.Path.{◌≡◌, ◌∙◌}
+use mathlib.Core.Path.{◌≡◌}
 use Rattle.object.proofs.hash_tables.highest_bucket.Given as goal
 
 abbrev pub invariant-loop-i : goal.invariant-loop-i

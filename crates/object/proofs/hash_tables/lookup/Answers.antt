@@ -1,7 +1,7 @@
-use Prim.Native.Nat.{ℕ, ◌+◌, ◌-◌, ◌^◌, ◌≤◌}
+use Prim.Native.Nat.{ℕ, ◌-◌}
 use Rattle.object.proofs.FindLaws.{find_here, find_last, find_on, find_out, find_not, find_empty, find_start, held_buckets}
 use Rattle.object.specs.HashTable.{first_in, is_exported_hit, walk}
-use mathlib.Core.Path.{◌≡◌, sym, ap, ◌∙◌}
+use mathlib.Core.Path.{sym, ap, ◌∙◌}
 use native.Mathlib.Omega.{arith}
 use Rattle.object.proofs.hash_tables.lookup.Goals as goal
 

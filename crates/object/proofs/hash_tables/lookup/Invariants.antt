@@ -1,7 +1,7 @@
 -- `object::hash_tables::lookup` meets its contract. The invariant: the answer is the first exported hit of what is left of the walk. Assumes nothing.
-use Prim.Native.Nat.{◌+◌, ◌-◌, ◌^◌, ◌≤◌}
+use Prim.Native.Nat.{◌+◌, ◌^◌, ◌≤◌}
 use Rattle.object.specs.HashTable.{find_by, first_in, is_exported_hit, walk}
-use mathlib.Core.Path.{◌≡◌, ◌∙◌}
+use mathlib.Core.Path.{◌≡◌}
 use Rattle.object.proofs.hash_tables.lookup.Given as goal
 
 abbrev pub invariant-loop-left : goal.invariant-loop-left

@@ -1,8 +1,8 @@
-use Prim.Native.Nat.{ℕ, ◌+◌, ◌-◌, ◌^◌, ◌≤◌}
+use Prim.Native.Nat.{ℕ, ◌-◌}
 use Rattle.object.proofs.CountLaws.{last_stop, last_on, last_out}
 use Rattle.object.specs.HashTable.{walk}
 use Rattle.object.specs.SymbolCount.{last_reached}
-use mathlib.Core.Path.{◌≡◌, sym, ap, ◌∙◌}
+use mathlib.Core.Path.{sym, ap, ◌∙◌}
 use native.Mathlib.Omega.{arith}
 use Rattle.object.proofs.hash_tables.walk_last.Goals as goal
 

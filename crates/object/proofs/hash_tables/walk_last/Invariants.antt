@@ -1,8 +1,8 @@
 -- `object::hash_tables::walk_last` meets its contract. The invariant: the last symbol is that of what is left of the walk. Assumes nothing.
-use Prim.Native.Nat.{◌+◌, ◌-◌, ◌^◌, ◌≤◌}
+use Prim.Native.Nat.{◌+◌, ◌^◌, ◌≤◌}
 use Rattle.object.specs.HashTable.{walk, fuel}
 use Rattle.object.specs.SymbolCount.{last_reached}
-use mathlib.Core.Path.{◌≡◌, ◌∙◌}
+use mathlib.Core.Path.{◌≡◌}
 use Rattle.object.proofs.hash_tables.walk_last.Given as goal
 
 abbrev pub invariant-loop-left : goal.invariant-loop-left

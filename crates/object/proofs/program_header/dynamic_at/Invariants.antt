@@ -1,7 +1,7 @@
 -- `object::program_header::dynamic_at` meets its contract. The invariant: the last PT_DYNAMIC among the first `i` headers is the last
 -- of all. Assumes nothing.
-use mathlib.Core.Path.{◌≡◌, ◌∙◌}
-use Prim.Native.Nat.{◌-◌, ◌<◌}
+use mathlib.Core.Path.{◌≡◌}
+use Prim.Native.Nat.{◌<◌}
 use Rattle.object.specs.ProgramHeader.{dynamic_in, dynamic_of}
 use Rattle.object.proofs.program_header.dynamic_at.Given as goal
 

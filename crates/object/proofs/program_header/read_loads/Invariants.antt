@@ -1,7 +1,6 @@
 -- `object::program_header::read_loads` meets its contract. The invariant: the table holds the PT_LOAD headers among the first `i`, at
 -- most 16. A 17th ends it, and no header after that makes them fewer. Assumes nothing.
-use mathlib.Core.List.{◌∷◌}
-use mathlib.Core.Path.{◌≡◌, ◌∙◌}
+use mathlib.Core.Path.{◌≡◌}
 use Prim.Native.Nat.{◌-◌, ◌≤◌}
 use lib.ListN.{length}
 use Rattle.object.specs.Steps.LoadTable.{segments_in}

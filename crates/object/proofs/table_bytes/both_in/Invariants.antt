@@ -1,5 +1,4 @@
 -- `object::table_bytes::both_in` meets its contract. The invariant: the segments before the `i`th leave of each run what is before its end. Assumes nothing.
-use mathlib.Core.Path.{◌≡◌}
 use Prim.Native.Nat.{◌-◌, ◌≤◌}
 use Rattle.object.proofs.LastZeroLaws.{RunAt}
 use Rattle.object.proofs.table_bytes.both_in.Given as goal

@@ -1,5 +1,5 @@
 -- `object::table_bytes::in_writable` meets its contract. The invariant: the segments from the `i`th on decide. Assumes nothing.
-use mathlib.Core.Path.{◌≡◌, ◌∙◌}
+use mathlib.Core.Path.{◌≡◌}
 use Prim.Native.Nat.{◌-◌, ◌≤◌}
 use lib.ListN.{take, drop}
 use Rattle.object.specs.TableBytes.{in_writable}

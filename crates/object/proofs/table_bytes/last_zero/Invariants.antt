@@ -1,6 +1,6 @@
 -- `object::table_bytes::last_zero` meets its contract. The invariant: no byte from `i` to `end` is 0. Assumes nothing.
 use mathlib.Core.Path.{◌≡◌}
-use Prim.Native.Nat.{ℕ, ◌-◌, ◌≤◌, ◌<◌}
+use Prim.Native.Nat.{ℕ, ◌≤◌, ◌<◌}
 use lib.ListN.{length}
 use Rattle.words.specs.Memory.{mem}
 use Rattle.object.proofs.table_bytes.last_zero.Given as goal

@@ -1,5 +1,4 @@
 -- `object::table_bytes::run_from` meets its contract. The invariant: the segments from the `i`th on decide of the bytes before `end`. Assumes nothing.
-use mathlib.Core.Path.{◌≡◌}
 use Prim.Native.Nat.{◌-◌, ◌≤◌}
 use Rattle.object.proofs.LastZeroLaws.{RestAt}
 use Rattle.object.proofs.table_bytes.run_from.Given as goal

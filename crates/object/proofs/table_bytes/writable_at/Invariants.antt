@@ -1,5 +1,4 @@
 -- `object::table_bytes::writable_at` meets its contract. Assumes nothing.
-use mathlib.Core.Path.{◌≡◌, ◌∙◌}
 use Prim.Native.Nat.{◌-◌, ◌≤◌}
 use Rattle.object.proofs.table_bytes.writable_at.Given as goal
 

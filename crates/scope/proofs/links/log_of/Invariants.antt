@@ -1,6 +1,6 @@
 -- `scope::links::log_of` meets its contract. The invariant: the search from `k` on gives what the whole one gives. Assumes nothing.
-use Prim.Native.Nat.{◌-◌, ◌^◌, ◌≤◌}
-use mathlib.Core.Path.{◌≡◌, ◌∙◌}
+use Prim.Native.Nat.{◌-◌, ◌≤◌}
+use mathlib.Core.Path.{◌≡◌}
 use Rattle.scope.specs.Steps.Links.{log_from, log_of}
 use Rattle.scope.proofs.links.log_of.Given as goal
 

@@ -1,5 +1,5 @@
-use Prim.Native.Nat.{ℕ, ◌-◌, ◌+◌}
-use mathlib.Core.Path.{◌≡◌, refl, ap, ◌∙◌}
+use Prim.Native.Nat.{ℕ, ◌+◌}
+use mathlib.Core.Path.{refl, ap, ◌∙◌}
 use native.Mathlib.Omega.{arith}
 use Rattle.scope.specs.Steps.Links.{count_in, address_in}
 use Rattle.scope.proofs.ScopeLaws.{rest, scan_hit, scan_miss, scan_end, skip, link_any}

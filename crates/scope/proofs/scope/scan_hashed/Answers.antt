@@ -1,5 +1,5 @@
-use Prim.Native.Nat.{◌-◌, ◌+◌}
-use mathlib.Core.Path.{◌≡◌, refl}
+use Prim.Native.Nat.{◌+◌}
+use mathlib.Core.Path.{refl}
 use native.Mathlib.Omega.{arith}
 use Rattle.scope.specs.Steps.Links.{count_in, address_in}
 use Rattle.scope.proofs.ScopeLaws.{scan_hit, scan_miss, scan_end, skip}

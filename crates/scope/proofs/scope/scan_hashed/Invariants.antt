@@ -1,5 +1,5 @@
 -- `scope::scope::scan_hashed` meets its contract. The invariant: the search from object `k` on gives what the whole one gives. Assumes nothing.
-use Prim.Native.Nat.{◌-◌, ◌+◌}
+use Prim.Native.Nat.{◌-◌}
 use mathlib.Core.Path.{◌≡◌}
 use Rattle.scope.specs.Steps.Links.{count_in, address_in}
 use Rattle.scope.proofs.ScopeLaws.{rest}

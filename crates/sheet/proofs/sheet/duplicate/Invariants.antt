@@ -1,6 +1,6 @@
 -- `sheet::sheet::duplicate` meets its contract. The invariant: the search from object `k` on gives what the whole one gives. Assumes nothing.
 use Prim.Native.Nat.{◌-◌, ◌≤◌}
-use mathlib.Core.Path.{◌≡◌, ◌∙◌}
+use mathlib.Core.Path.{◌≡◌}
 use Rattle.sheet.specs.Steps.Parts.{inputs_in}
 use Rattle.sheet.specs.Sheet.{duplicate_from, duplicate_of}
 use Rattle.sheet.proofs.sheet.duplicate.Given as goal

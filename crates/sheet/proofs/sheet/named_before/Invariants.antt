@@ -2,7 +2,7 @@
 -- nothing.
 use Prim.Native.Nat.{◌-◌, ◌≤◌}
 use mathlib.Core.List.{map}
-use mathlib.Core.Path.{◌≡◌, ◌∙◌}
+use mathlib.Core.Path.{◌≡◌}
 use lib.ListN.{take, drop}
 use Rattle.sheet.specs.Steps.Parts.{input_in}
 use Rattle.sheet.specs.Sheet.{named}

@@ -1,7 +1,7 @@
 -- `sheet::sheet::sheet_ok` meets its contract. The invariant: what is left to test from word `i` on decides as the whole sheet does.
 -- Assumes nothing.
 use Prim.Native.Nat.{◌-◌, ◌*◌, ◌≤◌}
-use mathlib.Core.Path.{◌≡◌, ◌∙◌}
+use mathlib.Core.Path.{◌≡◌}
 use lib.ListN.{length}
 use Rattle.sheet.specs.Sheet.{sheet_ok}
 use Rattle.sheet.proofs.SheetLaws.{left_ok}

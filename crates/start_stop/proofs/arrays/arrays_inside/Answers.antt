@@ -1,5 +1,5 @@
 use borrow.Author.Tests.{eq-eqb, ne_eqb}
-use mathlib.Core.Path.{◌≡◌, sym, ◌∙◌}
+use mathlib.Core.Path.{sym, ◌∙◌}
 use Rattle.start_stop.specs.StartStop.{arrays_ok}
 use Rattle.start_stop.proofs.arrays.arrays_inside.Goals as goal
 

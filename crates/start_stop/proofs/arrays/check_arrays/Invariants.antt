@@ -1,7 +1,7 @@
 use Rattle.start_stop.specs.Steps.Rows.{calls_at}
 use Rattle.start_stop.specs.StartStop.{arrays_verdict}
 use lib.ListN.{length, take, drop}
-use mathlib.Core.Path.{◌≡◌, ◌∙◌}
+use mathlib.Core.Path.{◌≡◌}
 use mathlib.Core.List.{[]}
 use Prim.Native.Nat.{◌-◌, ◌≤◌}
 use Rattle.start_stop.proofs.arrays.check_arrays.Given as goal

@@ -6,7 +6,7 @@ use Rattle.words.specs.Memory.{mem}
 use lib.ListN.{set}
 use native.Mathlib.Omega.{arith}
 use mathlib.Core.Path.{◌≡◌, refl, sym, ap, ◌∙◌}
-use Prim.Native.Nat.{◌+◌, ◌-◌, ◌*◌, ◌≤◌}
+use Prim.Native.Nat.{◌+◌, ◌*◌}
 use Rattle.start_stop.proofs.fill.put_array.Goals as goal
 
 pub loop-i-init : goal.loop-i-init

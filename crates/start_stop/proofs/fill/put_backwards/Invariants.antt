@@ -1,7 +1,7 @@
 use Rattle.words.specs.Words.{le_at}
 use Rattle.words.specs.Memory.{mem, patch}
 use lib.ListN.{length}
-use mathlib.Core.Path.{◌≡◌, ◌∙◌}
+use mathlib.Core.Path.{◌≡◌}
 use Prim.Native.Nat.{◌+◌, ◌-◌, ◌*◌, ◌≤◌}
 use Rattle.start_stop.proofs.fill.put_backwards.Given as goal
 

@@ -4,8 +4,7 @@ use Rattle.words.proofs.Slices.{patch_one}
 use Rattle.words.specs.Words.{sum64}
 use lib.ListN.{set}
 use borrow.Author.Tests.{eq-eqb, ne_eqb}
-use mathlib.Core.List.{◌∷◌}
-use mathlib.Core.Path.{◌≡◌, ap, ◌∙◌}
+use mathlib.Core.Path.{ap, ◌∙◌}
 use Rattle.start_stop.proofs.fill.put_function.Goals as goal
 
 pub returns-then-value-eq0 : goal.returns-then-value-eq0

@@ -5,7 +5,6 @@ use Rattle.start_stop.specs.Steps.Rows.{calls_at}
 use lib.ListN.{length, get_or}
 use native.Mathlib.Omega.{arith}
 use mathlib.Core.Path.{◌≡◌, refl, ◌∙◌}
-use Prim.Native.Nat.{◌+◌, ◌-◌, ◌*◌, ◌^◌, ◌≤◌}
 use Rattle.start_stop.proofs.fill.put_in_order.Goals as goal
 
 pub loop-i-init : goal.loop-i-init

@@ -2,7 +2,7 @@ use Rattle.start_stop.proofs.ListLaws.{Left}
 use Rattle.start_stop.specs.Steps.Rows.{calls_at}
 use Rattle.start_stop.specs.StartStop.{starts_of, in_turn}
 use lib.ListN.{length, take, drop}
-use mathlib.Core.Path.{◌≡◌, ◌∙◌}
+use mathlib.Core.Path.{◌≡◌}
 use Prim.Native.Nat.{◌+◌, ◌-◌, ◌*◌, ◌^◌, ◌≤◌}
 use Rattle.start_stop.proofs.fill.put_in_order.Given as goal
 

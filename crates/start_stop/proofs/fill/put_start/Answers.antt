@@ -2,7 +2,7 @@ use Rattle.start_stop.proofs.ListLaws.{put_both, words_length}
 use Rattle.start_stop.specs.StartStop.{Array, start_list}
 use Rattle.words.specs.Memory.{mem}
 use native.Mathlib.Omega.{arith}
-use mathlib.Core.Path.{◌≡◌, ◌∙◌}
+use mathlib.Core.Path.{◌∙◌}
 use Rattle.start_stop.proofs.fill.put_start.Goals as goal
 
 pub put_array-n-requires : goal.put_array-n-requires

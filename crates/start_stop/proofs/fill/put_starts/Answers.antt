@@ -1,7 +1,6 @@
 use Rattle.start_stop.proofs.ListLaws.{put_both, function_few}
 use Rattle.start_stop.specs.StartStop.{starts_of}
 use native.Mathlib.Omega.{arith}
-use mathlib.Core.Path.{◌≡◌, ◌∙◌}
 use Rattle.start_stop.proofs.fill.put_starts.Goals as goal
 
 pub put_function-m-requires : goal.put_function-m-requires

@@ -5,7 +5,7 @@ use Rattle.start_stop.specs.Steps.Rows.{calls_at}
 use lib.ListN.{length, get_or}
 use native.Mathlib.Omega.{arith}
 use mathlib.Core.Path.{◌≡◌, refl, ◌∙◌}
-use Prim.Native.Nat.{◌+◌, ◌-◌, ◌*◌, ◌^◌, ◌≤◌, ◌<◌}
+use Prim.Native.Nat.{◌-◌, ◌≤◌, ◌<◌}
 use Rattle.start_stop.proofs.fill.put_stop.Goals as goal
 
 pub loop-i-init : goal.loop-i-init

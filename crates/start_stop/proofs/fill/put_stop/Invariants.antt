@@ -3,8 +3,8 @@ use Rattle.start_stop.specs.Steps.Rows.{calls_at}
 use Rattle.start_stop.specs.StartStop.{stops_of, in_turn, stop_list}
 use lib.ListN.{length, take}
 use mathlib.Core.List.{reverse}
-use mathlib.Core.Path.{◌≡◌, ◌∙◌}
-use Prim.Native.Nat.{◌+◌, ◌-◌, ◌*◌, ◌^◌, ◌≤◌, ◌<◌}
+use mathlib.Core.Path.{◌≡◌}
+use Prim.Native.Nat.{◌+◌, ◌*◌, ◌^◌, ◌≤◌}
 use Rattle.start_stop.proofs.fill.put_stop.Given as goal
 
 abbrev pub invariant-loop-i : goal.invariant-loop-i

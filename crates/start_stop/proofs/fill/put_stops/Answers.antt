@@ -3,7 +3,6 @@ use Rattle.start_stop.specs.StartStop.{stops_of, words_of, Array}
 use Rattle.words.specs.Memory.{mem}
 use lib.ListN.{length-reverse}
 use native.Mathlib.Omega.{arith}
-use mathlib.Core.Path.{◌≡◌, ◌∙◌}
 use Rattle.start_stop.proofs.fill.put_stops.Goals as goal
 
 pub put_backwards-m-requires : goal.put_backwards-m-requires

@@ -6,7 +6,7 @@ use Rattle.words.proofs.Slices.{patch_none, patch_next}
 use lib.ListN.{set, length-set}
 use native.Mathlib.Omega.{arith}
 use mathlib.Core.Path.{◌≡◌, refl, sym, ap, ◌∙◌}
-use Prim.Native.Nat.{◌+◌, ◌-◌, ◌*◌, ◌≤◌}
+use Prim.Native.Nat.{◌+◌, ◌*◌}
 use Rattle.start_stop.proofs.rows.read_row.Goals as goal
 
 pub loop-j-init : goal.loop-j-init

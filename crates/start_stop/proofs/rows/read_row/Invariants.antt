@@ -4,8 +4,8 @@ use Rattle.object.specs.Steps.Slots.{field_in, SameFields}
 use Rattle.object.specs.ProgramHeader.{dynamic_of}
 use Rattle.words.specs.Memory.{patch}
 use lib.ListN.{length}
-use mathlib.Core.Path.{◌≡◌, ◌∙◌}
-use Prim.Native.Nat.{◌+◌, ◌-◌, ◌*◌, ◌≤◌}
+use mathlib.Core.Path.{◌≡◌}
+use Prim.Native.Nat.{◌-◌, ◌*◌, ◌≤◌}
 use Rattle.start_stop.proofs.rows.read_row.Given as goal
 
 abbrev pub invariant-loop-j : goal.invariant-loop-j

@@ -1,8 +1,7 @@
 use Rattle.start_stop.proofs.RowLaws.{read_none, read_next}
 use Rattle.sheet.specs.Steps.Parts.{inputs_in}
 use native.Mathlib.Omega.{arith}
-use mathlib.Core.Path.{◌≡◌, refl, ◌∙◌}
-use Prim.Native.Nat.{◌+◌, ◌-◌, ◌*◌, ◌≤◌}
+use mathlib.Core.Path.{refl, ◌∙◌}
 use Rattle.start_stop.proofs.rows.read_rows.Goals as goal
 
 pub loop-k-init : goal.loop-k-init

@@ -1,8 +1,8 @@
 use Rattle.start_stop.proofs.RowLaws.{ReadTo}
 use Rattle.sheet.specs.Steps.Parts.{inputs_in}
 use lib.ListN.{length}
-use mathlib.Core.Path.{◌≡◌, ◌∙◌}
-use Prim.Native.Nat.{◌+◌, ◌-◌, ◌*◌, ◌≤◌}
+use mathlib.Core.Path.{◌≡◌}
+use Prim.Native.Nat.{◌-◌, ◌≤◌}
 use Rattle.start_stop.proofs.rows.read_rows.Given as goal
 
 abbrev pub invariant-loop-k : goal.invariant-loop-k

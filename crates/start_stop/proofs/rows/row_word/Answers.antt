@@ -1,5 +1,4 @@
 use Rattle.start_stop.specs.Steps.Rows.{row_word}
-use mathlib.Core.Path.{◌≡◌, ◌∙◌}
 use borrow.Author.Tests.{ne_eqb}
 use Rattle.start_stop.proofs.rows.row_word.Goals as goal
 

@@ -1,5 +1,5 @@
 use Rattle.start_stop.proofs.RowLaws.{no_slots}
-use mathlib.Core.Path.{◌≡◌, sym, ◌∙◌}
+use mathlib.Core.Path.{sym, ◌∙◌}
 use Rattle.start_stop.proofs.rows.slots_of.Goals as goal
 
 pub returns-in_default : goal.returns-in_default

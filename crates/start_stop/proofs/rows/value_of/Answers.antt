@@ -1,5 +1,5 @@
 use Rattle.object.specs.declared.dynamic_array.Field.{Field}
-use mathlib.Core.Path.{◌≡◌, ap}
+use mathlib.Core.Path.{ap}
 use Rattle.start_stop.proofs.rows.value_of.Goals as goal
 
 pub returns : goal.returns

@@ -3,7 +3,7 @@ use Rattle.start_stop.specs.Steps.Rows.{calls_at}
 use lib.ListN.{take}
 use native.Mathlib.Omega.{arith}
 use mathlib.Core.List.{[]}
-use mathlib.Core.Path.{◌≡◌, sym, ◌∙◌}
+use mathlib.Core.Path.{sym, ◌∙◌}
 use Rattle.start_stop.proofs.start_stop.list_all.Goals as goal
 
 pub check_arrays-v-requires : goal.check_arrays-v-requires

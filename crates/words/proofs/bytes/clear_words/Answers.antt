@@ -1,4 +1,4 @@
-use Rattle.std.proofs.Common.{◌-◌, arith}
+use Rattle.std.proofs.Common.{arith}
 use Rattle.words.proofs.WriteLoop.{none_written, one_cleared, all_cleared}
 use Rattle.words.proofs.bytes.clear_words.Goals as goal
 

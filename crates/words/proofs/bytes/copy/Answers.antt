@@ -1,6 +1,6 @@
 use Rattle.words.proofs.Slices.{patch_past, copy_none, copy_both}
 use Rattle.words.specs.Memory.{mem, from}
-use Rattle.std.proofs.Common.{◌≡◌, ◌-◌, min, sym, ap, ◌∙◌, arith}
+use Rattle.std.proofs.Common.{min, sym, ap, ◌∙◌, arith}
 use Rattle.words.proofs.bytes.copy.Goals as goal
 
 pub returns-then-dst-at : goal.returns-then-dst-at

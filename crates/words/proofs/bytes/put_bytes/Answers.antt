@@ -1,4 +1,4 @@
-use Rattle.std.proofs.Common.{◌≡◌, ◌+◌, ◌-◌, ◌/◌, ◌^◌, set, sym, ap, ◌∙◌, div-one, arith}
+use Rattle.std.proofs.Common.{◌+◌, set, sym, ap, ◌∙◌, div-one, arith}
 use Rattle.words.proofs.Words.{byte_is, byte_next}
 use Rattle.words.proofs.WriteLoop.{none_written, one_written, all_written}
 use Rattle.words.proofs.bytes.put_bytes.Goals as goal

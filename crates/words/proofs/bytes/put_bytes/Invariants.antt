@@ -1,5 +1,5 @@
 -- `words::bytes::put_bytes` meets its contract. Assumes nothing.
-use Rattle.std.proofs.Common.{◌≡◌, ◌+◌, ◌-◌, ◌/◌, ◌^◌, ◌∙◌}
+use Rattle.std.proofs.Common.{◌≡◌, ◌-◌, ◌/◌, ◌^◌}
 use Rattle.words.specs.Words.{byte_of}
 use Rattle.words.proofs.WriteLoop.{Written}
 use Rattle.words.proofs.bytes.put_bytes.Given as goal

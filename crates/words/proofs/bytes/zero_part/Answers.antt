@@ -1,4 +1,4 @@
-use Rattle.std.proofs.Common.{◌-◌, refl, arith}
+use Rattle.std.proofs.Common.{refl, arith}
 use Rattle.words.proofs.WriteLoop.{none_written, one_written, all_written}
 use Rattle.words.proofs.bytes.zero_part.Goals as goal
 

@@ -1,4 +1,4 @@
-use Rattle.std.proofs.Common.{◌-◌, arith}
+use Rattle.std.proofs.Common.{arith}
 use Rattle.words.specs.Hash.{elf_hash}
 use Rattle.words.proofs.HashLaws.{hash_turn, hash_end}
 use Rattle.words.proofs.hash.elf_hash.Goals as goal

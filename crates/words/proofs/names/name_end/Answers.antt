@@ -1,4 +1,4 @@
-use Rattle.std.proofs.Common.{◌≡◌, ◌+◌, ◌-◌, length, ap, arith}
+use Rattle.std.proofs.Common.{length, ap, arith}
 use Rattle.words.proofs.NameLaws.{name_more, name_stop, name_none}
 use Rattle.words.proofs.names.name_end.Goals as goal
 

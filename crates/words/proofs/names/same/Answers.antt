@@ -1,4 +1,4 @@
-use Rattle.std.proofs.Common.{◌≡◌, ◌-◌, ◌≤◌, true, false, sym, ◌∙◌, arith, rules, eq-eqb, ne_eqb}
+use Rattle.std.proofs.Common.{true, false, sym, ◌∙◌, arith, rules, eq-eqb, ne_eqb}
 use Rattle.words.proofs.NameLaws.{same_more, same_end, same_lengths}
 use Rattle.words.proofs.names.same.Goals as goal
 

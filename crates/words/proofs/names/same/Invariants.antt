@@ -1,6 +1,6 @@
 -- `words::names::same` meets its contract. The invariant: the whole lists are the same where what is left of them is.
 -- Assumes nothing.
-use Rattle.std.proofs.Common.{◌≡◌, ◌-◌, ◌≤◌, length, drop, ◌∙◌}
+use Rattle.std.proofs.Common.{◌≡◌, ◌-◌, ◌≤◌, length, drop}
 use Rattle.words.specs.Names.{same_bytes}
 use Rattle.words.proofs.names.same.Given as goal
 

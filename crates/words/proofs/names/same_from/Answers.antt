@@ -1,4 +1,4 @@
-use Rattle.std.proofs.Common.{◌≡◌, ◌+◌, ◌-◌, ◌≤◌, length, sym, ◌∙◌, add-zero, arith, rules}
+use Rattle.std.proofs.Common.{◌≡◌, ◌+◌, length, sym, ◌∙◌, add-zero, arith, rules}
 use Rattle.words.proofs.NameLaws.{name_stop, name_none, name_within, same_lengths, from_more, from_zero, from_other, from_end, from_longer}
 use Rattle.words.proofs.names.same_from.Goals as goal
 

@@ -1,5 +1,5 @@
 -- `words::names::same_from` meets its contract. The invariant: what is left of both names decides. Assumes nothing.
-use Rattle.std.proofs.Common.{◌≡◌, ◌+◌, ◌-◌, ◌≤◌, drop, ◌∙◌}
+use Rattle.std.proofs.Common.{◌≡◌, ◌+◌, ◌-◌, ◌≤◌, drop}
 use Rattle.words.specs.Names.{name_at, same_bytes}
 use Rattle.words.proofs.names.same_from.Given as goal
 
