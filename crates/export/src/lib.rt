@@ -1,4 +1,4 @@
-// The library for programs in C or Rust: `include/lugwormpin.h` describes it.
+// The functions for programs in C or Rust, which `export_c` exports: `include/lugwormpin.h` describes them.
 #![tactic(auto)]
 
 ghost use Rattle.std.specs.Prelude.{◌≡◌, [], ◌∷◌, length};
@@ -94,16 +94,14 @@ fn store_reply(answer: &mut [u64], reply: Reply) -> u64
 }
 
 // Fills the slice with the supplied words of the types, then zeros.
-#[unsafe(no_mangle)]
-pub extern "C" fn lugwormpin_types(types: &mut [u32])
+pub fn lugwormpin_types(types: &mut [u32])
     ensures { types.new ≡ fitted (length types.old) supplied_types }
 {
     binder::types::supply(types);
 }
 
 // Binds the set of a sheet and its bytes in the arena at `address`, each type as its word says: 0 where it is bound, else the refusal.
-#[unsafe(no_mangle)]
-pub extern "C" fn lugwormpin_bind(
+pub fn lugwormpin_bind(
     sheet: &[u32],
     bytes: &[u8],
     arena: &mut [u8],
@@ -120,8 +118,7 @@ pub extern "C" fn lugwormpin_bind(
 }
 
 // The same in an order of the caller's.
-#[unsafe(no_mangle)]
-pub extern "C" fn lugwormpin_bind_ordered(
+pub fn lugwormpin_bind_ordered(
     sheet: &[u32],
     bytes: &[u8],
     arena: &mut [u8],
@@ -141,8 +138,7 @@ pub extern "C" fn lugwormpin_bind_ordered(
 }
 
 // The address of `name` for the object `requester`: 0 where the question is answered, else the refusal.
-#[unsafe(no_mangle)]
-pub extern "C" fn lugwormpin_query(
+pub fn lugwormpin_query(
     sheet: &[u32],
     bytes: &[u8],
     arena: &mut [u8],
@@ -168,8 +164,7 @@ fn reply_all_number(a: ReplyAll) -> u64
 
 // The addresses of the names of a list, each of which has a zero byte after it, for the object `requester`: 0 where they are answered, else
 // the refusal.
-#[unsafe(no_mangle)]
-pub extern "C" fn lugwormpin_query_all(
+pub fn lugwormpin_query_all(
     sheet: &[u32],
     bytes: &[u8],
     arena: &mut [u8],
@@ -211,8 +206,7 @@ fn store_counts(counts: &mut [u64], lists: Lists) -> u64
 }
 
 // Binds a set as `lugwormpin_bind` does, and lists what to call to start it and to stop it: 0 where it is bound, else the refusal.
-#[unsafe(no_mangle)]
-pub extern "C" fn lugwormpin_start_stop(
+pub fn lugwormpin_start_stop(
     sheet: &[u32],
     bytes: &[u8],
     arena: &mut [u8],
