@@ -1,10 +1,10 @@
 /* Lugwormpin: binds x86-64 ELF shared objects into one image. x86-64 Linux, System V calling convention.
  *
- * Link with libexport.a, which `rt staticlib export` writes to target/staticlib/. It needs memcpy and memset, and nothing else.
+ * Link with libexport.a, which tools/archive writes to target/staticlib/. It needs memcpy and memset, and nothing else.
  *
  * All functions:
  * - answer every call that keeps to "What the caller owes"; what they answer is proved, for any contents of the slices, refused calls too
- *   (crates/export/src/lib.rt, crates/export/specs/Calls.antt);
+ *   (crates/export_c/src/lib.rt, crates/export/specs/Calls.antt);
  * - keep no pointer, allocate nothing, have no global state, and may run in several threads at once over different memory;
  * - use about 82 KiB of stack (lugwormpin_bind) or 45 KiB (lugwormpin_query, lugwormpin_query_all), whatever the set: the sum of the compiled frames.
  *   lugwormpin_bind_ordered and lugwormpin_start_stop take some 5 and 7 KiB more than lugwormpin_bind;

@@ -1,13 +1,13 @@
 #!/usr/bin/env python3
 """Of each must-fail edit that `rt ci` or `rt must-fail` tried: the first error, and whether the edit shows anything.
 
-usage: tests/must_fail_audit.py (from the folder whose target/ has the logs)
+usage: tests/must_fail_audit.py [LOG..]     default: standard input, as in `rt must-fail | tests/must_fail_audit.py`
 
-An edit is to be refused because a fact no longer holds. It shows nothing where the first error says only that code, definition or proof no
-longer have the shape of each other: a record or a module that has no such field, a need or an argument that is not there, a name that is not
-known. Exit status 0: every edit shows something.
+A LOG is what `rt ci` or `rt must-fail` printed. An edit is to be refused because a fact no longer holds. It shows nothing where it is a bad edit,
+which cannot be applied, compiled or read; where the first error says only that code, definition or proof no longer have the shape of each other
+(a record or a module that has no such field, a goal or an argument that is not there, a name that is not known); where the prover met a limit
+of its own and gave no verdict; and where it was not tried, or not refused. Exit status 0: every edit shows something.
 """
-import glob
 import re
 import sys
 
@@ -18,39 +18,55 @@ SHAPE = [
     r"has no constructor",
     r"unknown name",
     r"is not in scope",
+    r"is no name",
     r"not declared",
     r"no such module",
     r"expects? \d+ arguments?",
     r"too (many|few) arguments",
+    r"^\(only ",
 ]
-ERROR = re.compile(r"^\S+: error|^note: \S+:\d+:\d+:")
+REFUSED = "refused, as it must be"
+LINE = re.compile(r"(?:rt: )?must-fail ([\w-]+)/([\w.-]+)\.edit: (" + REFUSED + r"|BAD EDIT|NOT TRIED|NOT REFUSED)(.*)")
+ERROR = re.compile(r"^(?:note: )?\S+:\d+:\d+:")
+# A proof file that names what the edit took away, and what cites that proof.
+NAMES = re.compile(r"^(?:note: )?(?:\./)?proofs/.*(?:has no field|is not in scope|has no `|was not admitted)")
+
+
+def first_error(said):
+    """Of a check's own lines (for tests/wrong/quick.py) the first error that is of no such proof file, else the first, or ''."""
+    lines = said.split("\n")
+    found = [i for i, line in enumerate(lines) if ERROR.match(line) and (": error" in line or line.startswith("note: "))]
+    if not found:
+        return ""
+    at = next((i for i in found if not NAMES.match(lines[i])), found[0])
+    # The message may go on in the next line, which begins with a space.
+    text = lines[at]
+    while at + 1 < len(lines) and lines[at + 1].startswith(" "):
+        at += 1
+        text += " " + lines[at].strip()
+    return text
+
+
+def shows_nothing(kind, text):
+    return kind != REFUSED or not text or any(re.search(p, text) for p in SHAPE)
 
 
 def main():
-    logs = sorted(glob.glob("target/must-fail/*/*/.log"))
-    if not logs:
-        sys.exit("no target/must-fail: run `rt ci` or `rt must-fail` first")
+    said = [open(path, encoding="utf-8", errors="replace").read() for path in sys.argv[1:]] or [sys.stdin.read()]
+    tried = {}
+    for line in "\n".join(said).split("\n"):
+        if match := LINE.match(line):
+            crate, name, kind, text = match.groups()
+            tried[crate, name] = kind, re.sub(r"^: ", "", text.strip()).strip()
+    if not tried:
+        sys.exit("tests/must_fail_audit.py: no must-fail edit is told of: give it what `rt ci` or `rt must-fail` printed")
     weak = 0
-    for log in logs:
-        lines = open(log, errors="replace").read().split("\n")
-        found = [i for i, line in enumerate(lines) if ERROR.match(line)]
-        # The message may go on in the next line, which begins with a space.
-        text = "?"
-        if found:
-            i = found[0]
-            text = lines[i]
-            while i + 1 < len(lines) and lines[i + 1].startswith(" "):
-                i += 1
-                text += " " + lines[i].strip()
-        # Only what rests on a function that is not proved is refused first: tell which function, and which of its needs.
-        if "was not admitted" in text:
-            text = next((line for line in lines if ": no proof: " in line), text)
-        text = re.sub(r"^(note: )?\S*/target/must-fail/", "", text)
-        shape = not found or any(re.search(p, text) for p in SHAPE)
+    for (crate, name), (kind, text) in sorted(tried.items()):
+        shape = shows_nothing(kind, text)
         weak += shape
-        name = "/".join(log.split("/")[2:4])
-        print(("SHOWS NOTHING " if shape else "ok            ") + name + ": " + text[:170])
-    print(f"{len(logs)} edits, {weak} that show nothing")
+        told = text if kind == REFUSED else f"{kind} {text}"
+        print(("SHOWS NOTHING " if shape else "ok            ") + f"{crate}/{name}: {told[:170]}")
+    print(f"{len(tried)} edits, {weak} that show nothing")
     return 1 if weak else 0
 
 

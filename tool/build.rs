@@ -1,4 +1,4 @@
-//! Links the archive: the folder of LUGWORMPIN_ARCHIVE, else target/staticlib of the repository, where `rt staticlib export` writes it. Before
+//! Links the archive: the folder of LUGWORMPIN_ARCHIVE, else target/staticlib of the repository, where tools/archive writes it. Before
 //! that it sees that src/archive.rs declares each function as include/lugwormpin.h does: a linker does not look at arguments.
 use std::path::{Path, PathBuf};
 use std::{env, fs, process::exit};

@@ -1,4 +1,4 @@
-//! Links the archive that `rt staticlib export` wrote; its folder is in LUGWORMPIN_ARCHIVE.
+//! Links the archive that tools/archive wrote; its folder is in LUGWORMPIN_ARCHIVE.
 fn main() {
     let folder = std::env::var("LUGWORMPIN_ARCHIVE").expect("LUGWORMPIN_ARCHIVE: the folder of libexport.a");
     println!("cargo:rustc-link-search=native={folder}");

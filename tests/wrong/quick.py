@@ -1,20 +1,27 @@
 #!/usr/bin/env python3
-"""Wrong programs, tried by `rt dev`: what an edit does not touch is taken from the crate's last check, so that one takes seconds.
+"""Wrong programs, tried by `rt check`: what an edit does not touch is taken from the crate's last check, so that one takes seconds.
 
 usage: tests/wrong/quick.py [CRATE[/EDIT]..]     default: every crate that has a folder here
 
-Each edit is applied to a copy of the repository in target/wrong/quick, checked by `rt dev CRATE`, and taken back. It must be refused, and for a
-fact: the last lines are tests/must_fail_audit.py's. `tests/wrong/run` does the same by a check of the whole crate from nothing, as the gate does.
+Each edit is applied to a copy of the repository below TMPDIR (default /tmp), checked by `rt check` in the crate's folder, and taken back. It must
+be refused, and for a fact: the last lines are tests/must_fail_audit.py's. What each check said stays in target/wrong/CRATE/EDIT.log.
+`tests/wrong/run` has `rt must-fail` do the same, several at a time; this tries one after the other, and keeps all that was said.
+RATTLE_HOME is the toolchain's folder; where it is not set, rt is taken from PATH, else from /opt/rattle/bin.
 Exit status 0: every edit was refused and shows something.
 """
 import os
 import shutil
 import subprocess
 import sys
+import tempfile
 import time
 
 top = os.path.dirname(os.path.dirname(os.path.dirname(os.path.abspath(__file__))))
-rt = shutil.which("rt") or os.path.join(os.environ.get("RATTLE_HOME", "/opt/rattle"), "bin", "rt")
+sys.path.insert(0, os.path.join(top, "tests"))
+from must_fail_audit import REFUSED, first_error  # noqa: E402
+
+home = os.environ.get("RATTLE_HOME")
+rt = os.path.join(home, "bin", "rt") if home else shutil.which("rt") or "/opt/rattle/bin/rt"
 
 
 def edits_of(path):
@@ -22,7 +29,7 @@ def edits_of(path):
     name = old = None
     for line in open(path, encoding="utf-8").read().split("\n"):
         if line.startswith("file: "):
-            name = line[6:]
+            name = line[6:].strip()
         elif line.startswith("old: "):
             old = line[5:]
         elif line.startswith("new:"):
@@ -30,57 +37,67 @@ def edits_of(path):
             yield name, old, new[1:] if new.startswith(" ") else new
 
 
-def dev(copy, crate, log):
-    with open(log, "w") as out:
-        return subprocess.run([rt, "dev", crate], cwd=copy, stdout=out, stderr=subprocess.STDOUT).returncode
+def check(copy, crate, log):
+    """The check's exit status: 0 proved, 1 not proved, else nothing is known."""
+    with open(log, "w", encoding="utf-8") as out:
+        return subprocess.run([rt, "check"], cwd=os.path.join(copy, "crates", crate), stdout=out, stderr=subprocess.STDOUT).returncode
+
+
+def tried(copy, crate, edit, log):
+    """What the try came to, and what to say of it, in the words of `rt must-fail`."""
+    base, before = os.path.join(copy, "crates", crate), {}
+    for path, old, new in edits_of(edit):
+        path = os.path.join(base, path)
+        text = open(path, encoding="utf-8").read()
+        before.setdefault(path, text)
+        if text.count(old) != 1:
+            for path, text in before.items():
+                open(path, "w", encoding="utf-8").write(text)
+            return "BAD EDIT", f"an 'old:' text stands {text.count(old)} times, and not once"
+        open(path, "w", encoding="utf-8").write(text.replace(old, new))
+    status = check(copy, crate, log)
+    for path, text in before.items():
+        open(path, "w", encoding="utf-8").write(text)
+    if status == 0:
+        return "NOT REFUSED", "the crate is still proved with this edit"
+    if status != 1:
+        return "NOT TRIED", f"the check ended with status {status}: see {log}"
+    said = open(log, encoding="utf-8", errors="replace").read()
+    if "logic=not-proved" not in said:
+        return "BAD EDIT", f"it did not reach the prover: see {log}"
+    return REFUSED, first_error(said)
 
 
 def main():
     if not os.access(rt, os.X_OK):
-        sys.exit("tests/wrong/quick.py: no Rattle toolchain: rt is neither on PATH nor in RATTLE_HOME/bin (default /opt/rattle/bin)")
+        sys.exit("tests/wrong/quick.py: no Rattle toolchain: rt is neither in RATTLE_HOME/bin, on PATH, nor in /opt/rattle/bin")
     here = os.path.join(top, "tests", "wrong")
-    wanted = sys.argv[1:] or sorted(d for d in os.listdir(here) if os.path.isdir(os.path.join(here, d)))
+    wanted = sys.argv[1:] or sorted(d for d in os.listdir(here) if os.path.isdir(os.path.join(here, d)) and not d.startswith("_"))
     chosen = {}
     for one in wanted:
         crate, _, name = one.partition("/")
         names = [name + ".edit"] if name else sorted(n for n in os.listdir(os.path.join(here, crate)) if n.endswith(".edit"))
         chosen.setdefault(crate, []).extend(names)
-    copy = os.path.join(top, "target", "wrong", "quick")
-    os.makedirs(copy, exist_ok=True)
-    shutil.rmtree(os.path.join(copy, "crates"), ignore_errors=True)
-    shutil.rmtree(os.path.join(copy, "target", "must-fail"), ignore_errors=True)
-    shutil.copytree(os.path.join(top, "crates"), os.path.join(copy, "crates"))
-    shutil.copy(os.path.join(top, "crates.txt"), copy)
-    for part in ("bin", "obj", "rlib", "stamp", "inc"):
-        there = os.path.join(top, "target", part)
-        if os.path.isdir(there) and not os.path.isdir(os.path.join(copy, "target", part)):
-            subprocess.run(["mkdir", "-p", os.path.join(copy, "target")], check=True)
-            subprocess.run(["cp", "-a", there, os.path.join(copy, "target")], check=True)
-    kept = []
-    for crate, names in chosen.items():
-        base = os.path.join(copy, "crates", crate)
-        if dev(copy, crate, os.path.join(copy, "target", crate + ".dev")) != 0:
-            sys.exit(f"{crate} is not proved as it is: see {copy}/target/{crate}.dev")
-        for name in names:
-            label = name[: -len(".edit")]
-            where = os.path.join(copy, "target", "must-fail", crate, label)
-            os.makedirs(where)
-            before = {}
-            for path, old, new in edits_of(os.path.join(here, crate, name)):
-                path = os.path.join(base, path)
-                text = open(path, encoding="utf-8").read()
-                before.setdefault(path, text)
-                if text.count(old) != 1:
-                    sys.exit(f"{crate}/{label}: an 'old:' text stands {text.count(old)} times in {path}")
-                open(path, "w", encoding="utf-8").write(text.replace(old, new))
-            began = time.time()
-            status = dev(copy, crate, os.path.join(where, ".log"))
-            if status == 0:
-                kept.append(f"{crate}/{label}")
-            print(f"{crate}/{label}: {'NOT REFUSED' if status == 0 else 'refused'} ({time.time() - began:.0f} s)", flush=True)
-            for path, text in before.items():
-                open(path, "w", encoding="utf-8").write(text)
-    audit = subprocess.run([sys.executable, os.path.join(top, "tests", "must_fail_audit.py")], cwd=copy).returncode
+    logs = os.path.join(top, "target", "wrong")
+    kept, said = [], []
+    with tempfile.TemporaryDirectory() as copy:
+        shutil.copytree(os.path.join(top, "crates"), os.path.join(copy, "crates"), ignore=shutil.ignore_patterns("out"))
+        for name in ("crates.txt", "HANDLES"):
+            if os.path.exists(os.path.join(top, name)):
+                shutil.copy(os.path.join(top, name), copy)
+        for crate, names in chosen.items():
+            os.makedirs(os.path.join(logs, crate), exist_ok=True)
+            whole = os.path.join(logs, crate, "as-it-is.log")
+            if check(copy, crate, whole) != 0:
+                sys.exit(f"{crate} is not proved as it is: see {whole}")
+            for name in names:
+                label, began = name[: -len(".edit")], time.time()
+                kind, text = tried(copy, crate, os.path.join(here, crate, name), os.path.join(logs, crate, label + ".log"))
+                if kind == "NOT REFUSED":
+                    kept.append(f"{crate}/{label}")
+                said.append(f"must-fail {crate}/{name}: {kind}: {text}")
+                print(f"{crate}/{label}: {'refused' if kind == REFUSED else kind} ({time.time() - began:.0f} s)", flush=True)
+    audit = subprocess.run([sys.executable, os.path.join(top, "tests", "must_fail_audit.py")], input="\n".join(said), text=True).returncode
     print(f"{sum(map(len, chosen.values()))} edits, {len(kept)} not refused {' '.join(kept)}")
     return 1 if kept or audit else 0
 
