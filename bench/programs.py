@@ -5,7 +5,7 @@ usage: bench/programs.py                  prints the names of the sets, of the p
        bench/programs.py ld.so vi-NAME N  runs the program N times and prints ld.so's cycles, in a line as the program bench does
 
 A set is the program's file and the libraries that it needs, breadth first as ld.so takes them, ld.so itself among them as the library that
-libc needs; a small host that none of them knows comes before. Versions of symbols are not compared, as everywhere in document 01. In
+libc needs; a small host that none of them knows comes before. Versions of symbols are not compared, as everywhere in the rules. In
 the copy of the files that is handed in, type 37 (refusal 16) is overwritten by 8 and type 1 by 6, as it was before type 1 was applied, so that each entry is
 the work that it is for ld.so, but for the call of a resolver. Nothing else is changed; what is refused all the same is not measured, and
 a line on standard error says so.

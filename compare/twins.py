@@ -1,5 +1,5 @@
 #!/usr/bin/env python3
-"""Compares what the port answered for sets with a hidden twin (document 02, (c)), where the Rust is no oracle, with the rules in Python.
+"""Compares what the port answered for sets with a hidden twin (the search), where the Rust is no oracle, with the rules in Python.
 
 usage: compare/twins.py FILE. The driver wrote FILE: of each set the frame, as sets.py has it, and the port's answers (driver/src/main.rs,
 `answered`). All of it is compared: refusal, report, arena after bind and after a query, and each query. Exit status 0: nothing differs.
@@ -14,7 +14,7 @@ import bind_expected as rules  # noqa: E402
 
 
 def read(file):
-    """(label, set in the format of document 01's program, options, refusal, report, arena, placed, queries with their answers)"""
+    """(label, set in the input format of the program `bind`, options, refusal, report, arena, placed, queries with their answers)"""
 
     def words(form):
         return struct.unpack(form, file.read(struct.calcsize(form)))

@@ -3,7 +3,7 @@
  *
  * usage: start_stop FILE NAME
  *
- * FILE is an input of document 01's program: a word count, the sheet, the bytes. NAME takes no argument and returns a uint64_t; its answer is
+ * FILE is an input of the program `bind`: a word count, the sheet, the bytes. NAME takes no argument and returns a uint64_t; its answer is
  * printed after the start, and again after the stop, while the modules are still mapped. */
 #define _GNU_SOURCE
 #include <inttypes.h>

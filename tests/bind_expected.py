@@ -1,4 +1,4 @@
-"""What document 01's program must answer: its rules for whole sets, with document 02 (a), (b), (c) and (f), on top of the reader of
+"""What the program `bind` must answer: its rules for whole sets, on top of the reader of
 object_cases.py. Knows nothing of the crates."""
 from object_cases import M64, Object, Refused, headers, le, need
 
@@ -175,7 +175,7 @@ class Set:
             self.arena[to : to + n] = self.arena[start : start + n]
 
     def may_take(self, order):
-        """Document 02, (l): each library once, then the program; and where a library has an entry of type 5, document 01's order only."""
+        """A builder's own order: each library once, then the program; and where a library has an entry of type 5, the order of `bind` only."""
         libraries = range(2, len(self.objects))
         copies = any(o.u(table + 24 * i + 8, 4) == 5 for o in self.objects[2:] for table, n in ((o.rela, o.relas), (o.plt, o.plts)) for i in range(n))
         return sorted(order[:-1]) == [*libraries] and order[-1:] == [1] and (not copies or order == self.order())
@@ -260,7 +260,7 @@ def hidden_twins(loaded):
 
 
 def outside(loaded):
-    """Why a bound set is not in document 01's common domain, or None."""
+    """Why a bound set is not in the common domain, or None."""
     for o, at in zip(loaded.objects, loaded.offsets):
         base = ADDRESS + at
         tags = []

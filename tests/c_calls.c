@@ -1,5 +1,5 @@
 /* Calls the functions of include/lugwormpin.h on tests/sets/linked.set (the first argument) and prints what they leave. tests/c_calls.out
-   has the lines that are to be printed, worked out from `readelf --dyn-syms` of the set's objects and document 01. */
+   has the lines that are to be printed, worked out from `readelf --dyn-syms` of the set's objects and the rules. */
 #include <inttypes.h>
 #include <stdio.h>
 #include <string.h>

@@ -1,5 +1,5 @@
 #!/usr/bin/env python3
-"""COPY places that cross (document 02, h): answer, arena and report of sets that copy much, against the rules in Python.
+"""COPY places that cross: answer, arena and report of sets that copy much, against the rules in Python.
 
 usage: tests/crossing.py ARCHIVE [--sets N] [--seed S] (from the repository's top)
 

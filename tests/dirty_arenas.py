@@ -5,7 +5,7 @@ usage: tests/dirty_arenas.py ARCHIVE [--made N] [--sets N] [--seed S] (from the 
 
 ARCHIVE is a folder with a libexport.a. First come objects with nothing but segments: the fixed ones, with the runs that docs/DECISIONS.md's
 rule gives, and N made ones with gaps, part pages, zero fill, files that end inside a page and headers in any order. Their arenas are
-compared with the bytes that document 01's rule gives, which is followed here anew. Then come N sets of compare/sets.py. Each set is bound
+compared with the bytes that the rule gives, which is followed here anew. Then come N sets of compare/sets.py. Each set is bound
 (and asked) in arenas full of zeros, of 0xFF and of other bytes. Exit status 0: nothing differs. It needs gcc.
 """
 import argparse
@@ -37,7 +37,7 @@ def file_of(loads, size, rng):
 
 
 def placed(file, loads):
-    """Document 01: pages of the file, zeros past its end, then zeros from p_filesz to p_memsz."""
+    """The rules: pages of the file, zeros past its end, then zeros from p_filesz to p_memsz."""
     image = bytearray(up(max(load[2] + load[4] for load in loads), PAGE))
     for _, offset, vaddr, filesz, memsz in loads:
         start, end, to = offset // PAGE * PAGE, up(offset + filesz, PAGE), vaddr // PAGE * PAGE
@@ -107,7 +107,7 @@ def placings(rng, count):
         file = file_of(loads, size, rng)
         image = placed(file, loads)
         if runs is not None and said(file, runs) != image:
-            sys.exit(f"{name}: the runs do not say document 01's bytes")
+            sys.exit(f"{name}: the runs do not say the rule's bytes")
         arena = bytes(HOST) + image + bytes(rng.choice((0, 8, PAGE, 3 * PAGE)))
         yield frame(f"{name} |0:61", pack_set(HOST, file), arena=len(arena), report=4), hashed(arena)
 

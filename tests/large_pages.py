@@ -1,5 +1,5 @@
 #!/usr/bin/env python3
-"""Modules built for large pages (document 02, a): offsets, gaps and refusal 21, in arenas at any address.
+"""Modules built for large pages: offsets, gaps and refusal 21, in arenas at any address.
 
 usage: tests/large_pages.py ARCHIVE (from the repository's top)
 
@@ -83,7 +83,7 @@ def loads_of(file):
 
 
 def laid(address, host, files):
-    """Document 02, (a): the offsets of the objects after the host, and the end of the last."""
+    """Large pages: the offsets of the objects after the host, and the end of the last."""
     end, offsets = len(host), []
     for file in files:
         loads = loads_of(file)

@@ -1,14 +1,14 @@
 #!/usr/bin/env python3
-"""A builder's own order (document 02, l): which orders are taken, refusals and report in the order used, and the same arena for all.
+"""A builder's own order: which orders are taken, refusals and report in the order used, and the same arena for all.
 
 usage: tests/own_order.py ARCHIVE [--sets N] [--seed S] (from the repository's top)
 
 ARCHIVE is a folder with a libexport.a. The inputs of docs/DECISIONS.md, D110 to D117, come first, each with the answer that stands there. Then
 come N made sets, a thousand by default, whose only COPY entries are the program's, each bound in up to eight orders, strict or lenient, with
-reports of several lengths: every order must be bound where document 01's is, leave its arena, and report the same words of each object; and a
-fifth as many sets with a library's COPY, of which every order but document 01's is 35. Orders that list an object twice, leave one out or name
+reports of several lengths: every order must be bound where that of `bind` is, leave its arena, and report the same words of each object; and a
+fifth as many sets with a library's COPY, of which every order but that of `bind` is 35. Orders that list an object twice, leave one out or name
 another number are mixed in. Every call is compared with the rules in Python (tests/bind_expected.py), answer, arena and report; under
-document 01's own order it is compared with lugwormpin_bind too. Arena and report hold other bytes before a call. Exit status 0: nothing differs.
+the order of `bind` it is compared with lugwormpin_bind too. Arena and report hold other bytes before a call. Exit status 0: nothing differs.
 It needs gcc.
 """
 import argparse
@@ -101,13 +101,13 @@ CASES = {
     "D110 no libraries": (pack_set(HOST, PRO), 0, 8, [1], (0, 0), [0x50000001]),
     "D110 no libraries, an empty order": (pack_set(HOST, PRO), 0, 8, [], (35, 0), None),
     "D110 no libraries, the host": (pack_set(HOST, PRO), 0, 8, [0], (35, 0), None),
-    "D111 a library's COPY, document 01's order": (TWO_COPIES, 0, 8, [3, 2, 1], (0, 0), [0x50000003, 0x50000002, 0x60000000, 0x50000001]),
+    "D111 a library's COPY, the order of `bind`": (TWO_COPIES, 0, 8, [3, 2, 1], (0, 0), [0x50000003, 0x50000002, 0x60000000, 0x50000001]),
     "D111 a library's COPY, another order": (TWO_COPIES, 0, 8, [2, 3, 1], (35, 0), None),
     "D111 in RELA": (COPIED, 0, 8, [2, 3, 1], (35, 0), None),
     "D111 in library 3": (pair(three=[COPY]), 0, 8, [2, 3, 1], (35, 0), None),
     "D111 the second entry": (pair(three=[(0x1000, 8, 0, 0), COPY]), 0, 8, [2, 3, 1], (35, 0), None),
     "D111 type 0x80000005": (pair(two=[(0x1000, 0x80000005, 0, 0)]), 0, 8, [2, 3, 1], (0, 0), [0x50000002, 0x70000000, 0x50000003, 0x50000001]),
-    "D111 type 0x80000005, document 01's order":
+    "D111 type 0x80000005, the order of `bind`":
         (pair(two=[(0x1000, 0x80000005, 0, 0)]), 0, 8, [3, 2, 1], (0, 0), [0x50000003, 0x50000002, 0x70000000, 0x50000001]),
     "D111 the program's COPY":
         (pair(program=form(True, rela=[COPY])), 0, 8, [2, 3, 1], (0, 0), [0x50000002, 0x50000003, 0x50000001, 0x60000000]),
@@ -138,7 +138,7 @@ CASES = {
 PASSED = [w + (1 << 28 if t == 5 else 0) for t, w in enumerate(SUPPLIED)]
 TYPED = {
     "D115 type 5 passed, another order": (TWO_COPIES, PASSED, [2, 3, 1], (35, 0)),
-    "D115 type 5 passed, document 01's order": (TWO_COPIES, PASSED, [3, 2, 1], (0, 0)),
+    "D115 type 5 passed, the order of `bind`": (TWO_COPIES, PASSED, [3, 2, 1], (0, 0)),
     "D115 63 words": (FREE, SUPPLIED[:63], [], (24, 0)),
 }
 

@@ -1,5 +1,5 @@
 #!/usr/bin/env python3
-"""All names in one call (document 02, (e)): `lugwormpin_query_all` against document 01's rules in Python, and against single queries.
+"""All names in one call: `lugwormpin_query_all` against the rules in Python, and against single queries.
 
 usage: tests/query_all.py ARCHIVE [SETS [SEED]] (from the repository's top)
 
@@ -69,7 +69,7 @@ class Port:
 
 
 def rules(expected, arena, requester, names, out):
-    """What document 02, (e) says of a call."""
+    """What names in one call says of a call."""
     refused = None
     if not expected.loaded:
         refused = expected.refusal

@@ -1,5 +1,5 @@
 #!/usr/bin/env python3
-"""The words of the types (document 02, f): sets bound under edited words, each answer compared with the rules in Python.
+"""The words of the types: sets bound under edited words, each answer compared with the rules in Python.
 
 usage: tests/type_words.py ARCHIVE [--sets N] [--seed S] (from the repository's top)
 

@@ -1,4 +1,4 @@
-//! Reads the objects of a set that the port has placed: which names occur, and whether the set is in document 01's common domain.
+//! Reads the objects of a set that the port has placed: which names occur, and whether the set is in the common domain.
 use std::collections::{BTreeMap, BTreeSet, HashMap, HashSet};
 
 const GNU: u64 = 0x6fff_fef5;
@@ -162,7 +162,7 @@ impl<'a> Object<'a> {
         (0..self.buckets()).flat_map(|bucket| self.walk(bucket)).map(|(s, _)| s).collect()
     }
 
-    /// Adds the names whose first hit is not exported and that have an exported one later in that chain: document 02, (c).
+    /// Adds the names whose first hit is not exported and that have an exported one later in that chain: the search.
     pub fn hidden_twins(&self, out: &mut HashSet<Vec<u8>>) {
         for bucket in 0..self.buckets() {
             let mut first = HashMap::new();

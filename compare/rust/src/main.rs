@@ -156,7 +156,7 @@ fn definer<'a>(scope: impl Iterator<Item = &'a Numbered<'a>>, name: &str) -> Opt
     None
 }
 
-/// Where the port puts an object (document 02, a): the least offset from the next free one on whose address is a multiple of the largest p_align
+/// Where the port puts an object (large pages): the least offset from the next free one on whose address is a multiple of the largest p_align
 /// of its PT_LOAD headers. The Rust maps an object wherever the kernel does.
 fn aligned(file: &[u8], address: usize, next: usize) -> usize {
     let number = |at: usize, width: usize| (0..width).rev().fold(0, |sum, i| sum << 8 | *file.get(at + i).unwrap_or(&0) as usize);

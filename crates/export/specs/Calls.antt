@@ -1,5 +1,5 @@
--- What the functions for C answer, as numbers: `bind_of`, `bind_ordered_of`, `query_of`, `query_all_of` and `start_stop_of` say what is answered, and this file how it is written. Document 01,
--- "Where an answer is an enum, a definition gives this paper's number and values for each of its cases". Assumes nothing.
+-- What the functions for C answer, as numbers: `bind_of`, `bind_ordered_of`, `query_of`, `query_all_of` and `start_stop_of` say what is answered, and this file how it is written: where
+-- an answer is an enum, a definition gives the number and the values for each of its cases. Assumes nothing.
 use Rattle.std.specs.Prelude.{List, [], ◌∷◌, ◌≡◌, ℕ, ◌+◌, ◌*◌, ◌^◌, ◌<◌, eqb}
 use Rattle.words.specs.Choice.{pick}
 use Rattle.words.specs.Memory.{mem, tab}
