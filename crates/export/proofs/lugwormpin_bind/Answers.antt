@@ -1,6 +1,6 @@
 -- `export::lugwormpin_bind` meets its contract. Assumes nothing.
 use Prim.Native.Nat.{ℕ}
-use mathlib.Core.Path.{◌≡◌, ap, ◌∙◌}
+use mathlib.Core.Path.{ap, ◌∙◌}
 use Rattle.export.specs.Calls.{called, called_of}
 use Rattle.export.proofs.lugwormpin_bind.Goals as goal
 

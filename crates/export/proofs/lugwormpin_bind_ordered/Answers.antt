@@ -1,5 +1,5 @@
 use Rattle.export.specs.Calls.{called, called_of}
-use mathlib.Core.Path.{◌≡◌, ap, ◌∙◌}
+use mathlib.Core.Path.{ap, ◌∙◌}
 use Prim.Native.Nat.{ℕ}
 use Rattle.export.proofs.lugwormpin_bind_ordered.Goals as goal
 

@@ -1,5 +1,5 @@
 -- `export::lugwormpin_query` meets its contract. Assumes nothing.
-use mathlib.Core.Path.{◌≡◌, ap, ◌∙◌}
+use mathlib.Core.Path.{ap}
 use lib.ListN.{length}
 use Rattle.export.specs.Calls.{asked_of}
 use Rattle.export.proofs.lugwormpin_query.Goals as goal

@@ -1,6 +1,6 @@
 use Rattle.export.specs.Calls.{called_lists_of}
 use lib.ListN.{length}
-use mathlib.Core.Path.{◌≡◌, ap, ◌∙◌}
+use mathlib.Core.Path.{ap}
 use Rattle.export.proofs.lugwormpin_start_stop.Goals as goal
 
 pub returns : goal.returns

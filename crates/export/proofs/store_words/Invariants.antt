@@ -1,6 +1,6 @@
 -- `export::store_words` meets its contract. The invariant: the words before `i` are written, the old ones stand from there on. Assumes nothing.
-use Prim.Native.Nat.{◌+◌, ◌-◌, ◌≤◌}
-use mathlib.Core.Path.{◌≡◌, ◌∙◌}
+use Prim.Native.Nat.{◌-◌, ◌≤◌}
+use mathlib.Core.Path.{◌≡◌}
 use lib.ListN.{length}
 use Rattle.words.specs.Memory.{mem, patch}
 use Rattle.export.proofs.store_words.Given as goal
