@@ -1,6 +1,6 @@
 /* Lugwormpin: binds x86-64 ELF shared objects into one image. x86-64 Linux, System V calling convention.
  *
- * Link with libexport.a, which tools/archive writes to target/staticlib/. It needs memcpy and memset, and nothing else.
+ * Link with libexport.a, which tools/archive writes to target/staticlib/. It needs memcpy, memmove and memset, and nothing else.
  *
  * All functions:
  * - answer every call that keeps to "What the caller owes"; what they answer is proved, for any contents of the slices, refused calls too
