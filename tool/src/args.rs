@@ -53,7 +53,7 @@ const COMMANDS: [About; 4] = [
         name: "set",
         what: "write the set as one file, for a report of a fault",
         usage: "lugwormpin set PROGRAM [LIBRARY..] -o FILE [OPTION..]",
-        text: "Writes host, program and libraries as one input of the program of crates/bind. That program takes at most 65,536 bytes; `--set FILE` \
+        text: "Writes host, program and libraries as one input of document 01's program. That program takes at most 65,536 bytes; `--set FILE` \
                of this command takes any. Address and arena are no part of \
                such a file.",
     },
@@ -84,7 +84,7 @@ const OPTIONS: &[Spec] = &[
     Spec { long: "types", short: None, value: Some("FILE"), of: &[Bind], help: "what is done with entries of each relocation type, in lines such as `1 refuse` and `37 pass`; types without a line are as `lugwormpin types` prints them" },
     Spec { long: "order", short: None, value: Some("LIST"), of: &[Bind], help: "bind in this order and no other: object numbers or library names with commas between, each library once, then the program (1)" },
     Spec { long: "start-stop", short: None, value: None, of: &[Bind], help: "also tell what to call to start the modules, and to stop them, in order" },
-    Spec { long: "report", short: None, value: Some("FILE"), of: &[Bind], help: "write the words of the report there too" },
+    Spec { long: "report", short: None, value: Some("FILE"), of: &[Bind], help: "write the report there too, in document 01's words" },
     Spec { long: "requester", short: None, value: Some("OBJECT"), of: &[Query], help: "the object that asks, by number or library name (default 1, the program); its own protected names come first" },
     Spec { long: "names", short: None, value: Some("FILE"), of: &[Query], help: "more names, one a line; - is standard input" },
     Spec { long: "dot", short: None, value: None, of: &[Order], help: "print a graph for Graphviz" },

@@ -8,7 +8,7 @@ pub const ARENA_LIMIT: usize = 1 << 28;
 /// What a call that is refused answers. docs/REFUSALS.md has what a number means, and what to do about it.
 #[derive(Clone, Copy, Debug, PartialEq, Eq)]
 pub struct Refusal {
-    /// The number of the rules.
+    /// Document 01's number, or document 02's.
     pub number: u32,
     /// The object that it is about; 0, too, where it is about none.
     pub object: u32,
@@ -61,7 +61,7 @@ impl Word {
 pub struct Bound {
     /// The image, to be mapped at the call's address.
     pub image: Vec<u8>,
-    /// The words of the report, as the rules have them, without the zeros at the end.
+    /// The words of the report, as document 01 has them, without the zeros at the end.
     pub report: Vec<u32>,
 }
 

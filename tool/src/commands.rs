@@ -11,7 +11,7 @@ use std::fmt::Write as _;
 use std::io::{self, BufWriter, Read, Write};
 use std::path::{Path, PathBuf};
 
-/// The most that the program of crates/bind takes.
+/// The most that document 01's program takes.
 const PROGRAM_INPUT: usize = 65_536;
 
 pub fn run(options: &Options) -> Result<Said, Failure> {
@@ -533,7 +533,7 @@ fn set(options: &Options, subject: &Subject) -> Result<Said, Failure> {
         let mut text = format!("written: {}, {} bytes: {parts}\n", show::path(path), decimal(length as u64));
         if length > PROGRAM_INPUT {
             text.push_str(
-                "over 65,536 bytes: the program of crates/bind refuses it by 1; `lugwormpin bind --set FILE` takes it\n",
+                "over 65,536 bytes: document 01's program refuses it by 1; `lugwormpin bind --set FILE` takes it\n",
             );
         }
         text

@@ -8,7 +8,7 @@ pub const PAGE: u64 = 4096;
 pub const NAME_SHOWN: usize = 4096;
 const LOAD: u32 = 1;
 const DYNAMIC: u32 = 2;
-/// The limits of the rules: program headers that are read, and where a segment may end.
+/// Document 01's limits: program headers that are read, and where a segment may end.
 const HEADERS: usize = 64;
 const END: u64 = 1 << 28;
 
@@ -80,7 +80,7 @@ pub struct Symbol {
 }
 
 impl Symbol {
-    /// The rules: section not 0, binding 1 or 2, visibility 0 or 3.
+    /// Document 01: section not 0, binding 1 or 2, visibility 0 or 3.
     pub fn exported(&self) -> bool {
         self.section != 0 && matches!(self.info >> 4, 1 | 2) && matches!(self.other & 3, 0 | 3)
     }
@@ -391,7 +391,7 @@ pub fn lists_needed(modules: &[Module]) -> (usize, usize) {
     (start as usize, stop as usize)
 }
 
-/// The image that the rules want of a host: the segments of a module, placed as those of the other objects are, in whole pages from address
+/// The image that document 01 wants of a host: the segments of a module, placed as those of the other objects are, in whole pages from address
 /// 0, not relocated. A file without ELF header is handed on in whole pages, so that it is refused in the archive's words.
 pub fn host_image(file: &[u8]) -> Result<Vec<u8>, &'static str> {
     let module = Module::of_file(file);

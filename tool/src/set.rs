@@ -1,4 +1,4 @@
-//! What is handed in: the sheet and the bytes of the rules, always fitting each other.
+//! What is handed in: the sheet and the bytes of document 01, always fitting each other.
 use std::fmt;
 use std::io::{self, Read, Write};
 use std::ops::Range;
@@ -15,7 +15,7 @@ const PROGRAM: u32 = 2;
 const LIBRARY: u32 = 3;
 const NAME: u32 = 4;
 
-/// A host, a program, and libraries with names. Objects are numbered as in the rules: host 0, program 1, libraries from 2.
+/// A host, a program, and libraries with names. Objects are numbered as in document 01: host 0, program 1, libraries from 2.
 pub struct Set {
     sheet: Vec<u32>,
     bytes: Vec<u8>,
@@ -43,7 +43,7 @@ pub enum Fault {
     NameLength(usize),
     /// There are [`LIBRARY_LIMIT`] libraries already.
     TooMany,
-    /// [`Set::read`] only: the file is no input of the program of crates/bind, for this reason.
+    /// [`Set::read`] only: the file is no input of document 01's program, for this reason.
     NoSet(&'static str),
 }
 
@@ -54,7 +54,7 @@ impl fmt::Display for Fault {
             Fault::TooLong => write!(f, "over {PART_LIMIT} bytes"),
             Fault::NameLength(n) => write!(f, "a name of {n} bytes: 1 to {NAME_LIMIT} are allowed"),
             Fault::TooMany => write!(f, "over {LIBRARY_LIMIT} libraries"),
-            Fault::NoSet(reason) => write!(f, "no input of the program of crates/bind: {reason}"),
+            Fault::NoSet(reason) => write!(f, "no input of document 01's program: {reason}"),
         }
     }
 }
@@ -141,7 +141,7 @@ impl Set {
         part.map_or(&[], |range| &self.bytes[range.clone()])
     }
 
-    /// Writes the set as an input of the program of crates/bind. That program takes at most 65,536 bytes; [`Set::read`] takes any.
+    /// Writes the set as an input of document 01's program. That program takes at most 65,536 bytes; [`Set::read`] takes any.
     pub fn write(&self, out: &mut impl Write) -> io::Result<()> {
         let mut head = Vec::with_capacity(4 + 4 * self.sheet.len());
         head.extend((self.sheet.len() as u32).to_le_bytes());
@@ -157,7 +157,7 @@ impl Set {
         4 + 4 * self.sheet.len() + self.bytes.len()
     }
 
-    /// A set from an input of the program of crates/bind.
+    /// A set from an input of document 01's program.
     pub fn read(input: &mut impl Read) -> Result<Set, SetError> {
         let word = |input: &mut dyn Read| {
             let mut word = [0; 4];

@@ -9,7 +9,7 @@ use std::fs::File;
 use std::io::{self, IsTerminal};
 use std::path::{Path, PathBuf};
 
-/// Where the program of crates/bind binds; commands for which the address does not matter take it.
+/// Where document 01's program binds; commands for which the address does not matter take it.
 const ADDRESS: u64 = 0x1000_0000;
 /// From here on a terminal is told what is being done.
 const LONG: u64 = 100 << 20;
