@@ -1,32 +1,31 @@
-// Printing to standard output. A field is a space and what it shows.
-use libc::STDOUT_FILENO;
+// Printing to what `out` prints to. A field is a space and what it shows.
+use std::io;
 
-pub fn word(text: &[u8]) {
-    io::write_all(STDOUT_FILENO, text);
+pub fn word(out: &impl Print, text: &[u8]) -> io::Result<()> {
+    out.write_all(text)
 }
 
-pub fn field(v: u64) {
-    word(b" ");
-    io::print_decimal(STDOUT_FILENO, v);
+pub fn field(out: &impl Print, v: u64) -> io::Result<()> {
+    word(out, b" ")?;
+    print!(out; "{v}")
 }
 
-pub fn size(v: usize) {
-    field(v as u64);
+pub fn size(out: &impl Print, v: usize) -> io::Result<()> {
+    field(out, v as u64)
 }
 
-pub fn small(v: u32) {
-    field(v as u64);
+pub fn small(out: &impl Print, v: u32) -> io::Result<()> {
+    field(out, v as u64)
 }
 
-pub fn hex(w: u32) {
-    word(b" ");
-    io::print_hex(STDOUT_FILENO, w as u64, 8);
+pub fn hex(out: &impl Print, w: u32) -> io::Result<()> {
+    word(out, b" ")?;
+    print!(out; "{w:08x}")
 }
 
-pub fn truth(b: bool) {
+pub fn truth(out: &impl Print, b: bool) -> io::Result<()> {
     if b {
-        word(b" yes");
-        return;
+        return word(out, b" yes");
     }
-    word(b" no");
+    word(out, b" no")
 }

@@ -3,7 +3,8 @@
 // tests/words_vectors.py makes the cases and, without this crate, the expected lines.
 #![tactic(auto)]
 
-use libc::{STDIN_FILENO, STDOUT_FILENO};
+use std::io;
+use testing::input::read_full;
 
 // What a store, a fill or a copy leaves: the hash of the whole image.
 fn digest(image: &[u8]) -> u64 {
@@ -80,7 +81,7 @@ fn answer(image: &mut [u8], src: &[u8], f: u64, a: u64, b: u64, c: u64) -> u64 {
 }
 
 // The cases from `start` on, each on the image as the case before left it. A copy takes its bytes from the input's own 512.
-fn run(image: &mut [u8], input: &[u8], start: usize) {
+fn run(out: &impl Print, image: &mut [u8], input: &[u8], start: usize) -> io::Result<()> {
     let mut left = words::bytes::monus(input.len(), start) / 32;
     let mut at = start;
     while 0 < left {
@@ -89,17 +90,17 @@ fn run(image: &mut [u8], input: &[u8], start: usize) {
         let b = words::bytes::u64_off(input, at, 16);
         let c = words::bytes::u64_off(input, at, 24);
         let r = answer(image, input, f, a, b, c);
-        io::print_hex(STDOUT_FILENO, r, 16);
-        io::write_all(STDOUT_FILENO, b"\n");
+        println!(out; "{r:016x}")?;
         at += 32;
         left -= 1;
     }
+    Ok(())
 }
 
-fn main() {
+fn main(rt: HostRuntime) -> io::Result<()> {
     let mut input = [0u8; 65536];
-    let n = io::read_full(STDIN_FILENO, &mut input);
+    let n = read_full(&mut rt.stdin(), &mut input)?;
     let mut image = [0u8; 512];
     words::bytes::copy(&mut image, 0, &input[..n], 0, 512);
-    run(&mut image, &input[..n], 512);
+    run(&rt, &mut image, &input[..n], 512)
 }
