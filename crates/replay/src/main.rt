@@ -16,57 +16,57 @@ use libc::STDIN_FILENO;
 use testing::input::{part, patches, stain};
 use testing::show::{field, hex, size, small, word};
 
-fn show_refusal(number: u32, object: u32) {
-    word(b"refused");
-    small(number);
-    word(b" object");
-    small(object);
+fn show_refusal(out: &impl Print, number: u32, object: u32) -> io::Result<()> {
+    word(out, b"refused")?;
+    small(out, number)?;
+    word(out, b" object")?;
+    small(out, object)
 }
 
-fn show_found(object: usize, symbol: usize, address: u64) {
-    word(b"found");
-    size(object);
-    size(symbol);
-    field(address);
+fn show_found(out: &impl Print, object: usize, symbol: usize, address: u64) -> io::Result<()> {
+    word(out, b"found")?;
+    size(out, object)?;
+    size(out, symbol)?;
+    field(out, address)
 }
 
-fn show_answer(a: Answer) {
+fn show_answer(out: &impl Print, a: Answer) -> io::Result<()> {
     match a {
-        Answer::Bound => word(b"bound"),
-        Answer::Refused { number, object } => show_refusal(number, object),
+        Answer::Bound => word(out, b"bound"),
+        Answer::Refused { number, object } => show_refusal(out, number, object),
     }
 }
 
-fn show_reply(r: Reply) {
+fn show_reply(out: &impl Print, r: Reply) -> io::Result<()> {
     match r {
         Reply::Found {
             object,
             symbol,
             address,
-        } => show_found(object, symbol, address),
-        Reply::Absent => word(b"absent"),
-        Reply::Refused { number, object } => show_refusal(number, object),
+        } => show_found(out, object, symbol, address),
+        Reply::Absent => word(out, b"absent"),
+        Reply::Refused { number, object } => show_refusal(out, number, object),
     }
 }
 
-fn show_word(w: u32) {
+fn show_word(out: &impl Print, w: u32) -> io::Result<()> {
     if w != 0 {
-        hex(w);
+        hex(out, w)?;
     }
 }
 
-fn show_words(report: &[u32]) {
+fn show_words(out: &impl Print, report: &[u32]) -> io::Result<()> {
     let mut i = 0;
     while i < report.len() {
-        show_word(report[i]);
+        show_word(out, report[i])?;
         i += 1;
     }
 }
 
-fn show_arena(arena: &[u8]) {
-    word(b" arena");
-    hex(words::hash::gnu_hash(arena));
-    word(b"\n");
+fn show_arena(out: &impl Print, arena: &[u8]) -> io::Result<()> {
+    word(out, b" arena")?;
+    hex(out, words::hash::gnu_hash(arena))?;
+    word(out, b"\n")
 }
 
 fn policy_of(b: u8) -> Policy {
@@ -76,10 +76,10 @@ fn policy_of(b: u8) -> Policy {
     Policy::Lenient
 }
 
-fn show_bound(a: Answer, report: &[u32], arena: &[u8]) {
-    show_answer(a);
-    show_words(report);
-    show_arena(arena);
+fn show_bound(out: &impl Print, a: Answer, report: &[u32], arena: &[u8]) -> io::Result<()> {
+    show_answer(out, a)?;
+    show_words(out, report)?;
+    show_arena(out, arena)
 }
 
 // The word of one type becomes pass, or refuse.
@@ -92,20 +92,20 @@ fn edit(types: &mut [u32], b: u8) {
     }
 }
 
-fn bind_set(
+fn bind_set(out: &impl Print, 
     arena: &mut [u8],
     sheet: &[u32],
     bytes: &[u8],
     address: u64,
     mark: u8,
     report: &mut [u32],
-) {
+) -> io::Result<()> {
     let mut types = [0u32; 64];
     binder::types::supply(&mut types);
     edit(&mut types, mark);
     let policy = policy_of(mark);
     let a = binder::bind::bind(sheet, bytes, arena, address, policy, &types, report);
-    show_bound(a, report, arena);
+    show_bound(out, a, report, arena)
 }
 
 // How many of 1,024 words are not for the report of the set at `at`.
@@ -116,25 +116,25 @@ fn spare_words(input: &[u8], at: usize) -> usize
 }
 
 // Binds with the policy, address and report of the set at `at`.
-fn bind_at(arena: &mut [u8], sheet: &[u32], bytes: &[u8], input: &[u8], at: usize) {
+fn bind_at(out: &impl Print, arena: &mut [u8], sheet: &[u32], bytes: &[u8], input: &[u8], at: usize) -> io::Result<()> {
     let mut report = [0xffff_ffffu32; 1024];
     let from = spare_words(input, at);
     let mark = words::bytes::byte_at(input, at, 0);
     let address = words::bytes::u64_off(input, at, 1);
-    bind_set(arena, sheet, bytes, address, mark, &mut report[from..]);
+    bind_set(out, arena, sheet, bytes, address, mark, &mut report[from..])
 }
 
-fn ask_name(
+fn ask_name(out: &impl Print, 
     arena: &mut [u8],
     sheet: &[u32],
     bytes: &[u8],
     address: u64,
     requester: u32,
     name: &[u8],
-) {
+) -> io::Result<()> {
     let r = binder::query::query(sheet, bytes, arena, address, requester, name);
-    show_reply(r);
-    show_arena(arena);
+    show_reply(out, r)?;
+    show_arena(out, arena)
 }
 
 fn name_at<'a>(input: &'a [u8], at: usize) -> &'a [u8] {
@@ -148,50 +148,50 @@ fn past_query(input: &[u8], at: usize) -> usize {
 }
 
 // The query at `at`; the answer is where the next one stands.
-fn ask(
+fn ask(out: &impl Print, 
     arena: &mut [u8],
     sheet: &[u32],
     bytes: &[u8],
     address: u64,
     input: &[u8],
     at: usize,
-) -> usize {
+) -> io::Result<usize> {
     let requester = words::bytes::u32_off(input, at, 0);
     stain(arena, input);
-    ask_name(arena, sheet, bytes, address, requester, name_at(input, at));
+    ask_name(out, arena, sheet, bytes, address, requester, name_at(input, at))?;
     past_query(input, at)
 }
 
 // The queries of the set at `at`, which stand at `start`; the answer is where the next set stands.
-fn asks(
+fn asks(out: &impl Print, 
     arena: &mut [u8],
     sheet: &[u32],
     bytes: &[u8],
     input: &[u8],
     at: usize,
     start: usize,
-) -> usize {
+) -> io::Result<usize> {
     let address = words::bytes::u64_off(input, at, 1);
     let mut next = start;
     let mut left = words::bytes::byte_at(input, at, 21);
     while 0 < left {
-        next = ask(arena, sheet, bytes, address, input, next);
+        next = ask(out, arena, sheet, bytes, address, input, next)?;
         left -= 1;
     }
     next
 }
 
-fn both(
+fn both(out: &impl Print, 
     arena: &mut [u8],
     sheet: &[u32],
     bytes: &[u8],
     input: &[u8],
     at: usize,
     start: usize,
-) -> usize {
+) -> io::Result<usize> {
     stain(arena, input);
-    bind_at(arena, sheet, bytes, input, at);
-    asks(arena, sheet, bytes, input, at, start)
+    bind_at(out, arena, sheet, bytes, input, at)?;
+    asks(out, arena, sheet, bytes, input, at, start)
 }
 
 // The words after the count; the answer is where the bytes after them start.
@@ -207,16 +207,16 @@ fn read_words(set: &[u8], sheet: &mut [u32]) -> usize {
 }
 
 // The calls of one set, into a sheet of its length.
-fn play(
+fn play(out: &impl Print, 
     arena: &mut [u8],
     sheet: &mut [u32],
     set: &[u8],
     input: &[u8],
     at: usize,
     start: usize,
-) -> usize {
+) -> io::Result<usize> {
     let from = read_words(set, sheet);
-    both(
+    both(out, 
         arena,
         sheet,
         part(set, from, 0, set.len()),
@@ -226,17 +226,17 @@ fn play(
     )
 }
 
-fn play_sheet(arena: &mut [u8], set: &[u8], input: &[u8], at: usize, start: usize) -> usize {
+fn play_sheet(out: &impl Print, arena: &mut [u8], set: &[u8], input: &[u8], at: usize, start: usize) -> io::Result<usize> {
     let mut sheet = [0u32; 130];
     let from = words::bytes::monus(130, words::bytes::u32_off(set, 0, 0) as usize);
-    play(arena, &mut sheet[from..], set, input, at, start)
+    play(out, arena, &mut sheet[from..], set, input, at, start)
 }
 
 // In as many of the arena's bytes as the set at `at` asks for.
-fn play_part(arena: &mut [u8], set: &[u8], input: &[u8], at: usize, start: usize) -> usize {
+fn play_part(out: &impl Print, arena: &mut [u8], set: &[u8], input: &[u8], at: usize, start: usize) -> io::Result<usize> {
     let n = words::bytes::u32_off(input, at, 9) as usize;
     let from = words::bytes::monus(arena.len(), n);
-    play_sheet(&mut arena[from..], set, input, at, start)
+    play_sheet(out, &mut arena[from..], set, input, at, start)
 }
 
 // Makes the set at `at`; the answer is where its queries stand.
@@ -254,17 +254,17 @@ fn fill(set: &mut [u8], input: &[u8], at: usize) -> usize {
 }
 
 // The set at `at`; the answer is where the next one stands.
-fn case(arena: &mut [u8], set: &mut [u8], input: &[u8], at: usize) -> usize {
+fn case(out: &impl Print, arena: &mut [u8], set: &mut [u8], input: &[u8], at: usize) -> io::Result<usize> {
     let start = fill(set, input, at);
     let length = words::bytes::u32_off(input, at, 15) as usize;
-    play_part(arena, part(set, 0, 0, length), input, at, start)
+    play_part(out, arena, part(set, 0, 0, length), input, at, start)
 }
 
-fn run(arena: &mut [u8], set: &mut [u8], input: &[u8]) {
+fn run(out: &impl Print, arena: &mut [u8], set: &mut [u8], input: &[u8]) -> io::Result<()> {
     let mut at = words::bytes::place(input.len(), 0, 2);
     let mut left = words::bytes::u16_off(input, 0, 0);
     while 0 < left {
-        at = case(arena, set, input, at);
+        at = case(out, arena, set, input, at)?;
         left -= 1;
     }
 }
@@ -274,5 +274,5 @@ fn main() {
     let n = io::read_full(STDIN_FILENO, &mut input);
     let mut set = [0u8; 65536];
     let mut arena = [0u8; 262144];
-    run(&mut arena, &mut set, &input[..n]);
+    run(out, &mut arena, &mut set, &input[..n])
 }
