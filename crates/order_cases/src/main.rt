@@ -5,53 +5,53 @@
 ghost use Rattle.std.specs.Prelude.{◌≤◌};
 
 use binder::order::{Order, arrange};
-use libc::STDOUT_FILENO;
+use std::io;
 
 fn wide(x: u32) -> u64 {
     x as u64
 }
 
-fn show(o: Order)
+fn show(out: &impl Print, o: Order) -> io::Result<()>
     requires { o.count ≤ 64 }
 {
     let list = o.list;
     let n = o.count;
     let mut i = 0;
     while i < n {
-        io::print_decimal(STDOUT_FILENO, wide(list[i]));
-        io::write_all(STDOUT_FILENO, b" ");
+        let x = wide(list[i]);
+        print!(out; "{x} ")?;
         i += 1;
     }
-    io::write_all(STDOUT_FILENO, b"\n");
+    println!(out)
 }
 
-fn arrange_and_show(needs: &[u8], libraries: usize) {
-    show(arrange(needs, libraries));
+fn arrange_and_show(out: &impl Print, needs: &[u8], libraries: usize) -> io::Result<()> {
+    show(out, arrange(needs, libraries))
 }
 
-fn main() {
+fn main(rt: HostRuntime) -> io::Result<()> {
     let mut needs = [0u8; 4096];
     // 2 needs 3 then 4
     needs[128] = 3;
     needs[129] = 4;
-    arrange_and_show(&needs, 3);
+    arrange_and_show(&rt, &needs, 3)?;
     // 2 needs 3, 4, 3
     needs[130] = 3;
-    arrange_and_show(&needs, 3);
+    arrange_and_show(&rt, &needs, 3)?;
     // 2 and 3 need each other
     needs[129] = 0;
     needs[130] = 0;
     needs[192] = 2;
-    arrange_and_show(&needs, 2);
+    arrange_and_show(&rt, &needs, 2)?;
     // no libraries
-    arrange_and_show(&needs, 0);
+    arrange_and_show(&rt, &needs, 0)?;
     // each needs the next
     let mut i = 128;
     while i < 4096 {
         needs[i] = (i / 64 + 1) as u8;
         i += 1;
     }
-    arrange_and_show(&needs, 62);
+    arrange_and_show(&rt, &needs, 62)?;
     // more libraries than there may be, and no table
-    arrange_and_show(b"", 100);
+    arrange_and_show(&rt, b"", 100)
 }

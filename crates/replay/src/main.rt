@@ -12,8 +12,8 @@
 ghost use Rattle.std.specs.Prelude.{◌≤◌};
 
 use binder::{Answer, Policy, Reply};
-use libc::STDIN_FILENO;
-use testing::input::{part, patches, stain};
+use std::io;
+use testing::input::{part, patches, read_full, stain};
 use testing::show::{field, hex, size, small, word};
 
 fn show_refusal(out: &impl Print, number: u32, object: u32) -> io::Result<()> {
@@ -53,6 +53,7 @@ fn show_word(out: &impl Print, w: u32) -> io::Result<()> {
     if w != 0 {
         hex(out, w)?;
     }
+    Ok(())
 }
 
 fn show_words(out: &impl Print, report: &[u32]) -> io::Result<()> {
@@ -61,6 +62,7 @@ fn show_words(out: &impl Print, report: &[u32]) -> io::Result<()> {
         show_word(out, report[i])?;
         i += 1;
     }
+    Ok(())
 }
 
 fn show_arena(out: &impl Print, arena: &[u8]) -> io::Result<()> {
@@ -92,7 +94,8 @@ fn edit(types: &mut [u32], b: u8) {
     }
 }
 
-fn bind_set(out: &impl Print, 
+fn bind_set(
+    out: &impl Print,
     arena: &mut [u8],
     sheet: &[u32],
     bytes: &[u8],
@@ -116,7 +119,14 @@ fn spare_words(input: &[u8], at: usize) -> usize
 }
 
 // Binds with the policy, address and report of the set at `at`.
-fn bind_at(out: &impl Print, arena: &mut [u8], sheet: &[u32], bytes: &[u8], input: &[u8], at: usize) -> io::Result<()> {
+fn bind_at(
+    out: &impl Print,
+    arena: &mut [u8],
+    sheet: &[u32],
+    bytes: &[u8],
+    input: &[u8],
+    at: usize,
+) -> io::Result<()> {
     let mut report = [0xffff_ffffu32; 1024];
     let from = spare_words(input, at);
     let mark = words::bytes::byte_at(input, at, 0);
@@ -124,7 +134,8 @@ fn bind_at(out: &impl Print, arena: &mut [u8], sheet: &[u32], bytes: &[u8], inpu
     bind_set(out, arena, sheet, bytes, address, mark, &mut report[from..])
 }
 
-fn ask_name(out: &impl Print, 
+fn ask_name(
+    out: &impl Print,
     arena: &mut [u8],
     sheet: &[u32],
     bytes: &[u8],
@@ -148,7 +159,8 @@ fn past_query(input: &[u8], at: usize) -> usize {
 }
 
 // The query at `at`; the answer is where the next one stands.
-fn ask(out: &impl Print, 
+fn ask(
+    out: &impl Print,
     arena: &mut [u8],
     sheet: &[u32],
     bytes: &[u8],
@@ -158,12 +170,21 @@ fn ask(out: &impl Print,
 ) -> io::Result<usize> {
     let requester = words::bytes::u32_off(input, at, 0);
     stain(arena, input);
-    ask_name(out, arena, sheet, bytes, address, requester, name_at(input, at))?;
-    past_query(input, at)
+    ask_name(
+        out,
+        arena,
+        sheet,
+        bytes,
+        address,
+        requester,
+        name_at(input, at),
+    )?;
+    Ok(past_query(input, at))
 }
 
 // The queries of the set at `at`, which stand at `start`; the answer is where the next set stands.
-fn asks(out: &impl Print, 
+fn asks(
+    out: &impl Print,
     arena: &mut [u8],
     sheet: &[u32],
     bytes: &[u8],
@@ -178,10 +199,11 @@ fn asks(out: &impl Print,
         next = ask(out, arena, sheet, bytes, address, input, next)?;
         left -= 1;
     }
-    next
+    Ok(next)
 }
 
-fn both(out: &impl Print, 
+fn both(
+    out: &impl Print,
     arena: &mut [u8],
     sheet: &[u32],
     bytes: &[u8],
@@ -207,7 +229,8 @@ fn read_words(set: &[u8], sheet: &mut [u32]) -> usize {
 }
 
 // The calls of one set, into a sheet of its length.
-fn play(out: &impl Print, 
+fn play(
+    out: &impl Print,
     arena: &mut [u8],
     sheet: &mut [u32],
     set: &[u8],
@@ -216,7 +239,8 @@ fn play(out: &impl Print,
     start: usize,
 ) -> io::Result<usize> {
     let from = read_words(set, sheet);
-    both(out, 
+    both(
+        out,
         arena,
         sheet,
         part(set, from, 0, set.len()),
@@ -226,14 +250,28 @@ fn play(out: &impl Print,
     )
 }
 
-fn play_sheet(out: &impl Print, arena: &mut [u8], set: &[u8], input: &[u8], at: usize, start: usize) -> io::Result<usize> {
+fn play_sheet(
+    out: &impl Print,
+    arena: &mut [u8],
+    set: &[u8],
+    input: &[u8],
+    at: usize,
+    start: usize,
+) -> io::Result<usize> {
     let mut sheet = [0u32; 130];
     let from = words::bytes::monus(130, words::bytes::u32_off(set, 0, 0) as usize);
     play(out, arena, &mut sheet[from..], set, input, at, start)
 }
 
 // In as many of the arena's bytes as the set at `at` asks for.
-fn play_part(out: &impl Print, arena: &mut [u8], set: &[u8], input: &[u8], at: usize, start: usize) -> io::Result<usize> {
+fn play_part(
+    out: &impl Print,
+    arena: &mut [u8],
+    set: &[u8],
+    input: &[u8],
+    at: usize,
+    start: usize,
+) -> io::Result<usize> {
     let n = words::bytes::u32_off(input, at, 9) as usize;
     let from = words::bytes::monus(arena.len(), n);
     play_sheet(out, &mut arena[from..], set, input, at, start)
@@ -254,7 +292,13 @@ fn fill(set: &mut [u8], input: &[u8], at: usize) -> usize {
 }
 
 // The set at `at`; the answer is where the next one stands.
-fn case(out: &impl Print, arena: &mut [u8], set: &mut [u8], input: &[u8], at: usize) -> io::Result<usize> {
+fn case(
+    out: &impl Print,
+    arena: &mut [u8],
+    set: &mut [u8],
+    input: &[u8],
+    at: usize,
+) -> io::Result<usize> {
     let start = fill(set, input, at);
     let length = words::bytes::u32_off(input, at, 15) as usize;
     play_part(out, arena, part(set, 0, 0, length), input, at, start)
@@ -267,12 +311,13 @@ fn run(out: &impl Print, arena: &mut [u8], set: &mut [u8], input: &[u8]) -> io::
         at = case(out, arena, set, input, at)?;
         left -= 1;
     }
+    Ok(())
 }
 
-fn main() {
+fn main(rt: HostRuntime) -> io::Result<()> {
     let mut input = [0u8; 524288];
-    let n = io::read_full(STDIN_FILENO, &mut input);
+    let n = read_full(&mut rt.stdin(), &mut input)?;
     let mut set = [0u8; 65536];
     let mut arena = [0u8; 262144];
-    run(out, &mut arena, &mut set, &input[..n])
+    run(&rt, &mut arena, &mut set, &input[..n])
 }
