@@ -5,9 +5,9 @@ use mathlib.Core.Path.{◌≡◌}
 use Rattle.replay.proofs.asks.Given as goal
 
 abbrev pub invariant-loop-left : goal.invariant-loop-left
-invariant-loop-left l =
+invariant-loop-left g l =
     (l.left ≤ l.initial.left) × (length l.arena ≡ length l.initial.arena)
 
 abbrev pub decreases-loop-left : goal.decreases-loop-left
-decreases-loop-left l =
+decreases-loop-left g l =
     l.left

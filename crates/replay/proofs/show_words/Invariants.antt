@@ -4,9 +4,9 @@ use lib.ListN.{length}
 use Rattle.replay.proofs.show_words.Given as goal
 
 abbrev pub invariant-loop-i : goal.invariant-loop-i
-invariant-loop-i l =
+invariant-loop-i g l =
     l.i ≤ length l.report
 
 abbrev pub decreases-loop-i : goal.decreases-loop-i
-decreases-loop-i l =
+decreases-loop-i g l =
     length l.report - l.i
