@@ -13,8 +13,9 @@ use object::entry_symbol::CheckedSymbol;
 use object::hash_tables::{Definition, Exported, HashTable, SymbolCount};
 use object::relocate::{Action, Field, Rela, Relr};
 use object::symbol::Symbol;
+use reading::read_full;
 use std::io;
-use testing::input::{part, patches, read_full, stain};
+use testing::input::{part, patches, stain};
 use testing::show::{field, size, small, truth, word};
 
 fn show_sysv(out: &impl Print, at: usize, buckets: u32, nchain: u32) -> io::Result<()> {

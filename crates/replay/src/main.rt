@@ -12,8 +12,9 @@
 ghost use Rattle.std.specs.Prelude.{◌≤◌};
 
 use binder::{Answer, Policy, Reply};
+use reading::read_full;
 use std::io;
-use testing::input::{part, patches, read_full, stain};
+use testing::input::{part, patches, stain};
 use testing::show::{field, hex, size, small, word};
 
 fn show_refusal(out: &impl Print, number: u32, object: u32) -> io::Result<()> {

@@ -1,23 +1,5 @@
 // Parts of an input, and patches from it. A patch is a place (2 bytes), a length (1 byte, or 2 where lengths are `wide`) and so many bytes.
-ghost use Rattle.std.specs.Prelude.{◌≤◌, length, IfOk};
-
-use std::io;
-use std::io::Read;
-
-// Reads until `buf` is full or the input ends; the answer is how many bytes it put at the start of `buf`.
-pub fn read_full<R: Read>(from: &mut R, buf: &mut [u8]) -> io::Result<usize>
-    ensures { IfOk result (λ n. n ≤ length buf.new) }
-{
-    let mut done = 0;
-    while done < buf.len() {
-        let n = from.read(&mut buf[done..])?;
-        if n == 0 {
-            break;
-        }
-        done += n;
-    }
-    Ok(done)
-}
+ghost use Rattle.std.specs.Prelude.{◌≤◌};
 
 // The `n` bytes of `s` that stand `k` places after `at`, as far as there are such.
 pub fn part<'a>(s: &'a [u8], at: usize, k: usize, n: usize) -> &'a [u8] {

@@ -3,8 +3,8 @@
 // tests/words_vectors.py makes the cases and, without this crate, the expected lines.
 #![tactic(auto)]
 
+use reading::read_full;
 use std::io;
-use testing::input::read_full;
 
 // What a store, a fill or a copy leaves: the hash of the whole image.
 fn digest(image: &[u8]) -> u64 {
