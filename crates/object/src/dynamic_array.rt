@@ -87,6 +87,7 @@ fn slot_of(tag: u64) -> usize
 }
 
 // What a slot holds after an entry whose value stands at `place`: the last counts, of DT_HASH the first.
+#[tactic(auto, unfolding(crate::specs::Steps::Slots::kept_of))]
 fn kept(tag: u64, was: usize, place: usize) -> usize
     ensures { result ≡ kept_of tag was place }
 {

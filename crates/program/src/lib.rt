@@ -57,6 +57,7 @@ fn refuse(arena: &mut [u8], report: &mut [u32]) -> Answer
 }
 
 // Binds the set that the input holds. 65,536 bytes hold a sheet of at most 16,383 words.
+#[tactic(auto, using(crate::proofs::AnswerLaws::short_refused, crate::proofs::AnswerLaws::long_refused, crate::proofs::AnswerLaws::whole_bound))]
 fn bind_input(input: &[u8], arena: &mut [u8], report: &mut [u32]) -> Answer
     ensures { outcome result arena.new report.new ≡ answer_to input.now (length arena.old) (length report.old) }
 {
@@ -109,6 +110,7 @@ fn put_word(out: &mut [u8], at: usize, w: u32) -> usize
 }
 
 // Each word before the first 0.
+#[tactic(auto, using(crate::proofs::PrintLaws::print_none, words::proofs::NameLaws::name_stop), unfolding(crate::specs::Program::hex_lines))]
 fn put_words(out: &mut [u8], report: &[u32]) -> usize
     ensures { written out.new result ≡ print (written out.old 0) (answer_lines Bound report.now) }
 {

@@ -36,6 +36,7 @@ fn size(w: u32) -> usize
 }
 
 // Whether two words are a library's.
+#[tactic(auto, unfolding(crate::specs::Sheet::pair_ok))]
 fn pair_ok(f: u32, n: u32) -> bool
     ensures { result ≡ pair_ok f n }
 {

@@ -16,6 +16,7 @@ fn set_word(list: &mut [u64], p: usize, w: u64)
 }
 
 // DT_INIT or DT_FINI: a value of 0 is none.
+#[tactic(auto, using(crate::proofs::ListLaws::put_none, crate::proofs::ListLaws::put_one, words::proofs::Slices::patch_one), unfolding(crate::specs::StartStop::function_of))]
 fn put_function(list: &mut [u64], n: usize, base: u64, value: u64) -> usize
     requires { n < 2 ^ 40 }
     ensures { Put (function_of base value) n list.old list.new result }

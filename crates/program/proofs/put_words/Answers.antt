@@ -12,12 +12,6 @@ pub loop-i-init : goal.loop-i-init
 loop-i-init c =
     (refl, omega arith, omega arith, refl)
 
-pub returns-then-w-eq0 : goal.returns-then-w-eq0
-unfolding hex_lines
-returns-then-w-eq0 c =
-    let l = c.loop-i in
-    sym (print_none l.out l.at l.invariant.1) ∙ rw (name_stop c.args.report.now l.i (omega arith) c.if-w-eq0.true) at l.invariant.3
-
 pub loop-i-preserved : goal.loop-i-preserved
 unfolding hex_lines
 loop-i-preserved c =
