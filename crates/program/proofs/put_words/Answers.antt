@@ -22,7 +22,7 @@ loop-i-preserved c =
       omega (arith, p.auto.out, next_place l.out l.at (hex_line (get_or c.args.report.now l.i 0)) p.ensures),
       omega arith,
       ap (λ (s : Written). print s rest) p.ensures ∙ print_join (written l.out l.at) (hex_line (get_or c.args.report.now l.i 0)) rest
-          ∙ rw (name_more c.args.report.now l.i (omega arith) c.if-w-eq0.false) at l.invariant.3,
+          ∙ rw (name_more c.args.report.now l.i (omega arith) (λ e. omega (arith, e))) at l.invariant.3,
     )
 
 pub returns : goal.returns
