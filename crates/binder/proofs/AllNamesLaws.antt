@@ -1,5 +1,8 @@
 -- The list of names of `query_all`, name by name from the front, and the words that a loop over it fills. Assumes nothing.
-use Rattle.std.proofs.Common.{◌≡◌, ℕ, zero, suc, ◌+◌, ◌<◌, ◌≤◌, true, false, eqb, List, [], ◌∷◌, ◌++◌, map, length, get_or, take, drop, set, sym, refl, ap, ◌∙◌, ⊎_elim, append-nil, add-one, arith, length-drop, length-set, drop_of_length-le, take_all, drop-cons, drop-drop, take-suc-set, eq-eqb, ne_eqb, eqb-true}
+use Rattle.std.proofs.Common.{◌≡◌, ℕ, zero, suc, ◌+◌, ◌<◌, ◌≤◌, true, false, eqb, List, [], ◌∷◌, ◌++◌, map, length, get_or, take, drop, set, sym, refl, ap, ◌∙◌, ⊎_elim, append-nil, add-one, arith, length-drop, length-set, drop_of_length-le, take_all, drop-drop, take-suc-set, eqb-true}
+use Rattle.std.specs.List.{count_by}
+use Rattle.std.specs.Prelude.{Bool, cond}
+use Rattle.std.proofs.lemmas.List.Recursion.{is_count_by}
 use lib.Seq.{append_snoc}
 use Rattle.words.specs.Choice.{pick}
 use Rattle.words.specs.Names.{until_zero, name_at}
@@ -65,20 +68,14 @@ ends_last (b ∷ []) (suc n) l = absurd (omega arith)
 ends_last (b ∷ (c ∷ bs)) zero l = absurd (omega arith)
 ends_last (b ∷ (c ∷ bs)) (suc n) l = ends_last (c ∷ bs) n (omega arith)
 
--- the count of zero bytes, byte by byte
-zeros_step : (xs : List ℕ) (i : ℕ) → i < length xs → zero_bytes (drop i xs) ≡ pick (eqb (get_or xs i 0) 0) 1 0 + zero_bytes (drop (i + 1) xs)
+-- the count of zero bytes
+pub zeros_counted : (xs : List ℕ) → count_by (λ b. eqb b 0) xs ≡ zero_bytes xs
 unfolding zero_bytes
-zeros_step xs i l = rw (add-one, drop-cons xs i 0 l)
-
-pub zeros_more : (xs : List ℕ) (i : ℕ) → i < length xs → get_or xs i 0 ≡ 0 → zero_bytes (drop i xs) ≡ suc (zero_bytes (drop (i + 1) xs))
-zeros_more xs i l e = zeros_step xs i l ∙ rw (eq-eqb (get_or xs i 0) 0 e) (omega arith)
-
-pub zeros_same : (xs : List ℕ) (i : ℕ) → i < length xs → (get_or xs i 0 ≡ 0 → ⊥) → zero_bytes (drop i xs) ≡ zero_bytes (drop (i + 1) xs)
-zeros_same xs i l ne = zeros_step xs i l ∙ rw (ne_eqb (get_or xs i 0) 0 ne) (omega arith)
-
-pub zeros_end : (xs : List ℕ) (i : ℕ) → length xs ≤ i → zero_bytes (drop i xs) ≡ 0
-unfolding zero_bytes
-zeros_end xs i l = ap zero_bytes (drop_of_length-le xs {i = i} l)
+zeros_counted xs = sym (is_count_by zero_bytes (λ b. eqb b 0) refl (λ b bs. one (eqb b 0) (zero_bytes bs)) xs)
+  where
+    one : (t : Bool) (n : ℕ) → pick t 1 0 + n ≡ cond t (1 + n) n
+    one true n = refl
+    one false n = omega arith
 
 -- ---- the words
 

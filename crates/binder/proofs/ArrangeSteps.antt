@@ -1,12 +1,12 @@
 -- What the proofs of `unlisted` and `arrange` rest on. Assumes nothing.
-use Rattle.std.proofs.Common.{◌≡◌, ℕ, zero, suc, ◌+◌, ◌-◌, ◌<◌, ◌≤◌, min, Bool, true, false, not, ltb, leb, List, [], ◌∷◌, ◌++◌, length, get_or, take, set, replicate, sym, refl, ap, ◌∙◌, ⊎_elim, add-one, arith, length-set, length-take, get_or-set_other, get_or-set_same, take-suc-set, ltb-false, ltb-true, le-ltb, lt-ltb, le-leb, leb-true}
+use Rattle.std.proofs.Common.{◌≡◌, ℕ, zero, suc, ◌+◌, ◌-◌, ◌<◌, ◌≤◌, min, Bool, true, false, not, ltb, leb, List, [], ◌∷◌, ◌++◌, length, get_or, set, replicate, sym, refl, ap, ◌∙◌, ⊎_elim, add-one, arith, length-set, get_or-set_other, get_or-set_same, ltb-false, ltb-true, le-ltb, lt-ltb, le-leb, leb-true}
 use native.Mathlib.Decide.{ℕ_discrete}
 use Rattle.words.specs.Choice.{both}
 use Rattle.model.specs.Order as order
 use Rattle.model.specs.Order.{listed, first_first, up_from, visit, order_of}
 use Rattle.model.proofs.OrderLaws.{decide, order_length}
 use Rattle.binder.specs.Steps.Table.{needs_row, Ordered}
-use Rattle.binder.specs.Steps.OrderState.{State, unmarked, ordered, used, Room, Marks, Visited, Unlisted}
+use Rattle.binder.specs.Steps.OrderState.{State, unmarked, used, Room, Marks, Visited, Unlisted}
 
 -- the numbers from 2 up to j are not marked
 pub record Clearing (s : List Bool) (j : ℕ) : Type 0 where
@@ -62,17 +62,17 @@ pub record Visiting (table : List ℕ) (libs : ℕ) (o : State) (k : ℕ) : Type
   pub low : 2 ≤ k
   pub high : k ≤ libs + 2
   pub marks : Marks libs [] o
-  pub same : first_first (visit (needs_row table) libs libs []) (up_from k (libs + 2 - k)) (ordered o) ≡ first_first (visit (needs_row table) libs libs []) (up_from 2 libs) []
+  pub same : first_first (visit (needs_row table) libs libs []) (up_from k (libs + 2 - k)) o.list ≡ first_first (visit (needs_row table) libs libs []) (up_from 2 libs) []
 
 both_yes : (b : Bool) → both b true ≡ b
 both_yes true = refl
 both_yes false = refl
 
-pub visit_none : {table : List ℕ} {libs : ℕ} {s : List Bool} → libs ≤ 62 → Unlisted libs s → Visiting table libs (record { list = replicate 64 0; count = 0; seen = s }) 2
+pub visit_none : {table : List ℕ} {libs : ℕ} {s : List Bool} → libs ≤ 62 → Unlisted libs s → Visiting table libs (record { list = []; seen = s }) 2
 visit_none {table} {libs} {s} h u =
     let e : libs + 2 - 2 ≡ libs = omega arith in
     record {
-      room = record { fits = omega (arith, u.left); marks = u.marks; places = refl };
+      room = record { fits = omega (arith, u.left); marks = u.marks };
       within = omega (arith, u.left);
       low = omega arith;
       high = omega arith;
@@ -92,22 +92,20 @@ visit_one {table} {libs} {k} {o} {o'} h t v =
       marks = v.marked libs [] t.marks;
       same =
           rw add-one (ap (λ (l : List ℕ). first_first f (up_from (suc k) (libs + 2 - suc k)) l) (v.same libs [] t.marks))
-          ∙ sym (ap (λ (n : ℕ). first_first f (up_from k n) (ordered o)) one)
+          ∙ sym (ap (λ (n : ℕ). first_first f (up_from k n) o.list) one)
           ∙ t.same;
     }
 
 -- all are visited, and the program is put at the end
 pub visit_all : {table : List ℕ} {libraries libs k : ℕ} {o : State} → libs ≡ min libraries 62 → libs + 2 ≤ k → Visiting table libs o k
-    → Ordered table libraries (record { list = set o.list o.count 1; count = o.count + 1 })
+    → Ordered table libraries (o.list ++ (1 ∷ []))
 unfolding order.order_of
 visit_all {table} {libraries} {libs} {k} {o} hl h t =
     let f : ℕ → List ℕ → List ℕ = visit (needs_row table) libs libs [] in
     let z : libs + 2 - k ≡ 0 = omega arith in
-    let end : take (o.count + 1) (set o.list o.count 1) ≡ ordered o ++ (1 ∷ []) = rw add-one (take-suc-set o.list o.count 1 (omega (arith, t.within, t.room.places))) in
-    let is : take (o.count + 1) (set o.list o.count 1) ≡ order_of (needs_row table) libs =
-    end ∙ ap (λ (l : List ℕ). l ++ (1 ∷ [])) (sym (ap (λ (n : ℕ). first_first f (up_from k n) (ordered o)) z) ∙ t.same) in
-    let long : length (set o.list o.count 1) ≡ 64 = simp length-set t.room.places in
+    let is : o.list ++ (1 ∷ []) ≡ order_of (needs_row table) libs =
+    ap (λ (l : List ℕ). l ++ (1 ∷ [])) (sym (ap (λ (n : ℕ). first_first f (up_from k n) o.list) z) ∙ t.same) in
     record {
       list = is ∙ ap (λ (n : ℕ). order_of (needs_row table) n) hl;
-      count = omega (arith, sym (length-take (o.count + 1) (set o.list o.count 1)) ∙ ap (λ (l : List ℕ). length l) is ∙ order_length (needs_row table) libs, long, t.within);
+      count = omega (arith, ap (λ (l : List ℕ). length l) is ∙ order_length (needs_row table) libs);
     }

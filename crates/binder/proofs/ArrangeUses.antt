@@ -1,25 +1,24 @@
 -- What a caller of `arrange` reads off its contract, and when the table stands for needs that are given otherwise. Assumes nothing.
-use Rattle.std.proofs.Common.{◌≡◌, ℕ, zero, suc, ◌+◌, ◌*◌, ◌<◌, ◌≤◌, min, List, [], ◌∷◌, length, get_or, sym, refl, ap, ◌∙◌, arith, get_or-take}
+use Rattle.std.proofs.Common.{◌≡◌, ℕ, zero, suc, ◌+◌, ◌*◌, ◌<◌, ◌≤◌, min, List, [], ◌∷◌, length, get_or, refl, ap, arith}
 use Rattle.words.specs.Choice.{pick}
 use Rattle.words.specs.Memory as memory
 use Rattle.words.specs.Memory.{Mem, mem, tab, from}
 use Rattle.model.specs.Order.{listed, order_of, keep}
 use Rattle.model.proofs.OrderSame.{order_same}
 use Rattle.model.proofs.OrderUses.{order_range}
-use Rattle.binder.specs.declared.order.Order.{Order}
 use Rattle.binder.specs.Steps.Table.{needs_row, Ordered}
 
 -- the i-th object of the order
 pub object_at :
-    {table : List ℕ} {libraries : ℕ} {r : Order} → Ordered table libraries r → (i : ℕ) → i < r.count
-    → get_or r.list i 0 ≡ get_or (order_of (needs_row table) (min libraries 62)) i 0
+    {table : List ℕ} {libraries : ℕ} {r : List ℕ} → Ordered table libraries r → (i : ℕ) → i < length r
+    → get_or r i 0 ≡ get_or (order_of (needs_row table) (min libraries 62)) i 0
 object_at {table} {libraries} {r} o i h =
-    sym (get_or-take r.count r.list i 0 h) ∙ ap (λ (l : List ℕ). get_or l i 0) o.list
+    ap (λ (l : List ℕ). get_or l i 0) o.list
 
 -- it is the program or a library
 pub object_range :
-    {table : List ℕ} {libraries : ℕ} {r : Order} → Ordered table libraries r → (i : ℕ) → i < r.count
-    → (1 ≤ get_or r.list i 0) × (get_or r.list i 0 < min libraries 62 + 2)
+    {table : List ℕ} {libraries : ℕ} {r : List ℕ} → Ordered table libraries r → (i : ℕ) → i < length r
+    → (1 ≤ get_or r i 0) × (get_or r i 0 < min libraries 62 + 2)
 object_range {table} {libraries} {r} o i h =
     rw (object_at o i h) (order_range (needs_row table) (min libraries 62) i (omega (arith, o.count)))
 

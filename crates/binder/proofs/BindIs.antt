@@ -1,5 +1,5 @@
 -- What a call to `bind` comes to, step by step, is its definition. Assumes nothing.
-use Rattle.std.proofs.Common.{◌≡◌, ℕ, zero, suc, ◌+◌, ◌-◌, ◌<◌, ◌≤◌, true, false, not, ltb, leb, List, [], ◌∷◌, ◌++◌, map, length, get_or, take, replicate, sym, refl, ap, ◌∙◌, subst, ⊎_elim, arith, le-ltb, lt-ltb, leb-false, leb-true}
+use Rattle.std.proofs.Common.{◌≡◌, ℕ, zero, suc, ◌+◌, ◌-◌, ◌<◌, ◌≤◌, true, false, not, ltb, leb, List, [], ◌∷◌, ◌++◌, map, length, get_or, take, replicate, sym, refl, ap, ◌∙◌, subst, ⊎_elim, arith, le-ltb, lt-ltb, leb-false, leb-true, Err}
 use lib.ListN.{length-map}
 use Rattle.words.specs.Memory.{mem, tab}
 use Rattle.words.proofs.Slices.{take_zeros, tab_mem}
@@ -7,16 +7,14 @@ use Rattle.model.specs.Objects as objects
 use Rattle.model.specs.Relocation.{placed, bound}
 use Rattle.model.specs.Layout.{objs_of}
 use Rattle.model.proofs.OrderLaws.{decide}
-use Rattle.sheet.specs.Sheet.{Input, no_input}
-use Rattle.sheet.specs.Steps.Parts.{inputs_in, Tabled}
-use Rattle.sheet.specs.declared.sheet.Parts.{Parts}
-use Rattle.sheet.proofs.PartLaws.{handed_in_lem}
+use Rattle.sheet.specs.Sheet.{handed_in, Input, no_input}
+use Rattle.std.specs.Prelude.{Result, Ok, Err}
+use Rattle.words.specs.declared.refusal.Refusal.{Refusal}
+use Rattle.sheet.proofs.ObjectLaws.{handed_bad, handed_good}
 use Rattle.binder.specs.Setting.{Setting}
 use Rattle.binder.specs.Instance.{File, object_from}
-use Rattle.binder.specs.Verdict.{first, no_file, order_verdict}
+use Rattle.binder.specs.Verdict.{Verdict, passed, refused, first, no_file, order_verdict}
 use Rattle.binder.specs.Steps.PlainVerdict.{plain_order}
-use Rattle.binder.specs.declared.Verdict.{Verdict}
-use Rattle.binder.specs.declared.Verdict.TheVariants.{Passed, Refused}
 use Rattle.binder.specs.Report.{order_words, first_undefined}
 use Rattle.binder.specs.SetOrder.{set_order}
 use Rattle.binder.specs.Bind.{files_of, names_of, objects_of, unless, allows, prepare_verdict, types_verdict, relocate_verdict, refused_bind, outcome_of, bind_in, bind_set, bind_of}
@@ -27,12 +25,11 @@ use Rattle.binder.specs.Steps.Needed.{Arranged}
 use Rattle.model.specs.Order.{OnceEach}
 use Rattle.binder.proofs.OrderIs.{order_is, names_length}
 use Rattle.binder.specs.declared.Policy.{Policy}
-use Rattle.binder.specs.declared.order.Order.{Order}
 use Rattle.binder.specs.declared.report.Progress.{Progress}
 use Rattle.binder.proofs.OutcomeLaws.{refused_not, first_passed, unless_passed}
 use Rattle.binder.proofs.SoundLaws.{count_is}
 use Rattle.binder.proofs.QueryLaws.{placed_is}
-use Rattle.binder.proofs.PrepareLaws.{Ready, passes, sheet_refused, sheet_passed}
+use Rattle.binder.proofs.PrepareLaws.{Ready, passes}
 use Rattle.binder.proofs.Steady.{file_at, LoadedSet}
 use Rattle.binder.proofs.RelocatedIs as relocated
 use Rattle.binder.proofs.CrossingIs.{can_read, can_read_then, none_crosses, one_crosses}
@@ -47,16 +44,16 @@ use Rattle.binder.proofs.NeedsIs.{order_loaded}
 -- the refusal that was met leaves zeros; none leaves the arena and the report
 pub finished :
     (size words : ℕ) (m : Verdict) (arena report arena' report' : List ℕ) → length arena' ≡ size → length report' ≡ words
-    → (m ≡ Passed → (arena' ≡ arena) × (report' ≡ report ++ replicate (words - length report) 0))
+    → (m ≡ passed → (arena' ≡ arena) × (report' ≡ report ++ replicate (words - length report) 0))
     → finished_of m arena' report' ≡ outcome_of size words m arena report
 unfolding finished_of outcome_of
-finished size words Passed arena report arena' report' la lr same = let s = same refl in rw (s.0, s.1)
-finished size words (Refused n k) arena report arena' report' la lr same = cc
+finished size words passed arena report arena' report' la lr same = let s = same refl in rw (s.0, s.1)
+finished size words (Err m) arena report arena' report' la lr same = cc
 
 -- the same where the refusal is known
 pub finished_by :
     (size words : ℕ) (m v : Verdict) (arena report arena' report' : List ℕ) → m ≡ v → length arena' ≡ size → length report' ≡ words
-    → (v ≡ Passed → (arena' ≡ arena) × (report' ≡ report ++ replicate (words - length report) 0))
+    → (v ≡ passed → (arena' ≡ arena) × (report' ≡ report ++ replicate (words - length report) 0))
     → finished_of m arena' report' ≡ outcome_of size words v arena report
 finished_by size words m v arena report arena' report' e la lr same =
     subst
@@ -101,12 +98,12 @@ module _ (setting : Setting) (size : ℕ) (table : List ℕ) (hf pf : File) (fs 
     ends = go (plain_order setting.row S files order) refl
       where
         go : (v : Verdict) → plain_order setting.row S files order ≡ v → ends_by policy p ≡ relocate_verdict setting.row S files order policy words
-        go Passed q =
+        go passed q =
             let g = (ended.bound_is q).2 in
             rw (same, ended.verdict_is, q, g.undefined, g.full, not_full (length (order_words setting.row S files order)) words)
-        go (Refused n k) q = rw (same, ended.verdict_is, q)
+        go (Err m) q = rw (same, ended.verdict_is, q)
 
-    room : relocate_verdict setting.row S files order policy words ≡ Passed → (plain_order setting.row S files order ≡ Passed) × (length (order_words setting.row S files order) ≤ words)
+    room : relocate_verdict setting.row S files order policy words ≡ passed → (plain_order setting.row S files order ≡ passed) × (length (order_words setting.row S files order) ≤ words)
     unfolding relocate_verdict
     room e =
         let a = first_passed (order_verdict setting.row S files [] order) _ e in
@@ -125,7 +122,7 @@ module _ (setting : Setting) (size : ℕ) (table : List ℕ) (hf pf : File) (fs 
 
   -- 28, or what is met before it
   pub crossed_set :
-      (m : Verdict) (a report : List ℕ) → (m ≡ order_verdict setting.row S files [] order) × (m ≡ Passed → ⊥) → length a ≡ size → length report ≡ words
+      (m : Verdict) (a report : List ℕ) → (m ≡ order_verdict setting.row S files [] order) × (m ≡ passed → ⊥) → length a ≡ size → length report ≡ words
       → finished_of m a report ≡ outcome_of size words (relocate_verdict setting.row S files order policy words) (tab size (bound S order)) (order_words setting.row S files order)
   unfolding relocate_verdict
   crossed_set m a report e la lr =
@@ -134,9 +131,9 @@ module _ (setting : Setting) (size : ℕ) (table : List ℕ) (hf pf : File) (fs 
       sym (kept m e.1 rest) ∙ ap (λ (v : Verdict). first v rest) e.0 in
       finished_by size words m _ _ _ a report met la lr (λ z. absurd (e.1 (met ∙ z)))
     where
-      kept : (m : Verdict) → (m ≡ Passed → ⊥) → (v : Verdict) → first m v ≡ m
-      kept Passed h v = absurd (h refl)
-      kept (Refused n k) h v = refl
+      kept : (m : Verdict) → (m ≡ passed → ⊥) → (v : Verdict) → first m v ≡ m
+      kept passed h v = absurd (h refl)
+      kept (Err m) h v = refl
 
 zeros_long : (n : ℕ) → length {A = ℕ} (replicate n 0) ≡ n
 zeros_long zero = refl
@@ -159,15 +156,15 @@ bytes_of (o ∷ ls) (suc j) l = bytes_of ls j (omega arith)
 -- refusals 2 to 12
 pub prepare_refused :
     (setting : Setting) (os : List Input) (size : ℕ) (policy : Policy) (words : ℕ) (m : Verdict) (a report : List ℕ) → m ≡ prepare_verdict setting (types_verdict setting) os size
-    → (n k : ℕ) → m ≡ Refused n k → length a ≡ size → length report ≡ words → BoundSet setting os size policy words a report m
+    → (n k : ℕ) → m ≡ refused n k → length a ≡ size → length report ≡ words → BoundSet setting os size policy words a report m
 unfolding bind_set bind_in
 prepare_refused setting os size policy words m a report e n k z la lr =
-    rw (sym e ∙ z) (finished_by size words m (Refused n k) _ _ a report z la lr (λ q. refused_not n k q))
+    rw (sym e ∙ z) (finished_by size words m (refused n k) _ _ a report z la lr (λ q. refused_not n k q))
 
 -- a set that was loaded
 module _
     (setting : Setting) (size : ℕ) (table : List ℕ) (h p : Input) (ls : List Input) (arena a : List ℕ) (r : Verdict) (len : length arena ≡ size)
-    (kept : length a ≡ length arena) (made : Prepared setting (types_verdict setting) (h ∷ (p ∷ ls)) arena a table r) (z : r ≡ Passed)
+    (kept : length a ≡ length arena) (made : Prepared setting (types_verdict setting) (h ∷ (p ∷ ls)) arena a table r) (z : r ≡ passed)
     (typed : (rtype : ℕ) → row_at table rtype ≡ setting.row rtype)
   where
     passed_it : Ready setting (types_verdict setting) (h ∷ (p ∷ ls)) size
@@ -215,8 +212,8 @@ module _
 
     -- the order that the code made is the order of the set
     pub ordered :
-        (order : Order) → Arranged (h ∷ (p ∷ ls)) (length ls + 2) a table order
-        → take order.count order.list ≡ set_order (files_of (h ∷ (p ∷ ls))) (names_of (h ∷ (p ∷ ls)))
+        (order : List ℕ) → Arranged (h ∷ (p ∷ ls)) (length ls + 2) a table order
+        → order ≡ set_order (files_of (h ∷ (p ∷ ls))) (names_of (h ∷ (p ∷ ls)))
     unfolding files_of
     ordered order o =
         let n : length ls + 2 ≡ length (h ∷ (p ∷ ls)) = omega arith in
@@ -262,12 +259,12 @@ module _
         subst (λ (l : List ℕ). OnceEach (objects.count made_set) l) (sym o)
         (order_is setting (host_file h) (file_of p) fs (names_of (h ∷ (p ∷ ls))) (names_length h p ls ∙ sym (length-map ls file_of)))
 
--- whatever objects the table of parts names
+-- whatever objects the set has
 pub bind_is :
     (setting : Setting) (os : List Input) (count : ℕ) (arena a table : List ℕ) (r : Verdict) → 2 ≤ count → length os ≡ count → length a ≡ length arena
-    → Prepared setting (types_verdict setting) os arena a table r → r ≡ Passed → ((rtype : ℕ) → row_at table rtype ≡ setting.row rtype) → (order : Order) → Arranged os count a table order
+    → Prepared setting (types_verdict setting) os arena a table r → r ≡ passed → ((rtype : ℕ) → row_at table rtype ≡ setting.row rtype) → (order : List ℕ) → Arranged os count a table order
     → (policy : Policy) (report : List ℕ) → report ≡ replicate (length report) 0
-    → (a' report' : List ℕ) (m : Verdict) → RelocatedOr os table (take order.count order.list) a policy report a' report' m
+    → (a' report' : List ℕ) (m : Verdict) → RelocatedOr os table order a policy report a' report' m
     → BoundSet setting os (length arena) policy (length report) a' report' m
 unfolding bind_set
 bind_is setting [] count arena a table r two many kept made z typed order o policy report zeros a' report' m g =
@@ -278,8 +275,8 @@ bind_is setting (h ∷ (p ∷ ls)) count arena a table r two many kept made z ty
     let c : count ≡ length ls + 2 = omega (arith, many) in
     let same = ordered setting (length arena) table h p ls arena a r refl kept made z typed order
     (subst (λ (n : ℕ). Arranged (h ∷ (p ∷ ls)) n a table order) c o) in
-    bound_in setting (length arena) table h p ls arena a r refl kept made z typed policy (length report) (take order.count order.list)
-    (in_order setting (length arena) table h p ls arena a r refl kept made z typed (take order.count order.list) same) report zeros a' report' m
+    bound_in setting (length arena) table h p ls arena a r refl kept made z typed policy (length report) order
+    (in_order setting (length arena) table h p ls arena a r refl kept made z typed order same) report zeros a' report' m
     g
     ∙ ap
     (λ (l : List ℕ). bind_in setting (prepare_verdict setting (types_verdict setting) (h ∷ (p ∷ ls)) (length arena)) (files_of (h ∷ (p ∷ ls))) l (length arena) policy (length report))
@@ -287,11 +284,11 @@ bind_is setting (h ∷ (p ∷ ls)) count arena a table r two many kept made z ty
 
 -- ---- the objects of a sheet
 
-module _ (setting : Setting) (sheet bytes : List ℕ) (size : ℕ) (p : Parts) (t : Tabled sheet (length bytes) p) (policy : Policy) (words : ℕ) where
-  pub bind_refused : p.count < 2 → refused_bind size words 1 0 ≡ bind_of setting sheet bytes size policy words
+module _ (setting : Setting) (sheet bytes : List ℕ) (size : ℕ) {r : Result (List Input) Refusal} (t : r ≡ handed_in sheet bytes) (policy : Policy) (words : ℕ) where
+  pub bind_refused : {e : Refusal} → r ≡ Err e → refused_bind size words 1 0 ≡ bind_of setting sheet bytes size policy words
   unfolding bind_of
-  bind_refused l = rw (sheet_refused sheet bytes p t l)
+  bind_refused is = rw (handed_bad sheet bytes t is)
 
-  pub bind_handed : 2 ≤ p.count → bind_set setting (inputs_in bytes p) size policy words ≡ bind_of setting sheet bytes size policy words
+  pub bind_handed : {os : List Input} → r ≡ Ok os → bind_set setting os size policy words ≡ bind_of setting sheet bytes size policy words
   unfolding bind_of
-  bind_handed l = let ok = sheet_passed sheet bytes p t l in rw (handed_in_lem t ok bytes, ok)
+  bind_handed is = let good = handed_good sheet bytes t is in rw (good.0, good.1)

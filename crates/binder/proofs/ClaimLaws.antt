@@ -1,6 +1,6 @@
 -- The claims of an object's entries, which are the bytes that its copies may write: no byte is claimed twice, as the marks of a window tell.
 -- Assumes nothing.
-use Rattle.std.proofs.Common.{◌≡◌, ℕ, zero, suc, ◌+◌, ◌-◌, ◌*◌, ◌<◌, ◌≤◌, min, max, Bool, true, false, eqb, ltb, leb, ◌⊎◌, List, [], ◌∷◌, ◌++◌, length, get_or, take, set, replicate, sym, refl, ap, ◌∙◌, subst, inl, inr, true≢false, append_assoc, append-nil, arith, length-append, length-set, length-take-le, take_all, get_or-set_other, get_or-take, take-suc, get_or-set_same, get_or-append-add, ltb-true, le-ltb, lt-ltb, le-leb, leb-true}
+use Rattle.std.proofs.Common.{◌≡◌, ℕ, zero, suc, ◌+◌, ◌-◌, ◌*◌, ◌<◌, ◌≤◌, min, max, Bool, true, false, eqb, ltb, leb, ◌⊎◌, List, [], ◌∷◌, ◌++◌, length, get_or, take, set, replicate, sym, refl, ap, ◌∙◌, subst, inl, inr, true≢false, append_assoc, append-nil, arith, length-append, length-set, take_all, get_or-set_other, take-suc, get_or-set_same, get_or-append-add, ltb-true, le-ltb, lt-ltb, le-leb, leb-true}
 use native.Mathlib.Decide.{dec_lt, dec_le}
 use borrow.Author.Tests.{lt-leb}
 use lib.ListN.{length-replicate, get_or-replicate, get_or-append}
@@ -473,43 +473,35 @@ type_in image at i k e = ap (le_at 4 (mem image)) (omega arith)
 
 -- ---- an order, object by object
 
-module _ (table : List ℕ) (os : List Input) (a list : List ℕ) (n : ℕ) where
-  abbrev ks : List ℕ
-  ks = take n list
-
+module _ (table : List ℕ) (os : List Input) (a ks : List ℕ) where
   -- the first `i` objects have no COPY entries
   abbrev pub NoneBefore : ℕ → Type 0
   NoneBefore i = Readable table os a ks → (j : ℕ) → j < i → j < length ks → NoCopies (entries_at table os a (get_or ks j 0))
 
-  pub none_ends : (i : ℕ) → n ≤ i → n ≤ length list → NoneBefore i → Readable table os a ks → PlainlyApart table os a ks
-  none_ends i l long so readable j h = inl (so readable j (omega (arith, length-take-le n list long)) h)
+  pub none_ends : (i : ℕ) → length ks ≤ i → NoneBefore i → Readable table os a ks → PlainlyApart table os a ks
+  none_ends i l so readable j h = inl (so readable j (omega arith) h)
 
-  module _ (i : ℕ) (long : n ≤ length list) (l : i < n) {t : Turn} (is : t ≡ turn_of table (get_or list i 0)) {file : List ℕ}
-      (f : file ≡ (get_or os (get_or list i 0) no_input).file) {image : List ℕ} (im : image ≡ image_in a t) {r : Tables}
+  module _ (i : ℕ) (l : i < length ks) {t : Turn} (is : t ≡ turn_of table (get_or ks i 0)) {file : List ℕ}
+      (f : file ≡ (get_or os (get_or ks i 0) no_input).file) {image : List ℕ} (im : image ≡ image_in a t) {r : Tables}
       (tables : again_refusal (image_in a t) file ≡ 0 → r ≡ tables_of (again_record (image_in a t) file)) (so : NoneBefore i) where
-    -- the object whose turn it is
-    here : get_or ks i 0 ≡ get_or list i 0
-    here = get_or-take n list i 0 l
-
-    image_is : image ≡ image_in a (turn_of table (get_or list i 0))
+    image_is : image ≡ image_in a (turn_of table (get_or ks i 0))
     image_is = im ∙ ap (image_in a) is
 
-    tables_are : Readable table os a ks → r ≡ tables_of (again_of table os a (get_or list i 0))
+    tables_are : Readable table os a ks → r ≡ tables_of (again_of table os a (get_or ks i 0))
     tables_are readable =
-        let z = readable i (omega (arith, length-take-le n list long)) in
-        tables (rw (is, f) (rw here at z)) ∙ rw (is, f)
+        tables (rw (is, f) (readable i l)) ∙ rw (is, f)
 
     pub none_goes : NoCopies (entries_by image r) → NoneBefore (i + 1)
     none_goes none readable j h k = go (dec_lt j i)
       where
-        now : NoCopies (entries_at table os a (get_or list i 0))
+        now : NoCopies (entries_at table os a (get_or ks i 0))
         now = rw (image_is, tables_are readable) at none
 
         go : Dec (j < i) → NoCopies (entries_at table os a (get_or ks j 0))
         go (yes y) = so readable j y k
-        go (no y) = let z : j ≡ i = omega arith in rw (z, here) now
+        go (no y) = let z : j ≡ i = omega arith in rw z now
 
-    pub last_apart : n ≤ i + 1 → get_or list i 0 ≡ 1 → ClaimsApart image r → Readable table os a ks → PlainlyApart table os a ks
+    pub last_apart : length ks ≤ i + 1 → get_or ks i 0 ≡ 1 → ClaimsApart image r → Readable table os a ks → PlainlyApart table os a ks
     last_apart last one apart readable j h = go (dec_lt j i)
       where
         go :
@@ -518,6 +510,5 @@ module _ (table : List ℕ) (os : List Input) (a list : List ℕ) (n : ℕ) wher
             ⊎ ((j + 1 ≡ length ks) × (get_or ks j 0 ≡ 1) × ClaimsApart (image_in a (turn_of table 1)) (tables_of (again_of table os a 1)))
         go (yes y) = inl (so readable j y h)
         go (no y) =
-            let many = length-take-le n list long in
             let z : j ≡ i = omega arith in
-            inr (omega arith, rw (z, here) one, rw one at (rw (image_is, tables_are readable) at apart))
+            inr (omega arith, rw z one, rw one at (rw (image_is, tables_are readable) at apart))

@@ -1,22 +1,21 @@
 -- What the functions of the module crossing need, over plain values. Assumes nothing.
-use Rattle.std.proofs.Common.{◌≡◌, ℕ, zero, suc, ◌+◌, ◌-◌, ◌*◌, ◌<◌, ◌≤◌, min, Bool, true, false, not, ltb, leb, List, [], ◌∷◌, ◌++◌, length, get_or, take, drop, set, sym, refl, ap, ◌∙◌, subst, arith, length-append, length-drop, length-set, drop_of_length-le, take_all, get_or-set_other, get_or-set_same, get_or-append-add, le-ltb, lt-ltb, le-leb, leb-false, leb-true}
+use Rattle.std.proofs.Common.{◌≡◌, ℕ, zero, suc, ◌+◌, ◌-◌, ◌*◌, ◌<◌, ◌≤◌, min, Bool, true, false, not, ltb, leb, List, [], ◌∷◌, ◌++◌, length, get_or, take, drop, set, sym, refl, ap, ◌∙◌, subst, arith, length-append, length-drop, length-set, drop_of_length-le, take_all, get_or-set_other, get_or-set_same, get_or-append-add, le-ltb, lt-ltb, le-leb, leb-false, leb-true, Ok, Err, Result, Option, None}
 use native.Mathlib.Decide.{dec_lt, dec_le}
 use borrow.Author.Tests.{lt-leb}
 use lib.ListN.{get_or-append}
 use lib.Seq.{drop-nil, take-append-le, drop-append-le}
 use Rattle.words.specs.Choice.{pick, both, either, some}
+use Rattle.words.specs.declared.refusal.Refusal.{Refusal}
 use Rattle.object.specs.RelocationTypes.{Row, ignored, passed_over, turned_away, marked_refuse, copies, writes}
 use Rattle.object.specs.Entries.{rela_at, relas_from}
 use Rattle.object.specs.Record.{Record, checked_symbol, name_of}
 use Rattle.object.specs.declared.symbol.Symbol.{Symbol}
 use Rattle.object.specs.declared.hash_tables.Definition.{Definition}
 use Rattle.object.specs.declared.relocate.Rela.{Rela}
-use Rattle.object.specs.declared.entry_symbol.CheckedSymbol.{CheckedSymbol}
-use Rattle.object.specs.declared.entry_symbol.CheckedSymbol.TheVariants.{Refused, Checked}
 use Rattle.scope.specs.Steps.Links.{link_at}
 use Rattle.scope.specs.declared.links.Link.{Link}
-use Rattle.scope.specs.declared.scope.Resolved.{Resolved}
-use Rattle.scope.specs.declared.scope.Resolved.TheVariants.{Absent, Found}
+use Rattle.scope.specs.declared.scope.Found.{Found}
+use Rattle.scope.specs.Steps.ScopeCode.{found}
 use Rattle.binder.specs.Steps.Relocating.{image_in, cut_to32, copy_fits, sought_for_copy}
 use Rattle.binder.specs.Steps.Crossing.{copies_row, empty_copy, copy_linked, copy_to, copy_checked, copy_seen, entries_by, entries_of, no_rela}
 use Rattle.binder.specs.Steps.Crossing.{round, kept_at, kept_from, kept_with, KeptCopies, earlier_of, Bounded}
@@ -260,18 +259,18 @@ module _ (table a : List ℕ) (t : Turn) (r : Record) (e : Rela) where
   no_copies_row (writes sought f) h = refl
   no_copies_row copies h = bool_clash h
 
-  module _ {x : Row} (row : copies ≡ x) {c : CheckedSymbol} (check : c ≡ checked_symbol (image_in a t) r e.symbol) where
-    pub copy_refused : {n : ℕ} → c ≡ Refused n → empty_copy ≡ copy_seen table a t r e x
+  module _ {x : Row} (row : copies ≡ x) {c : Result Symbol Refusal} (check : c ≡ checked_symbol (image_in a t) r e.symbol) where
+    pub copy_refused : {why : Refusal} → c ≡ Err why → empty_copy ≡ copy_seen table a t r e x
     unfolding copy_seen copy_checked
     copy_refused z = rw (← row, ← check, z)
 
-    module _ {y : Symbol} (ok : c ≡ Checked y) {s : Resolved} (sought : s ≡ sought_for_copy table a (name_of (image_in a t) r y)) where
-      pub copy_absent : s ≡ Absent → empty_copy ≡ copy_seen table a t r e x
+    module _ {y : Symbol} (ok : c ≡ Ok y) {s : Option Found} (sought : s ≡ sought_for_copy table a (name_of (image_in a t) r y)) where
+      pub copy_absent : s ≡ None → empty_copy ≡ copy_seen table a t r e x
       unfolding copy_seen copy_checked copy_to
       copy_absent z = rw (← row, ← check, ok, ← sought, z)
 
       pub copy_found :
-          {k : ℕ} {d : Definition} {v n : ℕ} {link : Link} → s ≡ Found k d v → n ≡ min y.size d.size → link ≡ link_at table k → {q : Copy}
+          {k : ℕ} {d : Definition} {v n : ℕ} {link : Link} → s ≡ found k d v → n ≡ min y.size d.size → link ≡ link_at table k → {q : Copy}
           → q ≡ copy_linked (length a) t e.place link d n → q ≡ copy_seen table a t r e x
       unfolding copy_seen copy_checked copy_to
       copy_found z hn hl hq = rw (← row, ← check, ok, ← sought, z, ← hn, ← hl) hq

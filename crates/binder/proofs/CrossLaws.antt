@@ -1,6 +1,6 @@
 -- Refusal 28 in the chain of an order: where no copy crosses an earlier one the verdict is that without 28; where one does, it is what is met up
 -- to that entry, or 28. Assumes nothing.
-use Rattle.std.proofs.Common.{◌≡◌, ℕ, Bool, true, false, eqb, List, [], ◌∷◌, ◌++◌, get_or, sym, refl, ap, ◌∙◌, subst, append_assoc, append-nil, ne_eqb}
+use Rattle.std.proofs.Common.{◌≡◌, ℕ, Bool, true, false, eqb, List, [], ◌∷◌, ◌++◌, get_or, sym, refl, ap, ◌∙◌, subst, append_assoc, append-nil, ne_eqb, Err}
 use Rattle.words.specs.Choice.{pick, some}
 use Rattle.model.specs.Objects.{Objs}
 use Rattle.object.specs.RelocationTypes.{Row}
@@ -8,9 +8,7 @@ use Rattle.object.specs.Record.{Record}
 use Rattle.object.specs.declared.relocate.Rela.{Rela}
 use Rattle.binder.specs.Instance.{File, file_image, file_record, named_words, relas_of}
 use Rattle.binder.specs.Copies.{crosses, crosses_one, entry_copy, entries_copies, object_copies}
-use Rattle.binder.specs.Verdict.{first, verdict, no_file, entry_refusal, cross_refusal, words_verdict, entries_verdict, object_verdict, order_verdict, order_copies}
-use Rattle.binder.specs.declared.Verdict.{Verdict}
-use Rattle.binder.specs.declared.Verdict.TheVariants.{Passed, Refused}
+use Rattle.binder.specs.Verdict.{Verdict, passed, refused, first, verdict, no_file, entry_refusal, cross_refusal, words_verdict, entries_verdict, object_verdict, order_verdict, order_copies}
 use Rattle.binder.specs.Steps.PlainVerdict.{plain_entries, plain_object, plain_order}
 use Rattle.binder.specs.Steps.Crossing.{one_copy, gather, EachApart, Quiet}
 use Rattle.binder.specs.declared.crossing.Copy.{Copy}
@@ -18,9 +16,9 @@ use Rattle.binder.proofs.OutcomeLaws.{first_passed, verdict_passed}
 use Rattle.binder.proofs.Runs.{first_assoc, verdict_none}
 
 -- what comes after a refusal does not matter
-pub first_same : (v w w' : Verdict) → (v ≡ Passed → w ≡ w') → first v w ≡ first v w'
-first_same Passed w w' f = f refl
-first_same (Refused n k) w w' f = refl
+pub first_same : (v w w' : Verdict) → (v ≡ passed → w ≡ w') → first v w ≡ first v w'
+first_same passed w w' f = f refl
+first_same (Err m) w w' f = refl
 
 pub quiet_split : (earlier xs ys : List Copy) → Quiet earlier (xs ++ ys) → Quiet earlier xs × Quiet (earlier ++ xs) ys
 unfolding EachApart
@@ -78,7 +76,7 @@ module _ (row : ℕ → Row) (S : Objs) (k : ℕ) (image : List ℕ) (r : Record
         let s = quiet_split earlier (one_copy (g e)) (gather g es) q in
         rw (agree e z, calm earlier (g e) s.0, verdict_none 0 k refl) (entries_quiet (earlier ++ one_copy (g e)) es s.1))
 
-    pub entries_copies_lem : (es : List Rela) → plain_entries row S k image r es ≡ Passed → entries_copies row S k image r es ≡ gather g es
+    pub entries_copies_lem : (es : List Rela) → plain_entries row S k image r es ≡ passed → entries_copies row S k image r es ≡ gather g es
     unfolding plain_entries entries_copies gather
     entries_copies_lem [] v = refl
     entries_copies_lem (e ∷ es) v =
@@ -94,32 +92,32 @@ module _ (row : ℕ → Row) (S : Objs) (k : ℕ) (image : List ℕ) (r : Record
         ap (first (verdict (entry_refusal row S k image r x) k)) (plain_append e xs)
         ∙ sym (first_assoc (verdict (entry_refusal row S k image r x) k) (plain_entries row S k image r xs) (plain_entries row S k image r (e ∷ [])))
 
-    refused_28 : (v : Verdict) → first (verdict 28 k) v ≡ Refused 28 k
+    refused_28 : (v : Verdict) → first (verdict 28 k) v ≡ refused 28 k
     unfolding verdict
     refused_28 v = refl
 
     last_crossed :
         (earlier : List Copy) (e : Rela) (post : List Rela) → ((g e).size ≡ 0 → ⊥) → some (crosses (g e)) earlier ≡ true
-        → entries_verdict row S k image r earlier (e ∷ post) ≡ first (plain_entries row S k image r (e ∷ [])) (Refused 28 k)
+        → entries_verdict row S k image r earlier (e ∷ post) ≡ first (plain_entries row S k image r (e ∷ [])) (refused 28 k)
     unfolding entries_verdict plain_entries
     last_crossed earlier e post s x =
         first_same (verdict (entry_refusal row S k image r e) k) _ _
         (λ v.
         rw (agree e (verdict_passed (entry_refusal row S k image r e) k v), loud earlier (g e) s x)
         (refused_28 (entries_verdict row S k image r (earlier ++ one_copy (g e)) post)))
-        ∙ sym (first_assoc (verdict (entry_refusal row S k image r e) k) Passed (Refused 28 k))
+        ∙ sym (first_assoc (verdict (entry_refusal row S k image r e) k) passed (refused 28 k))
 
     -- an entry whose copy crosses one
     pub entry_crossed :
         (earlier : List Copy) (pre : List Rela) (e : Rela) (post : List Rela) → Quiet earlier (gather g pre) → ((g e).size ≡ 0 → ⊥)
         → some (crosses (g e)) (earlier ++ gather g pre) ≡ true
-        → entries_verdict row S k image r earlier (pre ++ (e ∷ post)) ≡ first (plain_entries row S k image r (pre ++ (e ∷ []))) (Refused 28 k)
+        → entries_verdict row S k image r earlier (pre ++ (e ∷ post)) ≡ first (plain_entries row S k image r (pre ++ (e ∷ []))) (refused 28 k)
     entry_crossed earlier pre e post q s x =
         entries_append earlier pre (e ∷ post)
         ∙ (ap (λ (v : Verdict). first v (entries_verdict row S k image r (earlier ++ entries_copies row S k image r pre) (e ∷ post))) (entries_quiet earlier pre q)
         ∙ (first_same (plain_entries row S k image r pre) _ _ (λ v. rw (entries_copies_lem pre v) (last_crossed (earlier ++ gather g pre) e post s x))
-        ∙ (sym (first_assoc (plain_entries row S k image r pre) (plain_entries row S k image r (e ∷ [])) (Refused 28 k))
-        ∙ ap (λ (v : Verdict). first v (Refused 28 k)) (sym (plain_append e pre)))))
+        ∙ (sym (first_assoc (plain_entries row S k image r pre) (plain_entries row S k image r (e ∷ [])) (refused 28 k))
+        ∙ ap (λ (v : Verdict). first v (refused 28 k)) (sym (plain_append e pre)))))
 
 -- ---- the objects of an order
 
@@ -154,7 +152,7 @@ module _ (row : ℕ → Row) (S : Objs) (files : List File) (g : ℕ → Rela �
   object_quiet earlier k a q =
       ap (first (words_verdict k (record_of k) (named_words (image k) (record_of k)))) (entries_quiet row S k (image k) (record_of k) (g k) a earlier (relas k) q)
 
-  object_copies_lem : (k : ℕ) → AgreesAt k → plain_object row S k (file k) ≡ Passed → object_copies row S k (file k) ≡ gather (g k) (relas k)
+  object_copies_lem : (k : ℕ) → AgreesAt k → plain_object row S k (file k) ≡ passed → object_copies row S k (file k) ≡ gather (g k) (relas k)
   unfolding plain_object
   object_copies_lem k a v =
       entries_copies_lem row S k (image k) (record_of k) (g k) a (relas k)
@@ -170,7 +168,7 @@ module _ (row : ℕ → Row) (S : Objs) (files : List File) (g : ℕ → Rela �
       ∙ first_same (plain_object row S k (file k)) _ _
       (λ v. rw (object_copies_lem k a.0 v) (order_quiet (earlier ++ gather (g k) (relas k)) ks a.1 s.1))
 
-  order_copies_lem : (ks : List ℕ) → AgreesIn ks → plain_order row S files ks ≡ Passed → order_copies row S files ks ≡ gathered ks
+  order_copies_lem : (ks : List ℕ) → AgreesIn ks → plain_order row S files ks ≡ passed → order_copies row S files ks ≡ gathered ks
   unfolding plain_order order_copies AgreesIn gathered
   order_copies_lem [] a v = refl
   order_copies_lem (k ∷ ks) a v =
@@ -199,20 +197,20 @@ module _ (row : ℕ → Row) (S : Objs) (files : List File) (g : ℕ → Rela �
       (first (words_verdict k (record_of k) (named_words (image k) (record_of k))) (plain_entries row S k (image k) (record_of k) es))
 
   -- nothing follows 28
-  tail_28 : (k : ℕ) (u v z : Verdict) → first (first u (first v (Refused 28 k))) z ≡ first (first u v) (Refused 28 k)
-  tail_28 k Passed Passed z = refl
-  tail_28 k Passed (Refused n j) z = refl
-  tail_28 k (Refused n j) v z = refl
+  tail_28 : (k : ℕ) (u v z : Verdict) → first (first u (first v (refused 28 k))) z ≡ first (first u v) (refused 28 k)
+  tail_28 k passed passed z = refl
+  tail_28 k passed (Err m) z = refl
+  tail_28 k (Err m) v z = refl
 
   object_crossed :
       (earlier : List Copy) (k : ℕ) (back : List ℕ) (pre : List Rela) (e : Rela) (post : List Rela) → relas k ≡ pre ++ (e ∷ post)
       → AgreesAt k → Quiet earlier (gather (g k) pre) → ((g k e).size ≡ 0 → ⊥) → some (crosses (g k e)) (earlier ++ gather (g k) pre) ≡ true
       → order_verdict row S files earlier (k ∷ back)
-      ≡ first (first (words_verdict k (record_of k) (named_words (image k) (record_of k))) (plain_entries row S k (image k) (record_of k) (pre ++ (e ∷ [])))) (Refused 28 k)
+      ≡ first (first (words_verdict k (record_of k) (named_words (image k) (record_of k))) (plain_entries row S k (image k) (record_of k) (pre ++ (e ∷ [])))) (refused 28 k)
   unfolding order_verdict object_verdict
   object_crossed earlier k back pre e post is b q s x =
       let m : entries_verdict row S k (image k) (record_of k) earlier (relas k)
-      ≡ first (plain_entries row S k (image k) (record_of k) (pre ++ (e ∷ []))) (Refused 28 k) =
+      ≡ first (plain_entries row S k (image k) (record_of k) (pre ++ (e ∷ []))) (refused 28 k) =
       ap (entries_verdict row S k (image k) (record_of k) earlier) is
       ∙ entry_crossed row S k (image k) (record_of k) (g k) b earlier pre e post q s x in
       let w : Verdict = words_verdict k (record_of k) (named_words (image k) (record_of k)) in
@@ -223,10 +221,10 @@ module _ (row : ℕ → Row) (S : Objs) (files : List File) (g : ℕ → Rela �
       (front : List ℕ) (k : ℕ) (back : List ℕ) (pre : List Rela) (e : Rela) (post : List Rela) → relas k ≡ pre ++ (e ∷ post)
       → AgreesIn front → AgreesAt k → Quiet [] (gathered front ++ gather (g k) pre) → ((g k e).size ≡ 0 → ⊥)
       → some (crosses (g k e)) (gathered front ++ gather (g k) pre) ≡ true
-      → order_verdict row S files [] (front ++ (k ∷ back)) ≡ first (met_until front k (pre ++ (e ∷ []))) (Refused 28 k)
+      → order_verdict row S files [] (front ++ (k ∷ back)) ≡ first (met_until front k (pre ++ (e ∷ []))) (refused 28 k)
   order_crossed front k back pre e post is a b q s x =
       let t = quiet_split [] (gathered front) (gather (g k) pre) q in
       order_append [] front (k ∷ back)
       ∙ (ap (λ (v : Verdict). first v (order_verdict row S files (order_copies row S files front) (k ∷ back))) (order_quiet [] front a t.0)
       ∙ (first_same (plain_order row S files front) _ _ (λ v. rw (order_copies_lem front a v) (object_crossed (gathered front) k back pre e post is b t.1 s x))
-      ∙ sym (first_assoc (plain_order row S files front) _ (Refused 28 k))))
+      ∙ sym (first_assoc (plain_order row S files front) _ (refused 28 k))))

@@ -1,6 +1,6 @@
 -- What the code does about refusal 28 comes to the definition: over the placed arena of a loaded set, the first copy that crosses an earlier one
 -- is found, and what is met before it. Assumes nothing.
-use Rattle.std.proofs.Common.{◌≡◌, ℕ, zero, suc, ◌+◌, ◌<◌, ◌≤◌, Bool, true, false, eqb, List, [], ◌∷◌, ◌++◌, length, get_or, take, drop, replicate, sym, refl, ap, ◌∙◌, subst, ⊎_elim, arith, take-suc, eqb-true}
+use Rattle.std.proofs.Common.{◌≡◌, ℕ, zero, suc, ◌+◌, ◌<◌, ◌≤◌, Bool, true, false, eqb, List, [], ◌∷◌, ◌++◌, length, get_or, take, drop, replicate, sym, refl, ap, ◌∙◌, subst, ⊎_elim, arith, take-suc, eqb-true, Err}
 use borrow.Author.Tests.{eqb-false}
 use lib.Seq.{split_at}
 use Rattle.words.specs.Choice.{some}
@@ -14,9 +14,7 @@ use Rattle.sheet.specs.Sheet.{Input, no_input}
 use Rattle.binder.specs.Setting.{Setting}
 use Rattle.binder.specs.Instance.{File, file_image, file_record, relas_of}
 use Rattle.binder.specs.Copies.{crosses}
-use Rattle.binder.specs.Verdict.{first, verdict, no_file, order_verdict}
-use Rattle.binder.specs.declared.Verdict.{Verdict}
-use Rattle.binder.specs.declared.Verdict.TheVariants.{Passed, Refused}
+use Rattle.binder.specs.Verdict.{Verdict, passed, refused, first, verdict, no_file, order_verdict}
 use Rattle.binder.specs.Steps.PlainVerdict.{plain_order}
 use Rattle.binder.specs.Steps.Relocating.{left, started, run_order, run_until}
 use Rattle.binder.specs.Steps.Crossing.{gather, no_rela, Quiet, seen_at, entries_at, copies_among, copies_before, Readable, CrossesAt, copies_met, FirstCrossing, CrossingIn}
@@ -111,7 +109,7 @@ module _ (setting : Setting) (size : ℕ) (table : List ℕ) (h pr : File) (fs :
       -- the first copy that crosses an earlier one
       pub one_crosses :
           (c : Crossing) → CrossingIn table os a order c → c.hit ≡ true → (m : Verdict) → Crossed os table order c.index c.entry a report m
-          → (m ≡ order_verdict setting.row S fl [] order) × (m ≡ Passed → ⊥)
+          → (m ≡ order_verdict setting.row S fl [] order) × (m ≡ passed → ⊥)
       unfolding verdict
       one_crosses c x e m w =
           ⊎_elim (λ z. clash (sym e ∙ z.0)) (λ f. with_copy f (f.met e)) x
@@ -119,7 +117,7 @@ module _ (setting : Setting) (size : ℕ) (table : List ℕ) (h pr : File) (fs :
           clash : {P : Type 0} → true ≡ false → P
           clash z = let y : ◌≡◌ {A = ℕ} 0 1 = cc in absurd (omega arith)
 
-          with_copy : FirstCrossing table os a order c → CrossesAt table os a order c.index c.entry → (m ≡ order_verdict setting.row S fl [] order) × (m ≡ Passed → ⊥)
+          with_copy : FirstCrossing table os a order c → CrossesAt table os a order c.index c.entry → (m ≡ order_verdict setting.row S fl [] order) × (m ≡ passed → ⊥)
           with_copy f k =
               let i : ℕ = c.index in
               let j : ℕ = c.entry in
@@ -137,19 +135,19 @@ module _ (setting : Setting) (size : ℕ) (table : List ℕ) (h pr : File) (fs :
               let one : take (j + 1) es ≡ take j es ++ (get_or es j no_rela ∷ []) =
               (let z : j + 1 ≡ suc j = omega arith in ap (λ (n : ℕ). take n es) z ∙ take-suc es j no_rela inside) in
               let u = until_at i k.object w.progress w.before w.notes w.leaves in
-              let is : order_verdict setting.row S fl [] order ≡ first (met_until setting.row S fl g (take i order) o (take (j + 1) es)) (Refused 28 o) =
+              let is : order_verdict setting.row S fl [] order ≡ first (met_until setting.row S fl g (take i order) o (take (j + 1) es)) (refused 28 o) =
               ap (order_verdict setting.row S fl []) (split_at order i 0 k.object)
               ∙ (order_crossed setting.row S fl g (take i order) o (drop (suc i) order) (take j es) (get_or es j no_rela) (drop (suc j) es) (split_at es j no_rela inside)
               (agrees_in (take i order) (others_take i order others)) (agrees setting size table h pr fs L a len at_place o b.0 b.1 os (inputs o b.1))
               quiet sized crossed
-              ∙ ap (λ (l : List Rela). first (met_until setting.row S fl g (take i order) o l) (Refused 28 o)) (sym one)) in
-              let met : m ≡ first (met_until setting.row S fl g (take i order) o (take (j + 1) es)) (Refused 28 o) =
+              ∙ ap (λ (l : List Rela). first (met_until setting.row S fl g (take i order) o l) (refused 28 o)) (sym one)) in
+              let met : m ≡ first (met_until setting.row S fl g (take i order) o (take (j + 1) es)) (refused 28 o) =
               ⊎_elim
               (λ (z : eqb w.progress.refusal 0 ≡ true).
               let q = w.until (eqb-true w.progress.refusal 0 z) in
               let v = u.until (eqb-true w.progress.refusal 0 z) (j + 1) (omega arith) q.0 q.1 q.2
               (subst (λ (l : List ℕ). left q.0 q.1 q.2 ≡ run_until table o l (j + 1) w.progress w.before w.notes) (inputs o b.1) q.3) in
-              let p : plain_order setting.row S fl (take i order) ≡ Passed = sym u.verdict_is ∙ verdict_none w.progress.refusal w.progress.object (eqb-true w.progress.refusal 0 z) in
+              let p : plain_order setting.row S fl (take i order) ≡ passed = sym u.verdict_is ∙ verdict_none w.progress.refusal w.progress.object (eqb-true w.progress.refusal 0 z) in
               q.4 ∙ rw (p, v))
               (λ (z : eqb w.progress.refusal 0 ≡ false).
               w.stopped (eqb-false w.progress.refusal 0 z) ∙ stops w.progress (plain_order setting.row S fl (take i order)) u.verdict_is z _ _)
@@ -158,9 +156,9 @@ module _ (setting : Setting) (size : ℕ) (table : List ℕ) (h pr : File) (fs :
             where
               stops :
                   (p : Progress) (v : Verdict) → verdict p.refusal p.object ≡ v → eqb p.refusal 0 ≡ false → (x y : Verdict)
-                  → Refused p.refusal p.object ≡ first (first v x) y
+                  → refused p.refusal p.object ≡ first (first v x) y
               stops p v e z x y = rw (← e, z)
 
-              never : (v : Verdict) (k : ℕ) → first v (Refused 28 k) ≡ Passed → ⊥
-              never Passed k e = refused_not 28 k e
-              never (Refused n j) k e = refused_not n j e
+              never : (v : Verdict) (k : ℕ) → first v (refused 28 k) ≡ passed → ⊥
+              never passed k e = refused_not 28 k e
+              never (Err m) k e = refused_not m.number m.object e

@@ -1,5 +1,5 @@
 -- One entry of RELA or PLT, over the arena as it is at the entry's turn, does what the definitions say of the placed bytes. Assumes nothing.
-use Rattle.std.proofs.Common.{◌≡◌, ℕ, ◌+◌, ◌^◌, ◌<◌, ◌≤◌, min, Bool, true, false, not, eqb, ◌⊎◌, List, [], ◌∷◌, ◌++◌, length, sym, refl, ap, ◌∙◌, subst, inl, inr, ⊎_elim, append-nil, arith, eqb-true}
+use Rattle.std.proofs.Common.{◌≡◌, ℕ, ◌+◌, ◌^◌, ◌<◌, ◌≤◌, min, Bool, true, false, not, eqb, ◌⊎◌, List, [], ◌∷◌, ◌++◌, length, sym, refl, ap, ◌∙◌, subst, inl, inr, ⊎_elim, append-nil, arith, eqb-true, Ok, Err, Result, Option, None, Some}
 use Rattle.words.specs.Choice.{pick, both}
 use Rattle.words.specs.Memory.{Mem, mem, from, write, patch}
 use Rattle.words.proofs.Memory.{write_none}
@@ -10,6 +10,9 @@ use Rattle.model.specs.Scope.{resolve, resolve_copy}
 use Rattle.model.specs.Relocation.{address_or0, copied, effect}
 use Rattle.model.proofs.Scope.{resolve_copy_range}
 use Rattle.model.proofs.OrderLaws.{decide}
+use Rattle.words.specs.Refusal.{number_of}
+use Rattle.words.specs.declared.refusal.Refusal.{Refusal}
+use Rattle.words.specs.declared.refusal.Refusal.TheVariants as refusals
 use Rattle.object.specs.Refusal.{require}
 use Rattle.object.specs.TableBytes.{in_writable}
 use Rattle.object.specs.Symbol.{symbol_at, symbol_name, binding_of}
@@ -18,23 +21,19 @@ use Rattle.object.specs.Record.{Record, index_ok, is_table_of, checked_symbol, n
 use Rattle.object.specs.declared.symbol.Symbol.{Symbol}
 use Rattle.object.specs.declared.relocate.Rela.{Rela}
 use Rattle.object.specs.RelocationTypes.{Calculation, Row, no_search, in_scope, ignored, passed_over, turned_away, marked_refuse, copies, writes}
-use Rattle.object.specs.declared.entry_symbol.CheckedSymbol.{CheckedSymbol}
-use Rattle.object.specs.declared.entry_symbol.CheckedSymbol.TheVariants.{Refused, Checked}
 use Rattle.object.specs.declared.hash_tables.Definition.{Definition}
 use Rattle.binder.specs.Instance.{File, file_image, file_record, definition_of, entry_by, wanted_by}
 use Rattle.binder.specs.Setting.{Setting}
-use Rattle.binder.specs.Verdict.{verdict, copy_ok, copy_refusal, field_refusal, symbol_then, refusal_by}
-use Rattle.binder.specs.declared.Verdict.{Verdict}
-use Rattle.binder.specs.declared.Verdict.TheVariants.{Passed}
+use Rattle.binder.specs.Verdict.{Verdict, passed, verdict, copy_ok, copy_refusal, field_refusal, symbol_then, refusal_by}
 use Rattle.binder.specs.Report.{report_word, unresolved, undefined_by, is_passed}
 use Rattle.scope.specs.Steps.Links.{link_at}
 use Rattle.binder.specs.Steps.ScopeModel.{scoped_of}
 use Rattle.binder.specs.Steps.Relocating.{Left, left, wrote, Noted, noted, with_arena, with_report, refused_by, image_in, report_sum, note_of, mark_undefined, unresolved_of, written_number, written_bytes, field_of, fixed_of, sought_by, field_noted, write_sought, copy_fits, copy_bytes, copy_of, turn_of, sought_for, sought_for_copy, keeps, sought_of, copying_of, run_action, keeps_weak}
 use Rattle.scope.specs.declared.links.Link.{Link}
 use Rattle.binder.specs.declared.turn.Turn.{Turn}
-use Rattle.scope.specs.declared.scope.Resolved.{Resolved}
-use Rattle.binder.specs.declared.relocate.Sought.TheVariants.{Stopped, Known}
-use Rattle.scope.specs.declared.scope.Resolved.TheVariants.{Absent, Found}
+use Rattle.scope.specs.declared.scope.Found.{Found}
+use Rattle.scope.specs.Steps.ScopeCode.{found}
+use Rattle.binder.specs.declared.relocate.Sought.TheVariants.{Known}
 use Rattle.binder.specs.declared.report.Progress.{Progress}
 use Rattle.binder.proofs.InsideLaws.{name_is, writable_inside}
 use Rattle.binder.proofs.Steady.{set, file_at, LoadedSet, Steady, Written}
@@ -47,9 +46,9 @@ use Rattle.binder.proofs.Runs.{Ran, verdict_none, ran_refused, ran_passed}
 -- the symbol of an entry is checked, or refused by a number that is not 0
 abbrev pub SymbolCase : List ℕ → Record → ℕ → Type 0
 SymbolCase image r index =
-    ((checked_symbol image r index ≡ Checked (symbol_at image r.symbols index))
+    ((checked_symbol image r index ≡ Ok (symbol_at image r.symbols index))
     × (symbol_ok (is_table_of r) image r.symbols r.strings index ≡ true))
-    ⊎ ((z : ℕ) × (z ≡ 0 → ⊥) × (checked_symbol image r index ≡ Refused z))
+    ⊎ ((z : Refusal) × (number_of z ≡ 0 → ⊥) × (checked_symbol image r index ≡ Err z))
 
 pub symbol_case : (image : List ℕ) (r : Record) (index : ℕ) → SymbolCase image r index
 unfolding checked_symbol
@@ -57,20 +56,20 @@ symbol_case image r index =
     ⊎_elim
     (λ (s : index_ok r.known index ≡ true).
     ⊎_elim (λ (t : symbol_ok (is_table_of r) image r.symbols r.strings index ≡ true). inl (rw (s, t), t))
-    (λ (t : symbol_ok (is_table_of r) image r.symbols r.strings index ≡ false). inr (15, (λ e. omega arith), rw (s, t)))
+    (λ (t : symbol_ok (is_table_of r) image r.symbols r.strings index ≡ false). inr (refusals.SymbolBytes, (λ e. omega arith), rw (s, t)))
     (decide (symbol_ok (is_table_of r) image r.symbols r.strings index)))
-    (λ (s : index_ok r.known index ≡ false). inr (14, (λ e. omega arith), rw s))
+    (λ (s : index_ok r.known index ≡ false). inr (refusals.SymbolIndex, (λ e. omega arith), rw s))
     (decide (index_ok r.known index))
 
-pub refused_checked : {P : Type 0} (z : ℕ) (y : Symbol) → Refused z ≡ Checked y → P
+pub refused_checked : {P : Type 0} (z : Refusal) (y : Symbol) → Err z ≡ Ok y → P
 refused_checked z y e = let z : ◌≡◌ {A = ℕ} 0 1 = cc in absurd (omega arith)
 
-checked_same : (x y : Symbol) → Checked x ≡ Checked y → x ≡ y
+checked_same : (x y : Symbol) → ◌≡◌ {A = Result Symbol Refusal} (Ok x) (Ok y) → x ≡ y
 checked_same x y e = cc
 
 -- the same symbol is checked in two images
 same_symbol :
-    (image image' : List ℕ) (r : Record) (index : ℕ) → checked_symbol image' r index ≡ Checked (symbol_at image r.symbols index)
+    (image image' : List ℕ) (r : Record) (index : ℕ) → checked_symbol image' r index ≡ Ok (symbol_at image r.symbols index)
     → symbol_at image r.symbols index ≡ symbol_at image' r.symbols index
 same_symbol image image' r index e =
     ⊎_elim (λ c. checked_same (symbol_at image r.symbols index) (symbol_at image' r.symbols index) (sym e ∙ c.0))
@@ -160,7 +159,7 @@ module _ (setting : Setting) (size : ℕ) (table : List ℕ) (h pr : File) (fs :
 
       -- no refusal, and no word
       pub plain :
-          (v : Verdict) (m' : Mem) (a' : List ℕ) → v ≡ Passed → Written setting size table h pr fs a₀ a' k → mem a' ≡ m'
+          (v : Verdict) (m' : Mem) (a' : List ℕ) → v ≡ passed → Written setting size table h pr fs a₀ a' k → mem a' ≡ m'
           → Ran size n v (Doing (ws ++ []) (earlier u 0) m') (left p a' report)
       plain v m' a' e w same =
           ran_passed size n v (Doing (ws ++ []) (earlier u 0) m') p a' report e d.going.refusal w.steady.size_is
@@ -169,7 +168,7 @@ module _ (setting : Setting) (size : ℕ) (table : List ℕ) (h pr : File) (fs :
 
       -- no refusal, and what was noted
       with_words :
-          (v : Verdict) (vs : List ℕ) (u' : ℕ) (m' : Mem) (a' : List ℕ) (q : Noted) → v ≡ Passed → NotedGoing vs u' n q
+          (v : Verdict) (vs : List ℕ) (u' : ℕ) (m' : Mem) (a' : List ℕ) (q : Noted) → v ≡ passed → NotedGoing vs u' n q
           → KeptAs p.last p.address q → Written setting size table h pr fs a₀ a' k → mem a' ≡ m'
           → Ran size n v (Doing vs u' m') (with_arena a' q)
       with_words v vs u' m' a' (noted p' report') e g z w same =
@@ -178,7 +177,7 @@ module _ (setting : Setting) (size : ℕ) (table : List ℕ) (h pr : File) (fs :
 
       -- no refusal, no word, and an answer is kept
       with_answer :
-          (v : Verdict) (last found : ℕ) (m' : Mem) (a' : List ℕ) → v ≡ Passed → RightlyKept (keeps last found p)
+          (v : Verdict) (last found : ℕ) (m' : Mem) (a' : List ℕ) → v ≡ passed → RightlyKept (keeps last found p)
           → Written setting size table h pr fs a₀ a' k → mem a' ≡ m'
           → Ran size n v (Doing (ws ++ []) (earlier u 0) m') (left (keeps last found p) a' report)
       with_answer v last found m' a' e z w same =
@@ -256,23 +255,23 @@ module _ (setting : Setting) (size : ℕ) (table : List ℕ) (h pr : File) (fs :
       -- ---- the entry's symbol
 
       symbol_step :
-          (index : ℕ) (rest : Symbol → ℕ) (D : Progress → List ℕ → List ℕ → Type 0) (act : CheckedSymbol → Left)
-          → ((z : ℕ) → act (Refused z) ≡ left (refused_by t z p) a report)
+          (index : ℕ) (rest : Symbol → ℕ) (D : Progress → List ℕ → List ℕ → Type 0) (act : Result Symbol Refusal → Left)
+          → ((z : Refusal) → act (Err z) ≡ left (refused_by t (number_of z) p) a report)
           → (symbol_ok (is_table_of r) image r.symbols r.strings index ≡ true
           → symbol_at image r.symbols index ≡ symbol_at (image_in a t) r.symbols index
-          → Ran size n (verdict (rest (symbol_at image r.symbols index)) k) D (act (Checked (symbol_at image r.symbols index))))
+          → Ran size n (verdict (rest (symbol_at image r.symbols index)) k) D (act (Ok (symbol_at image r.symbols index))))
           → Ran size n (verdict (symbol_then (checked_symbol image r index) rest) k) D (act (checked_symbol (image_in a t) r index))
       symbol_step index rest D act refuses goes =
           subst
-          (λ (c : CheckedSymbol). Ran size n (verdict (symbol_then (checked_symbol image r index) rest) k) D (act c))
+          (λ (c : Result Symbol Refusal). Ran size n (verdict (symbol_then (checked_symbol image r index) rest) k) D (act c))
           (sym same)
           (⊎_elim
           (λ c.
-          subst (λ (x : CheckedSymbol). Ran size n (verdict (symbol_then x rest) k) D (act x)) (sym c.0)
+          subst (λ (x : Result Symbol Refusal). Ran size n (verdict (symbol_then x rest) k) D (act x)) (sym c.0)
           (goes c.1 (same_symbol image (image_in a t) r index (same ∙ c.0))))
           (λ c.
-          subst (λ (x : CheckedSymbol). Ran size n (verdict (symbol_then x rest) k) D (act x)) (sym c.2)
-          (subst (λ (st : Left). Ran size n (verdict c.0 k) D st) (sym (refuses c.0)) (stopped c.0 D c.1)))
+          subst (λ (x : Result Symbol Refusal). Ran size n (verdict (symbol_then x rest) k) D (act x)) (sym c.2)
+          (subst (λ (st : Left). Ran size n (verdict (number_of c.0) k) D st) (sym (refuses c.0)) (stopped (number_of c.0) D c.1)))
           (symbol_case image r index))
         where
           same : checked_symbol (image_in a t) r index ≡ checked_symbol image r index
@@ -362,14 +361,14 @@ module _ (setting : Setting) (size : ℕ) (table : List ℕ) (h pr : File) (fs :
               (unresolved_of y k i p report) w (unresolved_going i l y) (unresolved_kept y k i p report))
 
           found_ran :
-              (s : Resolved) → scoped_of s ≡ resolve S k sought → in_writable r.segments e.place f.width ≡ true
+              (s : Option Found) → scoped_of s ≡ resolve S k sought → in_writable r.segments e.place f.width ≡ true
               → WrittenBy (resolve S k sought) (write_sought t e f i (sought_by y s) p a report)
           unfolding scoped_of write_sought address_or0
-          found_ran Absent eq w =
-              subst (λ (x : model.Resolved). WrittenBy x (write_sought t e f i (sought_by y Absent) p a report)) eq (nowhere_ran eq w (eqb (binding_of y) 2) refl)
-          found_ran (Found d s v) eq w =
-              subst (λ (x : model.Resolved). WrittenBy x (write_sought t e f i (sought_by y (Found d s v)) p a report)) eq
-              (new_ran v w (kept_now d (definition_of s) v eq))
+          found_ran None eq w =
+              subst (λ (x : model.Resolved). WrittenBy x (write_sought t e f i (sought_by y None) p a report)) eq (nowhere_ran eq w (eqb (binding_of y) 2) refl)
+          found_ran (Some hit) eq w =
+              subst (λ (x : model.Resolved). WrittenBy x (write_sought t e f i (sought_by y (Some hit)) p a report)) eq
+              (new_ran hit.address w (kept_now hit.object (definition_of hit.definition) hit.address eq))
 
           kept_ran :
               p.last ≡ e.symbol + 1 → in_writable r.segments e.place f.width ≡ true
@@ -390,8 +389,8 @@ module _ (setting : Setting) (size : ℕ) (table : List ℕ) (h pr : File) (fs :
               (d.kept e.symbol same)
 
           answered_ran :
-              (s : Resolved) → scoped_of s ≡ resolve S k sought → in_writable r.segments e.place f.width ≡ true → (b : Bool) → eqb p.last (e.symbol + 1) ≡ b
-              → WrittenBy (resolve S k sought) (write_sought t e f i (pick b (Known p.address) (sought_by y s)) p a report)
+              (s : Option Found) → scoped_of s ≡ resolve S k sought → in_writable r.segments e.place f.width ≡ true → (b : Bool) → eqb p.last (e.symbol + 1) ≡ b
+              → WrittenBy (resolve S k sought) (write_sought t e f i (pick b (Ok (Known p.address)) (sought_by y s)) p a report)
           unfolding write_sought
           answered_ran s eq w true same = kept_ran (eqb-true p.last (e.symbol + 1) same) w
           answered_ran s eq w false same = found_ran s eq w
@@ -402,12 +401,12 @@ module _ (setting : Setting) (size : ℕ) (table : List ℕ) (h pr : File) (fs :
               pick c (symbol e.place f.width sought (λ v. written_number t e f v)) (fixed e.place f.width (written_number t e f 0))
 
           symbolic_by :
-              (s : Resolved) → scoped_of s ≡ resolve S k sought → (b : Bool) → in_writable r.segments e.place f.width ≡ b → (c : Bool)
+              (s : Option Found) → scoped_of s ≡ resolve S k sought → (b : Bool) → in_writable r.segments e.place f.width ≡ b → (c : Bool)
               → Ran size n (verdict (require b 17 (require (f.fits (written_number t e f (pick c (address_or0 (resolve S k sought)) 0))) 22 0)) k)
               (Doing (ws ++ pick (both c (unresolved image r e (resolve S k sought))) (report_word 6 i ∷ []) [])
               (earlier u (pick (both c (unresolved image r e (resolve S k sought))) k 0)) (effect S k (entry_now c) m))
               (write_sought t e f i
-              (pick b (pick c (pick (eqb p.last (e.symbol + 1)) (Known p.address) (sought_by y s)) (Known 0)) (Stopped 17)) p a report)
+              (pick b (pick c (pick (eqb p.last (e.symbol + 1)) (Ok (Known p.address)) (sought_by y s)) (Ok (Known 0))) (Err refusals.NotWritable)) p a report)
           unfolding require effect write_sought
           symbolic_by s eq true w true = answered_ran s eq w (eqb p.last (e.symbol + 1)) refl
           symbolic_by s eq true w false = known_ran e f 0 w
@@ -504,26 +503,26 @@ module _ (setting : Setting) (size : ℕ) (table : List ℕ) (h pr : File) (fs :
           copy_some false z = copy_writable (in_writable r.segments e.place many) refl
 
         copy_by :
-            (x : model.Resolved) (s : Resolved) → scoped_of s ≡ x → ((o : ℕ) (z : model.Definition) (v : ℕ) → x ≡ answer o z v → o < count S)
+            (x : model.Resolved) (s : Option Found) → scoped_of s ≡ x → ((o : ℕ) (z : model.Definition) (v : ℕ) → x ≡ answer o z v → o < count S)
             → Ran size n (verdict (copy_refusal S k r e.place y.size x) k)
             (After x (copied S ((obj S k).offset + e.place) y.size x m)) (copy_of table t r.segments e i y s p a report)
         unfolding scoped_of copy_of copy_refusal copied copy_bytes
-        copy_by x Absent eq range =
+        copy_by x None eq range =
             subst
             (λ (x : model.Resolved).
             Ran size n (verdict (copy_refusal S k r e.place y.size x) k)
-            (After x (copied S ((obj S k).offset + e.place) y.size x m)) (copy_of table t r.segments e i y Absent p a report))
+            (After x (copied S ((obj S k).offset + e.place) y.size x m)) (copy_of table t r.segments e i y None p a report))
             eq
             (with_words (verdict 0 k) (ws ++ pick (not (eqb (binding_of y) 2)) (report_word 6 i ∷ []) []) (earlier u (pick (not (eqb (binding_of y) 2)) k 0))
             m a (unresolved_of y k i p report) (verdict_none 0 k refl) (unresolved_going i l y) (unresolved_kept y k i p report) d.written
             d.memory)
-        copy_by x (Found o z v) eq range =
+        copy_by x (Some hit) eq range =
             subst
             (λ (x : model.Resolved).
             Ran size n (verdict (copy_refusal S k r e.place y.size x) k)
-            (After x (copied S ((obj S k).offset + e.place) y.size x m)) (copy_of table t r.segments e i y (Found o z v) p a report))
+            (After x (copied S ((obj S k).offset + e.place) y.size x m)) (copy_of table t r.segments e i y (Some hit) p a report))
             eq
-            (copy_some o (range o (definition_of z) v (sym eq)) z v (eqb (min y.size z.size) 0) refl)
+            (copy_some hit.object (range hit.object (definition_of hit.definition) hit.address (sym eq)) hit.definition hit.address (eqb (min y.size hit.definition.size) 0) refl)
 
         copy_ran :
             Ran size n

@@ -1,5 +1,6 @@
 -- What refusals 17 and 18 leave of an object: its words, its entries' places and a COPY's source lie inside spans. Assumes nothing.
-use Rattle.std.proofs.Common.{◌≡◌, ℕ, ◌+◌, ◌*◌, ◌≤◌, min, Bool, true, false, not, eqb, leb, List, [], ◌∷◌, map, sym, refl, ap, subst, ⊎_elim, true≢false, arith, ne_eqb, leb-true}
+use Rattle.std.specs.Prelude.{Option, None, Some}
+use Rattle.std.proofs.Common.{◌≡◌, ℕ, ◌+◌, ◌*◌, ◌≤◌, min, Bool, true, false, not, eqb, leb, List, [], ◌∷◌, map, sym, refl, ap, subst, ⊎_elim, true≢false, arith, ne_eqb, leb-true, Err, Ok}
 use mathlib.Core.List.Memᴰ
 use mathlib.Core.List.{Memᴰ}
 use Rattle.words.specs.Choice.{pick, both, some}
@@ -14,6 +15,7 @@ use Rattle.model.specs.Objects.{Entry, fixed, symbol, Objs, obj}
 use Rattle.model.specs.Scope.{resolve, resolve_copy}
 use Rattle.model.specs.Relocation.{address_or0}
 use Rattle.model.specs.Sound.{InsideCopy, Inside}
+use Rattle.words.specs.declared.refusal.Refusal.TheVariants as refusals
 use Rattle.object.specs.Segments.{end_of}
 use Rattle.object.specs.Segments as segments
 use Rattle.object.specs.ProgramHeader.{loads_of, dynamic_of}
@@ -32,15 +34,11 @@ use Rattle.object.specs.Loaded as loading
 use Rattle.object.specs.declared.symbol.Symbol.{Symbol}
 use Rattle.object.specs.declared.relocate.Rela.{Rela}
 use Rattle.object.specs.RelocationTypes.{Calculation, Row, no_search, in_scope, ignored, passed_over, turned_away, marked_refuse, copies, writes}
-use Rattle.object.specs.declared.entry_symbol.CheckedSymbol.TheVariants.{Refused, Checked}
 use Rattle.object.specs.declared.program_header.Segment.{Segment}
-use Rattle.object.specs.declared.program_header.Dynamic.{Dynamic}
-use Rattle.object.specs.declared.program_header.Dynamic.TheVariants.{Missing, At}
 use Rattle.object.proofs.RefusalLaws.{required}
 use Rattle.binder.specs.Instance.{places_of, wanted_by, entry_by, entry_of}
-use Rattle.binder.specs.Verdict.{verdict, word_refusal, copy_ok, copy_refusal, field_refusal, symbol_then, refusal_by, entry_refusal, words_verdict}
+use Rattle.binder.specs.Verdict.{passed, verdict, word_refusal, copy_ok, copy_refusal, field_refusal, symbol_then, refusal_by, entry_refusal, words_verdict}
 use Rattle.binder.specs.Steps.PlainVerdict.{plain_entries}
-use Rattle.binder.specs.declared.Verdict.TheVariants.{Passed}
 use Rattle.binder.proofs.OutcomeLaws.{first_passed, verdict_passed}
 
 -- ---- a range inside one writable segment ends within the span
@@ -58,10 +56,10 @@ writable_end (s ∷ ss) p n e =
     (either_true (both (is_writable s) (holds_range s p n)) (some (λ s. both (is_writable s) (holds_range s p n)) ss) e)
 
 -- the record keeps the segments that it is given
-kept_segments : (image : List ℕ) (ss : List Segment) (d : Dynamic) → (records.record_at image ss d).segments ≡ ss
+kept_segments : (image : List ℕ) (ss : List Segment) (d : Option ℕ) → (records.record_at image ss d).segments ≡ ss
 unfolding records.record_at records.record_in
-kept_segments image ss Missing = refl
-kept_segments image ss (At at) = refl
+kept_segments image ss None = refl
+kept_segments image ss (Some at) = refl
 
 kept_inside : (host : Bool) (file : List ℕ) (p n : ℕ) → in_writable (segments_of host file) p n ≡ true → p + n ≤ object_span host file
 unfolding placing.segments_of placing.object_span tables.in_writable choice.some
@@ -77,7 +75,7 @@ writable_inside host file p n e =
 -- ---- RELR
 
 pub words_inside :
-    (k : ℕ) (r : Record) (ws : List Word) → words_verdict k r ws ≡ Passed → (p : ℕ) → Memᴰ p (places_of ws)
+    (k : ℕ) (r : Record) (ws : List Word) → words_verdict k r ws ≡ passed → (p : ℕ) → Memᴰ p (places_of ws)
     → in_writable r.segments p 8 ≡ true
 unfolding words_verdict places_of
 words_inside k r [] e p m = absurd (Memᴰ.not-nil m)
@@ -93,7 +91,7 @@ words_inside k r (nowhere ∷ ws) e p m =
 
 -- 14 and 15 passed: what follows is of the symbol
 symbol_then_lem :
-    (a b : Bool) (y : Symbol) (rest : Symbol → ℕ) → symbol_then (pick a (pick b (Checked y) (Refused 15)) (Refused 14)) rest ≡ 0
+    (a b : Bool) (y : Symbol) (rest : Symbol → ℕ) → symbol_then (pick a (pick b (Ok y) (Err refusals.SymbolBytes)) (Err refusals.SymbolIndex)) rest ≡ 0
     → rest y ≡ 0
 symbol_then_lem true true y rest e = e
 symbol_then_lem true false y rest e = absurd (omega arith)
@@ -160,7 +158,7 @@ module _ (row : ℕ → Row) (S : Objs) (k : ℕ) (image : List ℕ) (r : Record
       (checked_then e.symbol (λ y. copy_refusal S k r e.place y.size found) z)
 
   pub entries_inside :
-      (es : List Rela) → plain_entries row S k image r es ≡ Passed → (x : Entry) → Memᴰ x (map (entry_of row image r base) es)
+      (es : List Rela) → plain_entries row S k image r es ≡ passed → (x : Entry) → Memᴰ x (map (entry_of row image r base) es)
       → Inside S k x
   unfolding plain_entries
   entries_inside [] v x m = absurd (Memᴰ.not-nil m)

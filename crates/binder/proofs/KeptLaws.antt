@@ -1,10 +1,12 @@
 -- No entry of RELA or PLT writes to the table bytes of its object: specs/RunSteps.antt. Assumes nothing.
-use Rattle.std.proofs.Common.{◌≡◌, ℕ, ◌+◌, ◌<◌, ◌≤◌, min, Bool, true, false, eqb, ◌⊎◌, List, length, sym, refl, ◌∙◌, subst, inl, inr, arith, length-drop, length-take}
+use Rattle.std.proofs.Common.{◌≡◌, ℕ, ◌+◌, ◌<◌, ◌≤◌, min, Bool, true, false, eqb, ◌⊎◌, List, length, sym, refl, ◌∙◌, subst, inl, inr, arith, length-drop, length-take, Ok, Err, Result, Option, None, Some}
 use native.Mathlib.Decide.{dec_lt}
 use Rattle.words.specs.Choice.{pick}
 use Rattle.words.specs.Memory.{mem, In, patch, from}
 use Rattle.words.proofs.Memory.{Out, in_or_out, write_out}
 use Rattle.words.proofs.Slices.{mem_past, mem_part, mem_patch_at, length_patch}
+use Rattle.words.specs.declared.refusal.Refusal.{Refusal}
+use Rattle.words.specs.declared.refusal.Refusal.TheVariants as refusals
 use Rattle.object.specs.TableBytes.{in_writable}
 use Rattle.object.specs.Record.{Record, is_table_of, checked_symbol, name_of}
 use Rattle.object.proofs.FineLaws.{fine_same}
@@ -12,16 +14,13 @@ use Rattle.object.specs.declared.symbol.Symbol.{Symbol}
 use Rattle.object.specs.declared.hash_tables.Definition.{Definition}
 use Rattle.object.specs.declared.relocate.Rela.{Rela}
 use Rattle.object.specs.RelocationTypes.{Calculation, Row, no_search, in_scope, ignored, passed_over, turned_away, marked_refuse, copies, writes}
-use Rattle.object.specs.declared.entry_symbol.CheckedSymbol.{CheckedSymbol}
-use Rattle.object.specs.declared.entry_symbol.CheckedSymbol.TheVariants.{Refused, Checked}
 use Rattle.scope.specs.Steps.Links.{link_at}
 use Rattle.scope.specs.declared.links.Link.{Link}
-use Rattle.scope.specs.declared.scope.Resolved.{Resolved}
-use Rattle.scope.specs.declared.scope.Resolved.TheVariants.{Absent, Found}
+use Rattle.scope.specs.declared.scope.Found.{Found}
 use Rattle.binder.specs.declared.report.Progress.{Progress}
 use Rattle.binder.specs.declared.turn.Turn.{Turn}
 use Rattle.binder.specs.declared.relocate.Symbols.{Symbols}
-use Rattle.binder.specs.declared.relocate.Sought.TheVariants.{Stopped, Known}
+use Rattle.binder.specs.declared.relocate.Sought.TheVariants.{Known}
 use Rattle.binder.specs.Steps.Relocating.{Left, left, wrote, Noted, noted, with_arena, with_report, refused_by, image_in, report_sum, note_of, unresolved_of, keeps, keeps_weak, written_number, written_bytes, field_of, fixed_of, sought_by, field_noted, write_sought, copy_fits, copy_bytes, copy_of, sought_for, sought_for_copy, sought_of, copying_of, run_action}
 use Rattle.binder.specs.Steps.RunSteps.{TablesKept, SymbolsOf}
 use Rattle.binder.proofs.SteadyLaws.{table_out}
@@ -108,21 +107,21 @@ module _ (t : Turn) (r : Record) where
       noted_field (noted q notes) w = field_keeps 0 q notes w
 
       sought_keeps :
-          (y : Symbol) (s : Resolved) → in_writable r.segments e.place f.width ≡ true → Keeps a (write_sought t e f i (sought_by y s) p a report)
+          (y : Symbol) (s : Option Found) → in_writable r.segments e.place f.width ≡ true → Keeps a (write_sought t e f i (sought_by y s) p a report)
       unfolding write_sought
-      sought_keeps y Absent w = noted_field (keeps_weak (e.symbol + 1) y (unresolved_of y t.number i p report)) w
-      sought_keeps y (Found k d x) w = field_keeps x (keeps (e.symbol + 1) x p) report w
+      sought_keeps y None w = noted_field (keeps_weak (e.symbol + 1) y (unresolved_of y t.number i p report)) w
+      sought_keeps y (Some hit) w = field_keeps hit.address (keeps (e.symbol + 1) hit.address p) report w
 
-      symbolic_keeps : (searched : ℕ → Bool) (c : CheckedSymbol) → Keeps a (write_sought t e f i (sought_of table t r e searched f p a c) p a report)
+      symbolic_keeps : (searched : ℕ → Bool) (c : Result Symbol Refusal) → Keeps a (write_sought t e f i (sought_of table t r e searched f p a c) p a report)
       unfolding sought_of write_sought
-      symbolic_keeps searched (Refused n) = kept_none a
-      symbolic_keeps searched (Checked y) =
+      symbolic_keeps searched (Err n) = kept_none a
+      symbolic_keeps searched (Ok y) =
           go (in_writable r.segments e.place f.width) refl (searched e.symbol) (eqb p.last (e.symbol + 1))
         where
           go : (b : Bool) → in_writable r.segments e.place f.width ≡ b → (s c : Bool)
               → Keeps a
               (write_sought t e f i
-              (pick b (pick s (pick c (Known p.address) (sought_by y (sought_for table t a (name_of (image_in a t) r y)))) (Known 0)) (Stopped 17))
+              (pick b (pick s (pick c (Ok (Known p.address)) (sought_by y (sought_for table t a (name_of (image_in a t) r y)))) (Ok (Known 0))) (Err refusals.NotWritable))
               p a report)
           go true w true true = field_keeps p.address p report w
           go true w true false = sought_keeps y (sought_for table t a (name_of (image_in a t) r y)) w
@@ -145,15 +144,15 @@ module _ (t : Turn) (r : Record) where
         go false true w false = kept_none a
         go false false w c = kept_none a
 
-    copy_keeps : (y : Symbol) (s : Resolved) → Keeps a (copy_of table t r.segments e i y s p a report)
+    copy_keeps : (y : Symbol) (s : Option Found) → Keeps a (copy_of table t r.segments e i y s p a report)
     unfolding copy_of
-    copy_keeps y Absent = noted_keeps a a (unresolved_of y t.number i p report) (kept_none a)
-    copy_keeps y (Found k d x) = copied_keeps (link_at table k) d (min y.size d.size)
+    copy_keeps y None = noted_keeps a a (unresolved_of y t.number i p report) (kept_none a)
+    copy_keeps y (Some hit) = copied_keeps (link_at table hit.object) hit.definition (min y.size hit.definition.size)
 
-    copying_keeps : (c : CheckedSymbol) → Keeps a (copying_of table t r e i c p a report)
+    copying_keeps : (c : Result Symbol Refusal) → Keeps a (copying_of table t r e i c p a report)
     unfolding copying_of
-    copying_keeps (Refused n) = kept_none a
-    copying_keeps (Checked y) = copy_keeps y (sought_for_copy table a (name_of (image_in a t) r y))
+    copying_keeps (Err n) = kept_none a
+    copying_keeps (Ok y) = copy_keeps y (sought_for_copy table a (name_of (image_in a t) r y))
 
     entry_keeps : (x : Row) → Keeps a (run_action table t r i e x p a report)
     unfolding run_action

@@ -11,8 +11,7 @@ use Rattle.object.specs.Loaded.{object_refusal}
 use Rattle.scope.specs.Steps.Links.{link_at}
 use Rattle.binder.specs.Setting.{Setting}
 use Rattle.binder.specs.Instance.{File, object_at, offset_of, object_from}
-use Rattle.binder.specs.Verdict.{verdict, no_file}
-use Rattle.binder.specs.declared.Verdict.TheVariants.{Passed}
+use Rattle.binder.specs.Verdict.{passed, verdict, no_file}
 use Rattle.binder.specs.Steps.Prepared.{load_from, link_of, place_files, Linked}
 use Rattle.binder.proofs.OutcomeLaws.{first_passed, verdict_passed}
 use Rattle.binder.proofs.OffsetLaws.{offset_after, link_fits}
@@ -52,9 +51,9 @@ place_before setting (f ∷ fs) off m i h =
 module _ (setting : Setting) (size : ℕ) where
   -- the first file was loaded, and so were the others behind it
   pub first_loaded :
-      (f : File) (fs : List File) (n free : ℕ) → load_from setting size n free (f ∷ fs) ≡ Passed
+      (f : File) (fs : List File) (n free : ℕ) → load_from setting size n free (f ∷ fs) ≡ passed
       → (object_refusal f.host (size - offset_of setting f free) f.bytes ≡ 0)
-      × (load_from setting size (n + 1) (offset_of setting f free + object_span f.host f.bytes) fs ≡ Passed)
+      × (load_from setting size (n + 1) (offset_of setting f free + object_span f.host f.bytes) fs ≡ passed)
   unfolding load_from
   first_loaded f fs n free v =
       let z : ℕ = object_refusal f.host (size - offset_of setting f free) f.bytes in
@@ -62,7 +61,7 @@ module _ (setting : Setting) (size : ℕ) where
       (verdict_passed z n a.0, a.1)
 
   pub file_lies :
-      (files : List File) (n free j k : ℕ) (d : Obj) → k ≡ n + j → free ≤ size → load_from setting size n free files ≡ Passed
+      (files : List File) (n free j k : ℕ) (d : Obj) → k ≡ n + j → free ≤ size → load_from setting size n free files ≡ passed
       → j < length files
       → Lies setting size files n free k (get_or files j no_file) (get_or (layout (object_from setting) files free) j d)
   unfolding layouts.layout object_from object_at Linked place_files
@@ -105,7 +104,7 @@ module _ (setting : Setting) (size : ℕ) where
       Lies setting size (h ∷ (p ∷ fs)) 0 0 k (get_or (h ∷ (p ∷ fs)) k no_file) (obj (objs_of (object_from setting) h p fs) k)
 
   pub object_lies :
-      (h p : File) (fs : List File) → load_from setting size 0 0 (h ∷ (p ∷ fs)) ≡ Passed
+      (h p : File) (fs : List File) → load_from setting size 0 0 (h ∷ (p ∷ fs)) ≡ passed
       → (k : ℕ) → k < count (objs_of (object_from setting) h p fs) → ObjectLies h p fs k
   unfolding layouts.objs_of layouts.layout
   object_lies h p fs v k l =

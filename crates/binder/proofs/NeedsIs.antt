@@ -1,14 +1,13 @@
 -- The order that the code reads off a loaded set is the definition's: the needs that it finds in the arena are those of the files. Assumes
 -- nothing.
-use Rattle.std.proofs.Common.{◌≡◌, ℕ, ◌-◌, ◌<◌, ◌≤◌, Bool, leb, List, ◌∷◌, map, length, get_or, take, drop, sym, refl, ap, ◌∙◌, arith, length-drop, leb-true}
+use Rattle.std.specs.Prelude.{Option, None, Some}
+use Rattle.std.proofs.Common.{◌≡◌, ℕ, ◌-◌, ◌<◌, ◌≤◌, Bool, leb, List, ◌∷◌, map, length, get_or, drop, sym, refl, ap, ◌∙◌, arith, length-drop, leb-true}
 use lib.ListN.{length-map}
 use Rattle.model.specs.Objects.{count}
 use Rattle.model.specs.Layout.{objs_of}
 use Rattle.model.specs.Order.{keep, order_of}
 use Rattle.model.proofs.OrderSame.{order_same}
 use Rattle.object.specs.declared.program_header.Segment.{Segment}
-use Rattle.object.specs.declared.program_header.Dynamic.{Dynamic}
-use Rattle.object.specs.declared.program_header.Dynamic.TheVariants.{Missing, At}
 use Rattle.object.specs.declared.hash_tables.View.{View}
 use Rattle.object.specs.DynamicArray.{ends_inside}
 use Rattle.object.specs.DynamicFields.{fields_of, needed_offsets}
@@ -21,8 +20,7 @@ use Rattle.object.proofs.RefusalLaws.{required, after_zero}
 use Rattle.sheet.specs.Sheet.{Input, no_input}
 use Rattle.binder.specs.Instance.{File, file_image, file_record, object_from}
 use Rattle.binder.specs.Setting.{Setting}
-use Rattle.binder.specs.Verdict.{no_file}
-use Rattle.binder.specs.declared.Verdict.TheVariants.{Passed}
+use Rattle.binder.specs.Verdict.{passed, no_file}
 use Rattle.binder.specs.Steps.Prepared.{load_from}
 use Rattle.binder.specs.Bind.{files_of, names_of}
 use Rattle.binder.specs.SetOrder as sets
@@ -30,7 +28,6 @@ use Rattle.binder.specs.SetOrder.{set_order}
 use Rattle.scope.specs.Steps.Links.{link_at}
 use Rattle.scope.specs.Steps.ScopeCode.{image_at}
 use Rattle.binder.specs.Steps.Needed.{needed_at, numbers_at, needs_at, FewNeeds, Arranged}
-use Rattle.binder.specs.declared.order.Order.{Order}
 use Rattle.scope.specs.declared.links.Link.{Link}
 use Rattle.binder.proofs.OffsetLaws.{load_read}
 use Rattle.binder.proofs.Lies.{file_lies, count_is}
@@ -47,21 +44,21 @@ ReadFrom f = read_refusal f.host (file_image f) (segments_of f.host f.bytes) (dy
 
 module _ (host : Bool) (image : List ℕ) (segments : List Segment) where
   -- refusal 11: "over 64 needs"
-  needs_few : (d : Dynamic) → read_refusal host image segments d ≡ 0 → length (needed_at image d) ≤ 64
+  needs_few : (d : Option ℕ) → read_refusal host image segments d ≡ 0 → length (needed_at image d) ≤ 64
   unfolding read_refusal
-  needs_few Missing e = omega arith
-  needs_few (At at) e =
+  needs_few None e = omega arith
+  needs_few (Some at) e =
       let a = after_zero (fields_refusal (ends_inside image at) (fields_of image at)) _ e in
       leb-true (length (needed_offsets image at)) 64 (required (leb (length (needed_offsets image at)) 64) 10 _ a.1).0
 
-  needed_is : (d : Dynamic) → read_refusal host image segments d ≡ 0 → (records.record_at image segments d).needed ≡ needed_at image d
+  needed_is : (d : Option ℕ) → read_refusal host image segments d ≡ 0 → (records.record_at image segments d).needed ≡ needed_at image d
   unfolding read_refusal records.record_at records.record_in
-  needed_is Missing e = absurd (omega arith)
-  needed_is (At at) e = refl
+  needed_is None e = absurd (omega arith)
+  needed_is (Some at) e = refl
 
 -- what is read where the image, the string table and the dynamic array are the file's
 numbers_are :
-    (os : List Input) (f : File) (image : List ℕ) (strings : ℕ) (d : Dynamic) → image ≡ file_image f → strings ≡ (file_record f).strings
+    (os : List Input) (f : File) (image : List ℕ) (strings : ℕ) (d : Option ℕ) → image ≡ file_image f → strings ≡ (file_record f).strings
     → d ≡ dynamic_of f.bytes → ReadFrom f → numbers_at os image strings d ≡ sets.needed_objects (names_of os) f
 unfolding numbers_at sets.needed_objects loading.object_record
 numbers_are os f image strings d ei es ed read =
@@ -72,7 +69,7 @@ numbers_are os f image strings d ei es ed read =
 -- ---- a loaded set
 
 module _
-    (setting : Setting) (size : ℕ) (table arena : List ℕ) (os : List Input) (loads : load_from setting size 0 0 (files_of os) ≡ Passed)
+    (setting : Setting) (size : ℕ) (table arena : List ℕ) (os : List Input) (loads : load_from setting size 0 0 (files_of os) ≡ passed)
     (views : (k : ℕ) → 2 ≤ k → k < length os → (link_at table k).view ≡ view_of (file_record (get_or (files_of os) k no_file)))
     (images : (k : ℕ) → 2 ≤ k → k < length os → image_at arena (link_at table k) ≡ file_image (get_or (files_of os) k no_file))
   where
@@ -109,8 +106,8 @@ module _
         (λ k a b. ap (keep (length os - 2)) (needs_are k a (omega arith)))
         ∙ ap (order_of (λ k. sets.needed_objects (names_of os) (file k))) (sym names_many)
 
-    pub order_read : (r : Order) → Arranged os (length os) arena table r → take r.count r.list ≡ set_order (files_of os) (names_of os)
-    order_read r made = made.order few_needs ∙ order_are
+    pub order_read : (r : List ℕ) → Arranged os (length os) arena table r → r ≡ set_order (files_of os) (names_of os)
+    order_read r made = made.is few_needs ∙ order_are
 
 -- in the words of Steady: every object lies at its link, and its bytes are as they were placed
 module _ (setting : Setting) (size : ℕ) (table arena : List ℕ) (h p : Input) (ls : List Input) where
@@ -121,8 +118,8 @@ module _ (setting : Setting) (size : ℕ) (table arena : List ℕ) (h p : Input)
       LoadedSet setting size table (host_file h) (file_of p) (map file_of ls)
       → ((k : ℕ) → k < objects → steady.At setting size table (host_file h) (file_of p) (map file_of ls) k)
       → ((k : ℕ) → k < objects → PlacedAt setting size table (host_file h) (file_of p) (map file_of ls) arena k)
-      → (r : Order) → Arranged (h ∷ (p ∷ ls)) (length (h ∷ (p ∷ ls))) arena table r
-      → take r.count r.list ≡ set_order (files_of (h ∷ (p ∷ ls))) (names_of (h ∷ (p ∷ ls)))
+      → (r : List ℕ) → Arranged (h ∷ (p ∷ ls)) (length (h ∷ (p ∷ ls))) arena table r
+      → r ≡ set_order (files_of (h ∷ (p ∷ ls))) (names_of (h ∷ (p ∷ ls)))
   unfolding files_of
   order_loaded s lies bytes =
       order_read setting size table arena (h ∷ (p ∷ ls)) s.loads (λ k a b. ap (λ (x : Link). x.view) (lies k (many k b)).link)

@@ -1,6 +1,7 @@
 -- The loops that fill the table of needs: the search for a library by name, the row of a library, the rows of all, and the order that comes
 -- of them. Assumes nothing.
-use Rattle.std.proofs.Common.{◌≡◌, ℕ, zero, suc, ◌+◌, ◌-◌, ◌*◌, ◌<◌, ◌≤◌, min, Bool, List, [], ◌∷◌, map, length, get_or, drop, replicate, sym, refl, ap, ◌∙◌, subst, inl, inr, arith, drop_of_length-le, get_or-take}
+use Rattle.std.specs.Prelude.{Option, None, Some}
+use Rattle.std.proofs.Common.{◌≡◌, ℕ, zero, suc, ◌+◌, ◌-◌, ◌*◌, ◌<◌, ◌≤◌, min, Bool, List, [], ◌∷◌, map, length, get_or, drop, replicate, sym, refl, ap, ◌∙◌, subst, inl, inr, arith, drop_of_length-le}
 use native.Mathlib.Decide.{dec_lt}
 use lib.ListN.{length-map, get_or-replicate, length-replicate, get_or-eq_default}
 use Rattle.words.specs.Choice.{pick}
@@ -10,21 +11,11 @@ use Rattle.words.specs.Memory.{Mem, mem, write, patch}
 use Rattle.words.proofs.Memory.{write_in, write_out}
 use Rattle.words.proofs.Slices.{patch_none, patch_same, mem_patch}
 use Rattle.model.specs.Order.{order_of}
-use Rattle.object.specs.declared.dynamic_array.Needs.{Needs}
-use Rattle.object.specs.declared.program_header.Dynamic.{Dynamic}
-use Rattle.object.specs.declared.program_header.Dynamic.TheVariants.{Missing, At}
 use Rattle.object.specs.DynamicFields as fields
-use Rattle.object.specs.Steps.Slots.{Needed}
 use Rattle.object.specs.ProgramHeader.{dynamic_of}
-use Rattle.sheet.specs.declared.sheet.Part.{Part}
-use Rattle.sheet.specs.declared.sheet.Parts.{Parts}
 use Rattle.sheet.specs.Sheet.{Input, no_input}
-use Rattle.sheet.specs.Steps.Parts as parts
-use Rattle.sheet.specs.Steps.Parts.{no_part, input_in, inputs_in}
 use Rattle.sheet.proofs.SheetLaws.{drop_next}
-use Rattle.sheet.proofs.PartLaws.{take_short, input_at, inputs_length}
 use Rattle.scope.specs.declared.links.Link.{Link}
-use Rattle.binder.specs.declared.order.Order.{Order}
 use Rattle.scope.specs.Steps.Links.{link_at}
 use Rattle.binder.specs.Steps.Table as rows
 use Rattle.binder.specs.Steps.Table.{Ordered}
@@ -40,26 +31,20 @@ use Rattle.binder.proofs.ArrangeUses.{table_order}
 unfoldable pub number_from : List ℕ → List Input → ℕ → ℕ
 number_from name os j = number_of name j (map (λ o. o.name) (drop j os))
 
--- in a table of parts that has room for its count
-module _ (name bs : List ℕ) (p : Parts) (j : ℕ) where
+module _ (name : List ℕ) (os : List Input) (j : ℕ) where
   pub number_next :
-      (t : Bool) → j < p.count → p.count ≤ length p.list → same_bytes name (input_in bs (get_or p.list j no_part)).name ≡ t
-      → number_from name (inputs_in bs p) j ≡ pick t j (number_from name (inputs_in bs p) (j + 1))
+      (t : Bool) → j < length os → same_bytes name (get_or os j no_input).name ≡ t
+      → number_from name os j ≡ pick t j (number_from name os (j + 1))
   unfolding number_from number_of
-  number_next t h room e =
-      rw (drop_next (inputs_in bs p) j no_input (omega (arith, inputs_length bs p)), input_at bs p j h, e)
+  number_next t h e = rw (drop_next os j no_input h, e)
 
-  pub number_none : p.count ≤ j → number_from name (inputs_in bs p) j ≡ 0
+  pub number_none : length os ≤ j → number_from name os j ≡ 0
   unfolding number_from number_of
-  number_none h = rw (drop_of_length-le (inputs_in bs p) {i = j} (omega (arith, inputs_length bs p)))
+  number_none h = rw (drop_of_length-le os {i = j} h)
 
--- in one that is cut to its room
-pub number_cut :
-    (name bs : List ℕ) (p : Parts) (count : ℕ) → count ≡ min p.count (length p.list)
-    → number_from name (inputs_in bs (record { list = p.list; count = count })) 2 ≡ number_of name 2 (names_of (inputs_in bs p))
-unfolding number_from names_of parts.inputs_in
-number_cut name bs p count e =
-    ap (λ (l : List Part). number_of name 2 (map (λ o. o.name) (drop 2 (map (input_in bs) l)))) (take_short count p.count p.list e)
+pub number_whole : (name : List ℕ) (os : List Input) → number_from name os 2 ≡ number_of name 2 (names_of os)
+unfolding number_from names_of
+number_whole name os = refl
 
 -- ---- the row of a library
 
@@ -73,42 +58,40 @@ unfoldable pub number_at : List Input → List ℕ → ℕ → ℕ → ℕ
 number_at os image strings n = number_of (name_at image (strings + n)) 2 (names_of os)
 
 numbers_length :
-    (os : List Input) (image : List ℕ) (strings : ℕ) (d : Dynamic) → length (numbers_at os image strings d) ≡ length (needed_at image d)
+    (os : List Input) (image : List ℕ) (strings : ℕ) (d : Option ℕ) → length (numbers_at os image strings d) ≡ length (needed_at image d)
 unfolding numbers_at
 numbers_length os image strings d = length-map (needed_at image d) _
 
 module _ (os : List Input) (image : List ℕ) (strings : ℕ) (file : List ℕ) (k : ℕ) (before : List ℕ) where
   -- of a file that has no dynamic array
-  pub row_none : dynamic_of file ≡ Missing → NeedsPut os image strings file k before before
-  row_none e few = rw e (sym (patch_none before (64 * k) (λ i. get_or (numbers_at os image strings Missing) i 0)))
+  pub row_none : dynamic_of file ≡ None → NeedsPut os image strings file k before before
+  row_none e few = rw e (sym (patch_none before (64 * k) (λ i. get_or (numbers_at os image strings None) i 0)))
+
+  -- of one that has more needs than a record keeps
+  pub row_many : (at : ℕ) → dynamic_of file ≡ Some at → 64 < length (fields.needed_offsets image at) → NeedsPut os image strings file k before before
+  row_many at e more few = absurd (omega (arith, more, ap (λ (d : Option ℕ). length (needed_at image d)) e))
 
   -- what the loop wrote
   pub row_is :
-      (at count : ℕ) (n : Needs) (after : List ℕ) → dynamic_of file ≡ At at → Needed (fields.needed_offsets image at) n → count ≡ min n.count 64
-      → after ≡ patch before (64 * k) count (λ i. number_at os image strings (get_or n.list i 0))
+      (at : ℕ) (needs : List ℕ) (after : List ℕ) → dynamic_of file ≡ Some at → needs ≡ fields.needed_offsets image at
+      → after ≡ patch before (64 * k) (length needs) (λ i. number_at os image strings (get_or needs i 0))
       → NeedsPut os image strings file k before after
   unfolding numbers_at number_at
-  row_is at count n after d needed e written = rw d go
+  row_is at needs after d e written = rw d go
     where
       l : List ℕ
       l = fields.needed_offsets image at
 
       g : ℕ → ℕ
-      g i = number_at os image strings (get_or n.list i 0)
+      g i = number_at os image strings (get_or l i 0)
 
       row : ℕ → ℕ
-      row i = get_or (numbers_at os image strings (At at)) i 0
-
-      each : length l ≤ 64 → (i : ℕ) → i < length l → g i ≡ row i
-      each few i h =
-          let in_list : i < n.count = omega (arith, needed.count) in
-          ap (number_at os image strings) (sym (get_or-take n.count n.list i 0 in_list) ∙ ap (λ (t : List ℕ). get_or t i 0) (needed.list few))
-          ∙ sym (get_or_mapped (number_at os image strings) l i h)
+      row i = get_or (numbers_at os image strings (Some at)) i 0
 
       go : length l ≤ 64 → after ≡ patch before (64 * k) (length l) row
       go few =
-          let many : count ≡ length l = omega (arith, needed.count) in
-          written ∙ (ap (λ (c : ℕ). patch before (64 * k) c g) many ∙ patch_same before (64 * k) (length l) g row (each few))
+          let put : after ≡ patch before (64 * k) (length l) g = rw e at written in
+          put ∙ patch_same before (64 * k) (length l) g row (λ i h. sym (get_or_mapped (number_at os image strings) l i h))
 
 -- ---- the rows of all libraries
 
@@ -195,13 +178,13 @@ filled_order os count arena table filled low few holds =
 
 -- the contract of `order_of`
 pub arranged :
-    (os : List Input) (count : ℕ) (arena table filled : List ℕ) (r : Order) → 2 ≤ count → count ≤ 64 → Ordered filled (count - 2) r
+    (os : List Input) (count : ℕ) (arena table filled r : List ℕ) → 2 ≤ count → count ≤ 64 → Ordered filled (count - 2) r
     → (FewNeeds os count arena table
     → (k : ℕ) → 2 ≤ k → k < count → (i : ℕ) → i < 64 → mem filled (64 * k + i) ≡ get_or (needs_at os arena table k) i 0)
     → Arranged os count arena table r
 arranged os count arena table filled r low high o holds =
     let e : min (count - 2) 62 ≡ count - 2 = omega arith in
     record {
-      order = λ few. o.list ∙ (ap (order_of (rows.needs_row filled)) e ∙ filled_order os count arena table filled low few (holds few));
+      is = λ few. o.list ∙ (ap (order_of (rows.needs_row filled)) e ∙ filled_order os count arena table filled low few (holds few));
       few = omega (arith, o.count);
     }

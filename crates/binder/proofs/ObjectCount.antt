@@ -1,4 +1,5 @@
 -- A set that was loaded has no more objects than the arena has bytes: each has a dynamic array in its span. Assumes nothing.
+use Rattle.std.specs.Prelude.{Option, None, Some}
 use Rattle.std.proofs.Common.{◌≡◌, ℕ, zero, suc, ◌+◌, ◌-◌, ◌<◌, ◌≤◌, Bool, true, List, [], ◌∷◌, length, sym, true≢false, arith}
 use Rattle.words.proofs.Slices.{length_tab}
 use Rattle.object.specs.DynamicArray.{item_room, end_in, ends_inside}
@@ -10,15 +11,13 @@ use Rattle.object.specs.Record.{fields_refusal, read_refusal}
 use Rattle.object.specs.Record as records
 use Rattle.object.specs.Loaded.{object_refusal}
 use Rattle.object.specs.declared.program_header.Segment.{Segment}
-use Rattle.object.specs.declared.program_header.Dynamic.{Dynamic}
-use Rattle.object.specs.declared.program_header.Dynamic.TheVariants.{Missing, At}
 use Rattle.object.proofs.RefusalLaws.{required, after_zero}
 use Rattle.binder.specs.Setting.{Setting}
 use Rattle.binder.specs.Instance.{File, offset_of}
-use Rattle.binder.specs.declared.Verdict.TheVariants.{Passed}
 use Rattle.binder.specs.Steps.Prepared.{load_from}
 use Rattle.binder.proofs.OffsetLaws.{offset_after, load_read, link_fits}
 use Rattle.binder.proofs.Lies.{first_loaded}
+use Rattle.binder.specs.Verdict.{passed}
 
 -- the entry of tag 0 is inside the span
 end_room : (n : ℕ) (image : List ℕ) (at : ℕ) → end_in n image at ≡ true → 0 < n
@@ -26,10 +25,10 @@ unfolding arrays.end_in
 end_room zero image at e = absurd (true≢false (sym e))
 end_room (suc n) image at e = omega arith
 
-read_some : (host : Bool) (image : List ℕ) (segments : List Segment) (d : Dynamic) → read_refusal host image segments d ≡ 0 → 0 < length image
+read_some : (host : Bool) (image : List ℕ) (segments : List Segment) (d : Option ℕ) → read_refusal host image segments d ≡ 0 → 0 < length image
 unfolding records.read_refusal records.fields_refusal
-read_some host image segments Missing e = absurd (omega arith)
-read_some host image segments (At at) e =
+read_some host image segments None e = absurd (omega arith)
+read_some host image segments (Some at) e =
     let a = after_zero (fields_refusal (ends_inside image at) (fields_of image at)) _ e in
     let b = required (ends_inside image at) 8 _ a.0 in
     omega (arith, end_room (item_room image at) image at b.0)
@@ -44,7 +43,7 @@ span_some f room e =
 
 -- the files from object `n` on, the first at the offset `off`
 pub few_files :
-    (setting : Setting) (size : ℕ) (files : List File) (n off : ℕ) → off ≤ size → load_from setting size n off files ≡ Passed → off + length files ≤ size
+    (setting : Setting) (size : ℕ) (files : List File) (n off : ℕ) → off ≤ size → load_from setting size n off files ≡ passed → off + length files ≤ size
 unfolding load_from
 few_files setting size [] n off l v = omega arith
 few_files setting size (f ∷ fs) n off l v =

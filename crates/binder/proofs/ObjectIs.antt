@@ -10,10 +10,9 @@ use Rattle.model.proofs.OrderLaws.{decide}
 use Rattle.object.specs.Record.{Record}
 use Rattle.binder.specs.Instance.{File, file_image, file_record, places_of, named_words, relas_of, entry_of, object_at}
 use Rattle.binder.specs.Setting.{Setting}
-use Rattle.binder.specs.Verdict.{first, words_verdict}
+use Rattle.binder.specs.Verdict.{Verdict, first, words_verdict}
 use Rattle.object.specs.Entries.{relas_from}
 use Rattle.binder.specs.Steps.PlainVerdict.{plain_entries, plain_object}
-use Rattle.binder.specs.declared.Verdict.{Verdict}
 use Rattle.binder.specs.Report.{report_word, entry_report, object_words, has_undefined}
 use Rattle.binder.specs.Steps.Relocating.{left, Noted, noted, Summed, summed, refused_by, keeps, report_sum, note_of, run_relrs, turn_of, image_in, again_refusal, unless_refused, cut_to32, run_table, run_tables, then_tables, run_object, run_at, until_tables, run_until}
 use Rattle.binder.specs.declared.turn.Turn.{Turn}

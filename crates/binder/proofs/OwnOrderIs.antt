@@ -1,33 +1,29 @@
 -- What a call to `bind_ordered` comes to, step by step, is its definition. Assumes nothing.
-use Rattle.std.proofs.Common.{◌≡◌, ℕ, suc, ◌+◌, ◌-◌, ◌*◌, ◌^◌, ◌<◌, ◌≤◌, Bool, true, false, List, [], ◌∷◌, map, length, get_or, take, replicate, sym, refl, ap, ◌∙◌, subst, arith, eq-eqb}
+use Rattle.std.proofs.Common.{◌≡◌, ℕ, suc, ◌+◌, ◌-◌, ◌*◌, ◌^◌, ◌<◌, ◌≤◌, Bool, true, false, List, [], ◌∷◌, map, length, get_or, replicate, sym, refl, ap, ◌∙◌, subst, arith, eq-eqb}
 use lib.ListN.{length-map}
 use Rattle.words.specs.Choice.{some}
 use Rattle.words.proofs.Choice.{both_true}
 use Rattle.model.specs.Objects.{count}
 use Rattle.model.specs.Layout.{objs_of}
 use Rattle.model.specs.Order.{up_from, OnceEach}
-use Rattle.sheet.specs.Sheet.{Input}
-use Rattle.sheet.specs.Steps.Parts.{inputs_in, Tabled}
-use Rattle.sheet.specs.declared.sheet.Parts.{Parts}
-use Rattle.sheet.proofs.PartLaws.{handed_in_lem}
+use Rattle.sheet.specs.Sheet.{handed_in, Input}
+use Rattle.std.specs.Prelude.{Result, Ok, Err}
+use Rattle.words.specs.declared.refusal.Refusal.{Refusal}
+use Rattle.sheet.proofs.ObjectLaws.{handed_bad, handed_good}
 use Rattle.binder.specs.Setting.{Setting}
 use Rattle.binder.specs.Instance.{File, file_image, file_record, relas_of, object_from}
-use Rattle.binder.specs.Verdict.{no_file}
+use Rattle.binder.specs.Verdict.{Verdict, passed, refused, no_file}
 use Rattle.binder.specs.declared.Policy.{Policy}
-use Rattle.binder.specs.declared.Verdict.{Verdict}
-use Rattle.binder.specs.declared.Verdict.TheVariants.{Passed, Refused}
-use Rattle.binder.specs.declared.order.Order.{Order}
 use Rattle.binder.specs.Bind.{files_of, names_of, unless, prepare_verdict, types_verdict, refused_bind, bind_in}
 use Rattle.binder.specs.OwnOrder.{is_order, is_copy, has_copy, library_copies, may_take, bind_ordered_set, bind_ordered_of}
 use Rattle.binder.specs.Steps.Prepared.{Prepared}
 use Rattle.binder.specs.Steps.Relocating.{cut_to32, again_refusal, again_record, row_at}
 use Rattle.binder.specs.Steps.Finished.{RelocatedOr}
-use Rattle.binder.specs.Steps.OrderTaken.{Held, copy_in, copy_again, copy_at, copies_at, Taken, BoundOrdered}
+use Rattle.binder.specs.Steps.OrderTaken.{copy_in, copy_again, copy_at, copies_at, Taken, BoundOrdered}
 use Rattle.binder.proofs.FileLaws.{host_file, file_of}
 use Rattle.binder.proofs.SoundLaws.{count_is}
 use Rattle.binder.proofs.OrderIs.{names_length}
 use Rattle.binder.proofs.OutcomeLaws.{refused_not}
-use Rattle.binder.proofs.PrepareLaws.{sheet_refused, sheet_passed}
 use Rattle.binder.proofs.Steady.{file_at, LoadedSet}
 use Rattle.binder.proofs.SteadyLaws.{starts, again, counts}
 use Rattle.binder.proofs.TableIs.{some_append}
@@ -69,7 +65,7 @@ again_copy image file f ef ei er eo a b =
 -- a set that was loaded
 module _
     (setting : Setting) (size : ℕ) (table : List ℕ) (h p : Input) (ls : List Input) (arena a : List ℕ) (r : Verdict) (len : length arena ≡ size)
-    (kept : length a ≡ length arena) (made : Prepared setting (types_verdict setting) (h ∷ (p ∷ ls)) arena a table r) (z : r ≡ Passed)
+    (kept : length a ≡ length arena) (made : Prepared setting (types_verdict setting) (h ∷ (p ∷ ls)) arena a table r) (z : r ≡ passed)
     (typed : (rtype : ℕ) → row_at table rtype ≡ setting.row rtype)
   where
     abbrev os : List Input
@@ -112,46 +108,46 @@ module _
         k.is
         ∙ rw (copies_are, names_many, ordered setting size table h p ls arena a r len kept made z typed k.own k.arranged)
 
-    passed_it : prepare_verdict setting (types_verdict setting) os size ≡ Passed
+    passed_it : prepare_verdict setting (types_verdict setting) os size ≡ passed
     passed_it = ap (prepare_verdict setting (types_verdict setting) os) (sym len) ∙ (sym made.met ∙ z)
 
     module _ (policy : Policy) (words : ℕ) (order : List ℕ) (t : Bool) (k : Taken os (length ls + 2) a table order t) where
       -- 35
       pub order_refused :
-          t ≡ false → (report : List ℕ) → length report ≡ words → BoundOrdered setting os size policy words order a report (Refused 35 0)
+          t ≡ false → (report : List ℕ) → length report ≡ words → BoundOrdered setting os size policy words order a report (refused 35 0)
       unfolding bind_ordered_set bind_in unless
       order_refused f report lr =
           rw (passed_it, sym (taken_is order t k) ∙ f)
-          (finished_by size words (Refused 35 0) (Refused 35 0) _ _ a report refl (kept ∙ len) lr (λ q. refused_not 35 0 q))
+          (finished_by size words (refused 35 0) (refused 35 0) _ _ a report refl (kept ∙ len) lr (λ q. refused_not 35 0 q))
 
       -- 14 to 20, in that order
       pub order_bound :
-          t ≡ true → (o : Order) → Held order o → (report : List ℕ) → report ≡ replicate words 0
-          → (a' report' : List ℕ) (m : Verdict) → RelocatedOr os table (take o.count o.list) a policy report a' report' m
+          t ≡ true → (report : List ℕ) → report ≡ replicate words 0
+          → (a' report' : List ℕ) (m : Verdict) → RelocatedOr os table order a policy report a' report' m
           → BoundOrdered setting os size policy words order a' report' m
       unfolding bind_ordered_set unless may_take
-      order_bound f o held report zeros a' report' m g =
+      order_bound f report zeros a' report' m g =
           let e : may_take (files_of os) (names_of os) order ≡ true = sym (taken_is order t k) ∙ f in
           let is = (both_true (is_order (length (names_of os)) order) _ e).0 in
           let n : length (names_of os) + 2 ≡ count (objs_of (object_from setting) (host_file h) (file_of p) fs) = omega (arith, many, names_length h p ls) in
           let once = subst (λ (i : ℕ). OnceEach i order) n (order_once (length (names_of os)) order is) in
           bound_in setting size table h p ls arena a r len kept made z typed policy words order once report zeros a' report' m
-          (subst (λ (ks : List ℕ). RelocatedOr os table ks a policy report a' report' m) held.list g)
+          g
           ∙ rw (passed_it, e)
 
 -- refusals 2 to 12
 pub prepare_refused :
     (setting : Setting) (os : List Input) (size : ℕ) (policy : Policy) (words : ℕ) (order : List ℕ) (m : Verdict) (a report : List ℕ)
     → m ≡ prepare_verdict setting (types_verdict setting) os size
-    → (n k : ℕ) → m ≡ Refused n k → length a ≡ size → length report ≡ words → BoundOrdered setting os size policy words order a report m
+    → (n k : ℕ) → m ≡ refused n k → length a ≡ size → length report ≡ words → BoundOrdered setting os size policy words order a report m
 unfolding bind_ordered_set bind_in
 prepare_refused setting os size policy words order m a report e n k z la lr =
-    rw (sym e ∙ z) (finished_by size words m (Refused n k) _ _ a report z la lr (λ q. refused_not n k q))
+    rw (sym e ∙ z) (finished_by size words m (refused n k) _ _ a report z la lr (λ q. refused_not n k q))
 
--- whatever objects the table of parts names
+-- whatever objects the set has
 module _
     (setting : Setting) (os : List Input) (count : ℕ) (arena a table : List ℕ) (r : Verdict) (two : 2 ≤ count) (many : length os ≡ count)
-    (kept : length a ≡ length arena) (made : Prepared setting (types_verdict setting) os arena a table r) (z : r ≡ Passed)
+    (kept : length a ≡ length arena) (made : Prepared setting (types_verdict setting) os arena a table r) (z : r ≡ passed)
     (typed : (rtype : ℕ) → row_at table rtype ≡ setting.row rtype) (policy : Policy) (order : List ℕ) (t : Bool)
     (k : Taken os count a table order t)
   where
@@ -160,12 +156,12 @@ module _
         let is = (both_true (is_order (count - 2) order) _ (sym k.is ∙ f)).0 in
         omega (arith, once_length (count - 2) order (order_once (count - 2) order is))
 
-    pub set_refused : t ≡ false → (report : List ℕ) → BoundOrdered setting os (length arena) policy (length report) order a report (Refused 35 0)
+    pub set_refused : t ≡ false → (report : List ℕ) → BoundOrdered setting os (length arena) policy (length report) order a report (refused 35 0)
     set_refused f report = go os count many two made k
       where
         go :
             (xs : List Input) (n : ℕ) → length xs ≡ n → 2 ≤ n → Prepared setting (types_verdict setting) xs arena a table r → Taken xs n a table order t
-            → BoundOrdered setting xs (length arena) policy (length report) order a report (Refused 35 0)
+            → BoundOrdered setting xs (length arena) policy (length report) order a report (refused 35 0)
         go [] n e l q y = absurd (omega arith)
         go (h ∷ []) n e l q y = absurd (omega arith)
         go (h ∷ (p ∷ ls)) n e l q y =
@@ -174,30 +170,30 @@ module _
             (subst (λ (i : ℕ). Taken (h ∷ (p ∷ ls)) i a table order t) c y) f report refl
 
     pub set_bound :
-        t ≡ true → (o : Order) → Held order o → (report : List ℕ) → report ≡ replicate (length report) 0
-        → (a' report' : List ℕ) (m : Verdict) → RelocatedOr os table (take o.count o.list) a policy report a' report' m
+        t ≡ true → (report : List ℕ) → report ≡ replicate (length report) 0
+        → (a' report' : List ℕ) (m : Verdict) → RelocatedOr os table order a policy report a' report' m
         → BoundOrdered setting os (length arena) policy (length report) order a' report' m
-    set_bound f o held report zeros a' report' m g = go os count many two made k g
+    set_bound f report zeros a' report' m g = go os count many two made k g
       where
         go :
             (xs : List Input) (n : ℕ) → length xs ≡ n → 2 ≤ n → Prepared setting (types_verdict setting) xs arena a table r → Taken xs n a table order t
-            → RelocatedOr xs table (take o.count o.list) a policy report a' report' m
+            → RelocatedOr xs table order a policy report a' report' m
             → BoundOrdered setting xs (length arena) policy (length report) order a' report' m
         go [] n e l q y w = absurd (omega arith)
         go (h ∷ []) n e l q y w = absurd (omega arith)
         go (h ∷ (p ∷ ls)) n e l q y w =
             let c : n ≡ length ls + 2 = omega arith in
             order_bound setting (length arena) table h p ls arena a r refl kept q z typed policy (length report) order t
-            (subst (λ (i : ℕ). Taken (h ∷ (p ∷ ls)) i a table order t) c y) f o held report zeros a' report' m w
+            (subst (λ (i : ℕ). Taken (h ∷ (p ∷ ls)) i a table order t) c y) f report zeros a' report' m w
 
 -- ---- the objects of a sheet
 
-module _ (setting : Setting) (sheet bytes : List ℕ) (size : ℕ) (p : Parts) (t : Tabled sheet (length bytes) p) (policy : Policy) (words : ℕ) (order : List ℕ) where
-  pub ordered_refused : p.count < 2 → refused_bind size words 1 0 ≡ bind_ordered_of setting sheet bytes size policy words order
+module _ (setting : Setting) (sheet bytes : List ℕ) (size : ℕ) {r : Result (List Input) Refusal} (t : r ≡ handed_in sheet bytes) (policy : Policy) (words : ℕ) (order : List ℕ) where
+  pub ordered_refused : {e : Refusal} → r ≡ Err e → refused_bind size words 1 0 ≡ bind_ordered_of setting sheet bytes size policy words order
   unfolding bind_ordered_of
-  ordered_refused l = rw (sheet_refused sheet bytes p t l)
+  ordered_refused is = rw (handed_bad sheet bytes t is)
 
   pub ordered_handed :
-      2 ≤ p.count → bind_ordered_set setting (inputs_in bytes p) size policy words order ≡ bind_ordered_of setting sheet bytes size policy words order
+      {os : List Input} → r ≡ Ok os → bind_ordered_set setting os size policy words order ≡ bind_ordered_of setting sheet bytes size policy words order
   unfolding bind_ordered_of
-  ordered_handed l = let ok = sheet_passed sheet bytes p t l in rw (handed_in_lem t ok bytes, ok)
+  ordered_handed is = let good = handed_good sheet bytes t is in rw (good.0, good.1)

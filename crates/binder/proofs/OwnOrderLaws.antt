@@ -1,9 +1,15 @@
 -- Orders that are handed in: what the loops over them have left to look at, and what an order that is one has. Assumes nothing.
-use Rattle.std.proofs.Common.{◌≡◌, ℕ, zero, suc, ◌+◌, ◌-◌, ◌<◌, ◌≤◌, Bool, true, false, eqb, List, [], ◌∷◌, ◌++◌, length, get_or, take, drop, set, sym, refl, ap, ◌∙◌, subst, ⊎_elim, true≢false, add-one, arith, length-append, drop_of_length-le, drop-cons, take-suc, take-suc-set, eq-eqb, ne_eqb, eqb-true}
+use Rattle.std.proofs.Common.{◌≡◌, ℕ, zero, suc, ◌+◌, ◌-◌, ◌<◌, ◌≤◌, Bool, true, false, eqb, List, [], ◌∷◌, ◌++◌, length, get_or, take, drop, sym, refl, ap, ◌∙◌, subst, ⊎_elim, true≢false, arith, length-append, drop_of_length-le, eq-eqb, ne_eqb, eqb-true}
 use native.Mathlib.Decide.{dec_lt}
-use lib.Seq.{split_at}
+use lib.Seq.{split_at, get_or-append_seam}
+use Rattle.std.specs.Prelude.{IsTrue, ◌↔◌, cond}
+use Rattle.std.specs.List.{All, count_by}
+use Rattle.std.proofs.lemmas.List.{take_at}
+use Rattle.std.proofs.lemmas.List.Recursion.{is_count_by}
 use Rattle.words.specs.Choice.{pick, both, either, every, some}
 use Rattle.words.proofs.Choice.{both_true}
+use lib.Pointwise.{pointwise}
+use Rattle.words.specs.Names.{same_bytes}
 use Rattle.model.specs.Order.{has, listed, up_from, times, Distinct, none, one_more, OnceEach}
 use Rattle.model.proofs.OrderLaws.{decide, clash, has_head, has_cases, has_cons, listed_range, range_listed, room, covers}
 use Rattle.model.proofs.Orders.{times_tail, times_head}
@@ -14,29 +20,34 @@ use Rattle.binder.specs.OwnOrder.{is_order}
 use Rattle.binder.specs.Steps.Relocating.{again_refusal, again_record}
 use Rattle.binder.specs.Steps.OrderTaken.{copy_in, copy_again}
 
--- ---- what is left of a list from `i` on
+-- ---- tests of all elements, and counts
 
-module _ (xs : List ℕ) (i : ℕ) where
-  pub times_next :
-      (k n : ℕ) → i < length xs → n ≡ pick (eqb (get_or xs i 0) k) 1 0 → times k (drop i xs) ≡ n + times k (drop (i + 1) xs)
-  times_next k n l e = rw (add-one, drop-cons xs i 0 l, e) (go (eqb (get_or xs i 0) k))
-    where
-      go :
-          (t : Bool)
-          → pick t (suc (times k (drop (suc i) xs))) (times k (drop (suc i) xs)) ≡ pick t 1 0 + times k (drop (suc i) xs)
-      go true = omega arith
-      go false = omega arith
+all_every : (p : ℕ → Bool) (xs : List ℕ) → All (λ x. p x ≡ true) xs → every p xs ≡ true
+unfolding every
+all_every p [] a = refl
+all_every p (x ∷ xs) a = rw (a 0 x (omega arith)) (all_every p xs (λ k d l. a (suc k) d (omega arith)))
 
-  pub every_next : (p : ℕ → Bool) (t : Bool) → i < length xs → p (get_or xs i 0) ≡ t → every p (drop i xs) ≡ both t (every p (drop (i + 1) xs))
-  unfolding every
-  every_next p t l e = rw (add-one, drop-cons xs i 0 l, e)
+every_all : (p : ℕ → Bool) (xs : List ℕ) → every p xs ≡ true → All (λ x. p x ≡ true) xs
+unfolding every
+every_all p [] e k d l = absurd (omega arith)
+every_all p (x ∷ xs) e zero d l = (both_true (p x) (every p xs) e).0
+every_all p (x ∷ xs) e (suc k) d l = every_all p xs (both_true (p x) (every p xs) e).1 k d (omega arith)
 
-  pub times_done : (k : ℕ) → length xs ≤ i → times k (drop i xs) ≡ 0
-  times_done k l = rw (drop_of_length-le xs l)
+-- a test that is true where each element passes
+pub every_is : {r : Bool} (p : ℕ → Bool) (xs : List ℕ) → (IsTrue r ↔ All (λ x. p x ≡ true) xs) → r ≡ every p xs
+every_is {r} p xs f = go r refl (every p xs) refl
+  where
+    go : (b : Bool) → r ≡ b → (t : Bool) → every p xs ≡ t → r ≡ every p xs
+    go true h t e = h ∙ sym (all_every p xs (f.0 h))
+    go false h true e = f.1 (every_all p xs e) ∙ sym e
+    go false h false e = h ∙ sym e
 
-  pub every_done : (p : ℕ → Bool) → length xs ≤ i → every p (drop i xs) ≡ true
-  unfolding every
-  every_done p l = rw (drop_of_length-le xs l)
+pub times_counted : (k : ℕ) (xs : List ℕ) → times k xs ≡ count_by (λ j. eqb j k) xs
+times_counted k xs = is_count_by (times k) (λ j. eqb j k) refl (λ j js. one (eqb j k) (times k js)) xs
+  where
+    one : (t : Bool) (n : ℕ) → pick t (suc n) n ≡ cond t (1 + n) n
+    one true n = omega arith
+    one false n = refl
 
 -- ---- what is left of the numbers below `n` from `k` on
 
@@ -54,13 +65,13 @@ module _ (p : ℕ → Bool) (k n : ℕ) where
   unfolding every
   every_up t h e = ap (every p) (up_next k n h) ∙ ap (λ (b : Bool). both b (every p (up_from (k + 1) (n - (k + 1))))) e
 
-  pub some_up : (t : Bool) → k < n → p k ≡ t → some p (up_from k (n - k)) ≡ either t (some p (up_from (k + 1) (n - (k + 1))))
-  unfolding some
-  some_up t h e = ap (some p) (up_next k n h) ∙ ap (λ (b : Bool). either b (some p (up_from (k + 1) (n - (k + 1))))) e
-
   pub every_up_none : n ≤ k → every p (up_from k (n - k)) ≡ true
   unfolding every
   every_up_none h = ap (every p) (up_none k n h)
+
+  pub some_up : (t : Bool) → k < n → p k ≡ t → some p (up_from k (n - k)) ≡ either t (some p (up_from (k + 1) (n - (k + 1))))
+  unfolding some
+  some_up t h e = ap (some p) (up_next k n h) ∙ ap (λ (b : Bool). either b (some p (up_from (k + 1) (n - (k + 1))))) e
 
   pub some_up_none : n ≤ k → some p (up_from k (n - k)) ≡ false
   unfolding some
@@ -95,11 +106,16 @@ module _ (image file : List ℕ) where
 
 -- ---- the list that is held
 
-pub held_next :
-    (list order : List ℕ) (i v : ℕ) → i < length list → i < length order → take i list ≡ take i order → v ≡ get_or order i 0
-    → take (i + 1) (set list i v) ≡ take (i + 1) order
-held_next list order i v l h e ev =
-    rw (add-one, take-suc-set list i v l, take-suc order i 0 h, e, ev)
+-- two lists that compare equal, number by number
+pub same_pointwise : (xs ys : List ℕ) → pointwise eqb xs ys ≡ same_bytes xs ys
+unfolding same_bytes
+same_pointwise [] [] = refl
+same_pointwise [] (y ∷ ys) = refl
+same_pointwise (x ∷ xs) [] = refl
+same_pointwise (x ∷ xs) (y ∷ ys) = ⊎_elim
+    (λ (t : eqb x y ≡ true). rw t (same_pointwise xs ys))
+    (λ (t : eqb x y ≡ false). rw t)
+    (decide (eqb x y))
 
 -- ---- an order
 
@@ -247,22 +263,12 @@ other_length n order ne = go (is_order n order) refl
     go true e = absurd (ne (once_length n order (order_once n order e)))
     go false e = e
 
--- the tests of the code, of as many words as there should be
-module _ (n : ℕ) (order : List ℕ) (many : length order ≡ n + 1) where
-  tests :
-      is_order n order
-      ≡ both (eqb (get_or order n 0) 1)
-      (both (every (λ k. eqb (times k (take n order)) 1) (up_from 2 n)) (every (listed n) (take n order)))
-  unfolding is_order
-  tests = let m : length order - 1 ≡ n = omega arith in rw m
-
-  pub program_elsewhere : (get_or order n 0 ≡ 1 → ⊥) → false ≡ is_order n order
-  program_elsewhere ne = rw (tests, ne_eqb _ _ ne)
-
-  pub not_once : get_or order n 0 ≡ 1 → every (λ k. eqb (times k (take n order)) 1) (up_from 2 n) ≡ false → false ≡ is_order n order
-  not_once e f = rw (tests, eq-eqb _ _ e, f)
-
-  pub all_tested :
-      {t : Bool} → get_or order n 0 ≡ 1 → every (λ k. eqb (times k (take n order)) 1) (up_from 2 n) ≡ true → t ≡ every (listed n) (take n order)
-      → t ≡ is_order n order
-  all_tested e f r = rw (tests, eq-eqb _ _ e, f) r
+-- the tests of the code, of its last word and of those before it
+pub order_tests : (n last : ℕ) (front : List ℕ) {order : List ℕ} → order ≡ front ++ (last ∷ []) → length front ≡ n
+    → is_order n order ≡ both (eqb last 1) (both (every (λ k. eqb (times k front) 1) (up_from 2 n)) (every (listed n) front))
+unfolding is_order
+order_tests n last front {order} split many =
+    let m : length (front ++ (last ∷ [])) - 1 ≡ n = omega (arith, length-append front (last ∷ [])) in
+    let f : take n (front ++ (last ∷ [])) ≡ front = take_at front (last ∷ []) n many in
+    let l : get_or (front ++ (last ∷ [])) n 0 ≡ last = ap (λ (i : ℕ). get_or (front ++ (last ∷ [])) i 0) (sym many) ∙ get_or-append_seam front last [] 0 in
+    rw (split, m, f, l)

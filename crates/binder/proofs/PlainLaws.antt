@@ -1,6 +1,6 @@
 -- Where only the program copies, and to places that are apart by its symbols' own sizes, no copy crosses an earlier one: the destinations lie in
 -- the claims, and the sources in other objects. Assumes nothing.
-use Rattle.std.proofs.Common.{◌≡◌, ℕ, zero, suc, ◌+◌, ◌<◌, ◌≤◌, min, max, Bool, true, false, not, eqb, ltb, leb, ◌⊎◌, List, [], ◌∷◌, ◌++◌, length, get_or, sym, refl, ap, ◌∙◌, subst, inl, inr, ⊎_elim, append_assoc, append-nil, arith, length-take, le-ltb, leb-true}
+use Rattle.std.proofs.Common.{◌≡◌, ℕ, zero, suc, ◌+◌, ◌<◌, ◌≤◌, min, max, Bool, true, false, not, eqb, ltb, leb, ◌⊎◌, List, [], ◌∷◌, ◌++◌, length, get_or, sym, refl, ap, ◌∙◌, subst, inl, inr, ⊎_elim, append_assoc, append-nil, arith, length-take, le-ltb, leb-true, Err, Ok, Result, Option, None, Some}
 use native.Mathlib.Decide.{dec_le}
 use borrow.Author.Tests.{eqb-false}
 use Rattle.words.specs.Choice.{pick, either, some}
@@ -8,6 +8,8 @@ use Rattle.words.proofs.Choice.{both_true, both_false}
 use Rattle.model.specs.Symbols.{by_name}
 use Rattle.model.specs.Objects.{Objs, count}
 use Rattle.model.proofs.Scope.{resolve_copy_range}
+use Rattle.words.specs.declared.refusal.Refusal.{Refusal}
+use Rattle.words.specs.declared.refusal.Refusal.TheVariants as refusals
 use Rattle.object.specs.RelocationTypes.{Row, ignored, passed_over, turned_away, marked_refuse, copies, writes, applied_row, type_word}
 use Rattle.object.specs.RelocationTypes as types
 use Rattle.object.specs.HashCheck.{symbol_ok}
@@ -17,12 +19,10 @@ use Rattle.object.specs.Record as records
 use Rattle.object.specs.declared.symbol.Symbol.{Symbol}
 use Rattle.object.specs.declared.hash_tables.Definition.{Definition}
 use Rattle.object.specs.declared.relocate.Rela.{Rela}
-use Rattle.object.specs.declared.entry_symbol.CheckedSymbol.{CheckedSymbol}
-use Rattle.object.specs.declared.entry_symbol.CheckedSymbol.TheVariants.{Refused, Checked}
 use Rattle.sheet.specs.Sheet.{Input}
 use Rattle.scope.specs.Steps.Links.{link_at}
-use Rattle.scope.specs.declared.scope.Resolved.{Resolved}
-use Rattle.scope.specs.declared.scope.Resolved.TheVariants.{Absent, Found}
+use Rattle.scope.specs.declared.scope.Found.{Found}
+use Rattle.scope.specs.Steps.ScopeCode.{found}
 use Rattle.binder.specs.Setting.{Setting}
 use Rattle.binder.specs.Instance.{File, definition_of}
 use Rattle.binder.specs.Copies.{meets, crosses}
@@ -115,17 +115,17 @@ record Within (off span : ℕ) (c : Claim) (q : Copy) : Type 0 where
 
 module _ (off span end : ℕ) (short : end ≤ span) (f : Rela → Copy) (g : Rela → Claim)
     (within : (e : Rela) → ((f e).size ≡ 0 → ⊥) → Within off span (g e) (f e)) where
-  abbrev Some : Rela → Type 0
-  Some e = (f e).size ≡ 0 → ⊥
+  abbrev Claims : Rela → Type 0
+  Claims e = (f e).size ≡ 0 → ⊥
 
   -- it ends inside the object
-  in_end : (e : Rela) → Some e → EndsIn end (g e) → (g e).place + (g e).size ≤ end
+  in_end : (e : Rela) → Claims e → EndsIn end (g e) → (g e).place + (g e).size ≤ end
   in_end e s i =
       let p = positive (f e).size s in
       let w = within e s in
       i (λ z. absurd (omega (arith, w.less)))
 
-  module _ (e d : Rela) (se : Some e) (sd : Some d) (ee : EndsIn end (g e)) (ed : EndsIn end (g d))
+  module _ (e d : Rela) (se : Claims e) (sd : Claims d) (ee : EndsIn end (g e)) (ed : EndsIn end (g d))
       (once : (b : ℕ) → b < end → claims (g e) b ≡ true → claims (g d) b ≡ false) where
     abbrev p : ℕ
     p = (g e).place
@@ -164,7 +164,7 @@ module _ (off span end : ℕ) (short : end ≤ span) (f : Rela → Copy) (g : Re
         (⊎_elim (λ x. inr (omega (arith, we.goes))) (λ x. inl (omega (arith, we.goes, we.less))) wd.away))
 
   one_apart :
-      (e : Rela) → Some e → EndsIn end (g e) → (pre : List Rela) → EachClaim g (EndsIn end) pre
+      (e : Rela) → Claims e → EndsIn end (g e) → (pre : List Rela) → EachClaim g (EndsIn end) pre
       → ((b : ℕ) → b < end → claims (g e) b ≡ true → some (λ d. claims (g d) b) pre ≡ false) → some (crosses (f e)) (gather f pre) ≡ false
   unfolding some gather one_copy EachClaim
   one_apart e se ee [] i once = refl
@@ -204,13 +204,13 @@ module _ (off span end : ℕ) (short : end ≤ span) (f : Rela → Copy) (g : Re
 
 -- ---- the symbol of an entry
 
-checked_is : (image : List ℕ) (r : Record) (index : ℕ) (y : Symbol) → checked_symbol image r index ≡ Checked y → y ≡ symbol_at image r.symbols index
+checked_is : (image : List ℕ) (r : Record) (index : ℕ) (y : Symbol) → checked_symbol image r index ≡ Ok y → y ≡ symbol_at image r.symbols index
 unfolding records.checked_symbol
 checked_is image r index y = go (index_ok r.known index) (symbol_ok (is_table_of r) image r.symbols r.strings index)
   where
     go :
         (s t : Bool)
-        → pick s (pick t (Checked (symbol_at image r.symbols index)) (Refused 15)) (Refused 14) ≡ Checked y
+        → pick s (pick t (Ok (symbol_at image r.symbols index)) (Err refusals.SymbolBytes)) (Err refusals.SymbolIndex) ≡ Ok y
         → y ≡ symbol_at image r.symbols index
     go true true e = cc
     go true false e = let z : ◌≡◌ {A = ℕ} 0 1 = cc in absurd (omega arith)
@@ -236,7 +236,7 @@ module _ (setting : Setting) (size : ℕ) (table : List ℕ) (h pr : File) (fs :
   In1 = Within (link_at table 1).offset (link_at table 1).span
 
   -- COPY is answered by an object other than the program
-  found_range : (name : List ℕ) (k : ℕ) (d : Definition) (v : ℕ) → sought_for_copy table a name ≡ Found k d v → (k < count S) × (k ≡ 1 → ⊥)
+  found_range : (name : List ℕ) (k : ℕ) (d : Definition) (v : ℕ) → sought_for_copy table a name ≡ found k d v → (k < count S) × (k ≡ 1 → ⊥)
   unfolding scoped_of
   found_range name k d v e =
       resolve_copy_range S (by_name name) k (definition_of d) v (sym (copy_searches setting size table h pr fs L a steady name) ∙ ap scoped_of e)
@@ -274,18 +274,18 @@ module _ (setting : Setting) (size : ℕ) (table : List ℕ) (h pr : File) (fs :
           }
 
   within_to :
-      (e : Rela) (y : Symbol) (s : Resolved) → ((k : ℕ) (d : Definition) (v : ℕ) → s ≡ Found k d v → (k < count S) × (k ≡ 1 → ⊥))
+      (e : Rela) (y : Symbol) (s : Option Found) → ((k : ℕ) (d : Definition) (v : ℕ) → s ≡ found k d v → (k < count S) × (k ≡ 1 → ⊥))
       → ((copy_to table (length a) t e y s).size ≡ 0 → ⊥) → In1 (record { place = e.place; size = y.size }) (copy_to table (length a) t e y s)
   unfolding copy_to
-  within_to e y Absent range some = absurd (some refl)
-  within_to e y (Found k d v) range some = let b = range k d v refl in within_at e.place y k b.0 b.1 d some
+  within_to e y None range some = absurd (some refl)
+  within_to e y (Some hit) range some = let b = range hit.object hit.definition hit.address refl in within_at e.place y hit.object b.0 b.1 hit.definition some
 
   within_checked :
-      (e : Rela) (c : CheckedSymbol) → checked_symbol image r e.symbol ≡ c → ((copy_checked table a t r e c).size ≡ 0 → ⊥)
+      (e : Rela) (c : Result Symbol Refusal) → checked_symbol image r e.symbol ≡ c → ((copy_checked table a t r e c).size ≡ 0 → ⊥)
       → In1 (record { place = e.place; size = (symbol_at image r.symbols e.symbol).size }) (copy_checked table a t r e c)
   unfolding copy_checked
-  within_checked e (Refused n) is some = absurd (some refl)
-  within_checked e (Checked y) is some =
+  within_checked e (Err n) is some = absurd (some refl)
+  within_checked e (Ok y) is some =
       subst (λ (x : Symbol). In1 (record { place = e.place; size = x.size }) (copy_to table (length a) t e y (sought_for_copy table a (name_of image r y))))
       (checked_is image r e.symbol y is)
       (within_to e y (sought_for_copy table a (name_of image r y)) (found_range (name_of image r y)) some)

@@ -1,5 +1,5 @@
 -- Loading the objects of a set, one after another: the turn of the loop and its ends; preparing a set. Assumes nothing.
-use Rattle.std.proofs.Common.{◌≡◌, ℕ, zero, suc, ◌+◌, ◌-◌, ◌%◌, ◌^◌, ◌<◌, ◌≤◌, Bool, true, false, eqb, ltb, leb, ◌⊎◌, List, [], ◌∷◌, map, length, get_or, take, drop, sym, refl, ap, ◌∙◌, subst, inl, inr, ⊎_elim, add-zero, add-one, arith, length-drop, length-take, drop-cons, le-ltb, lt-ltb, eq-eqb, ne_eqb, leb-true}
+use Rattle.std.proofs.Common.{◌≡◌, ℕ, zero, suc, ◌+◌, ◌-◌, ◌%◌, ◌^◌, ◌<◌, ◌≤◌, Bool, true, false, eqb, ltb, leb, ◌⊎◌, List, [], ◌∷◌, map, length, get_or, take, drop, sym, refl, ap, ◌∙◌, subst, inl, inr, add-zero, add-one, arith, length-drop, length-take, drop-cons, le-ltb, lt-ltb, eq-eqb, ne_eqb, leb-true, Err}
 use mathlib.Core.Path.{fun_ext}
 use borrow.Rule.Slice.PartMut.{put_mid}
 use lib.ListN.{length-map}
@@ -9,31 +9,29 @@ use Rattle.words.specs.Memory.{Mem, In, mem, write, patch}
 use Rattle.words.proofs.Memory.{Out, in_or_out, write_in, write_out}
 use Rattle.words.proofs.Choice.{both_true}
 use Rattle.words.proofs.Slices.{put_tail, mem_past, mem_patch, length_patch}
-use Rattle.model.proofs.OrderLaws.{decide}
-use Rattle.object.specs.declared.dynamic_fields.Read.{Read}
+use Rattle.std.specs.Prelude.{Result, Ok, Err}
+use Rattle.words.specs.Refusal.{number_of}
+use Rattle.words.specs.declared.refusal.Refusal.{Refusal}
+use Rattle.words.specs.declared.refusal.Refusal.TheVariants as refusals
+use Rattle.object.proofs.RefusalLaws.{number_some}
+use Rattle.object.specs.declared.dynamic_fields.ObjectData.{ObjectData}
 use Rattle.object.specs.declared.hash_tables.View.{View}
 use Rattle.object.specs.declared.object_data.Placed.{Placed}
-use Rattle.object.specs.Placed.{object_span, object_align, object_bytes, file_refusal, CheckedBy}
+use Rattle.object.specs.Placed.{object_span, object_align, object_bytes, file_refusal, Checked}
 use Rattle.object.specs.Record.{Record, held_by, view_of}
 use Rattle.object.specs.Loaded.{object_record, object_refusal, LoadedBy}
 use Rattle.object.proofs.PlaceLaws.{object_align_lem, file_span}
 use Rattle.object.proofs.LoadedLaws.{load_headers, load_eight, loaded_part, record_span}
 use Rattle.sheet.specs.Sheet as sheets
 use Rattle.sheet.specs.Sheet.{Input, no_input, sheet_ok, arena_ok, duplicate_of}
-use Rattle.sheet.specs.Steps.Parts.{inputs_in, Tabled}
-use Rattle.sheet.specs.declared.sheet.Parts.{Parts}
-use Rattle.sheet.proofs.PartLaws.{two_parts}
 use Rattle.binder.specs.Setting.{Setting}
 use Rattle.binder.specs.Instance.{File, next_offset, offset_of}
-use Rattle.binder.specs.Verdict.{verdict, no_file, load_verdict}
-use Rattle.binder.specs.declared.Verdict.{Verdict}
-use Rattle.binder.specs.declared.Verdict.TheVariants.{Passed, Refused}
+use Rattle.binder.specs.declared.Refused.{Refused}
+use Rattle.binder.specs.Verdict.{Verdict, passed, refused, verdict, no_file, load_verdict}
 use Rattle.binder.specs.Bind.{files_of, objects_of, unless, prepare_verdict}
 use Rattle.scope.specs.Steps.Links.{link_at, count_in, address_in, FilteredBelow, Filtered}
 use Rattle.binder.specs.Steps.Prepared.{load_from, link_of, place_files, Linked, LinkedAt, LoadedAt, gapped, LoadedNext, LoadedFiles, Prepared}
 use Rattle.scope.specs.declared.links.Link.{Link}
-use Rattle.binder.specs.declared.prepare.Loaded.{Loaded}
-use Rattle.binder.specs.declared.prepare.Loaded as loads
 use Rattle.binder.proofs.OutcomeLaws.{refused_not, first_passed, unless_passed}
 use Rattle.binder.proofs.LoadsSame.{loads_same}
 use Rattle.binder.proofs.OffsetLaws.{offset_after}
@@ -64,67 +62,64 @@ part_length : (a : List ℕ) (off : ℕ) → length (take (length a - off) (drop
 part_length a off = simp (length-take, length-drop) (omega arith)
 
 -- an object loaded into the part of the arena from `off` on
-module _
-    (host : Bool) (file : List ℕ) (off : ℕ) (a ys : List ℕ) (r : Read) (h : LoadedBy host file (take (length a - off) (drop off a)) ys r)
-  where
-    pub refusal_at : r.refusal ≡ object_refusal host (length a - off) file
-    refusal_at = h.refusal ∙ ap (λ (n : ℕ). object_refusal host n file) (part_length a off)
+module _ (host : Bool) (file : List ℕ) (off : ℕ) (a ys : List ℕ) where
+  -- refused
+  pub refused_at : (e : Refusal) → LoadedBy host file (take (length a - off) (drop off a)) ys (Err e) → number_of e ≡ object_refusal host (length a - off) file
+  refused_at e h = h.refusal ∙ ap (λ (n : ℕ). object_refusal host n file) (part_length a off)
 
-    pub linked_at :
-        (v : View) → off ≤ length a → r.refusal ≡ 0 → v ≡ view_of (held_by r.object)
-        → LoadedAt host file off a (put_mid off (length a - off) a ys)
-        (loads.TheVariants.At (record { offset = off; span = r.object.span; view = v }))
-    linked_at v l z e =
-        record {
-          refusal = sym refusal_at ∙ z;
-          link = link (h.object z);
-          arena =
-              ap mem (put_tail a off 0 (object_span host file) (object_bytes host file) l (loaded_part host file _ ys r h z))
-              ∙ (mem_patch a (off + 0) (object_span host file) (object_bytes host file) (omega (arith, room))
-              ∙ ap (λ (n : ℕ). write (mem a) n (object_span host file) (object_bytes host file)) (add-zero off));
-          fits = omega (arith, room);
-        }
-      where
-        room : object_span host file ≤ length a - off
-        room = omega (arith, h.fits z, part_length a off)
+  pub linked_at :
+      (o : ObjectData) → LoadedBy host file (take (length a - off) (drop off a)) ys (Ok o) → (v : View) → off ≤ length a → v ≡ view_of (held_by o)
+      → LinkedAt host file off a (put_mid off (length a - off) a ys) (record { offset = off; span = o.span; view = v })
+  linked_at o h v l e =
+      record {
+        refusal = none;
+        link = link h.object;
+        arena =
+            ap mem (put_tail a off 0 (object_span host file) (object_bytes host file) l (loaded_part host file _ ys h.part (sym h.refusal)))
+            ∙ (mem_patch a (off + 0) (object_span host file) (object_bytes host file) (omega (arith, room))
+            ∙ ap (λ (n : ℕ). write (mem a) n (object_span host file) (object_bytes host file)) (add-zero off));
+        fits = omega (arith, room);
+      }
+    where
+      none : object_refusal host (length a - off) file ≡ 0
+      none = sym (h.refusal ∙ ap (λ (n : ℕ). object_refusal host n file) (part_length a off))
 
-        link :
-            held_by r.object ≡ object_record host file
-            → ◌≡◌ {A = Link} (record { offset = off; span = r.object.span; view = v }) (link_of (record { host = host; bytes = file }) off)
-        link q =
-            let s : r.object.span ≡ object_span host file = ap (λ (x : Record). x.span) q ∙ record_span host file in
-            let w : v ≡ view_of (object_record host file) = e ∙ ap view_of q in
-            rw (s, w)
+      room : object_span host file ≤ length a - off
+      room = omega (arith, h.fits, part_length a off)
+
+      link :
+          held_by o ≡ object_record host file
+          → ◌≡◌ {A = Link} (record { offset = off; span = o.span; view = v }) (link_of (record { host = host; bytes = file }) off)
+      link q =
+          let s : o.span ≡ object_span host file = ap (λ (x : Record). x.span) q ∙ record_span host file in
+          let w : v ≡ view_of (object_record host file) = e ∙ ap view_of q in
+          rw (s, w)
 
 -- an object loaded where it goes
 pub gapped_length : (a : List ℕ) (free off : ℕ) → length (gapped a free off) ≡ length a
 gapped_length a free off = length_patch a free (off - free) (λ _. 0)
 
-module _ (setting : Setting) (f : File) (free : ℕ) (a : List ℕ) (c : Placed) (k : CheckedBy f.host f.bytes c) where
+module _ (setting : Setting) (f : File) (free : ℕ) (a : List ℕ) where
   -- a refusal by the headers
-  pub next_headers : (after : List ℕ) → (c.refusal ≡ 0 → ⊥) → LoadedNext setting f free a after (loads.TheVariants.Refused c.refusal)
-  next_headers after ne =
-      (k.refusal ∙ sym (load_headers f.host f.bytes (length a - offset_of setting f free) (λ z. ne (k.refusal ∙ z))), ne)
+  pub next_headers : (e : Refusal) → number_of e ≡ file_refusal f.host f.bytes → (after : List ℕ) → LoadedNext setting f free a after (Err e)
+  next_headers e h after = h ∙ sym (load_headers f.host f.bytes (length a - offset_of setting f free) (λ z. number_some e (h ∙ z)))
 
-  module _ (z : c.refusal ≡ 0) where
-    checked : file_refusal f.host f.bytes ≡ 0
-    checked = sym k.refusal ∙ z
-
+  module _ (c : Placed) (k : Checked f.host f.bytes c) where
     -- the alignment that was found
     pub next_align : (1 ≤ c.align) × (c.align ≤ 2 ^ 21)
     next_align =
-        let b = object_align_lem f.host f.bytes checked in
-        (omega (arith, b.0, k.align z), omega (arith, b.1, k.align z))
+        let b = object_align_lem f.host f.bytes k.passed in
+        (omega (arith, b.0, k.align), omega (arith, b.1, k.align))
 
     pub next_is : {off : ℕ} → off ≡ next_offset f.host c.align setting.address free → off ≡ offset_of setting f free
-    next_is e = e ∙ ap (λ (n : ℕ). next_offset f.host n setting.address free) (k.align z)
+    next_is e = e ∙ ap (λ (n : ℕ). next_offset f.host n setting.address free) k.align
 
     -- the offset passes the arena's end
     pub next_eight :
         (off : ℕ) → off ≡ offset_of setting f free → free ≤ length a → length a < off → (after : List ℕ)
-        → LoadedNext setting f free a after (loads.TheVariants.Refused 8)
+        → LoadedNext setting f free a after (Err refusals.Room)
     unfolding next_offset
-    next_eight off e l h after = (sym (go f.host f.bytes (object_align f.host f.bytes) e checked), λ (x : ◌≡◌ {A = ℕ} 8 0). omega arith)
+    next_eight off e l h after = sym (go f.host f.bytes (object_align f.host f.bytes) e k.passed)
       where
         go :
             (host : Bool) (bytes : List ℕ) (align : ℕ) → off ≡ next_offset host align setting.address free → file_refusal host bytes ≡ 0
@@ -134,15 +129,15 @@ module _ (setting : Setting) (f : File) (free : ℕ) (a : List ℕ) (c : Placed)
             let s : length a - next_offset false align setting.address free < object_span false bytes = omega (arith, g, h, file_span bytes y) in
             load_eight false bytes (length a - next_offset false align setting.address free) y s
 
-    -- loaded after the gap
-    pub next_loaded :
-        (off : ℕ) → off ≡ offset_of setting f free → (b after : List ℕ) → b ≡ gapped a free off → (r : Loaded)
-        → LoadedAt f.host f.bytes off b after r
-        → LoadedNext setting f free a after r
-    next_loaded off e b after g (loads.TheVariants.Refused n) q =
-        let s : length b ≡ length a = ap length g ∙ gapped_length a free off in
-        (q.0 ∙ rw (s, e), q.1)
-    next_loaded off e b after g (loads.TheVariants.At s) q = rw (g, e) at q
+  -- loaded after the gap
+  pub next_loaded :
+      (off : ℕ) → off ≡ offset_of setting f free → (b after : List ℕ) → b ≡ gapped a free off → (r : Result Link Refusal)
+      → LoadedAt f.host f.bytes off b after r
+      → LoadedNext setting f free a after r
+  next_loaded off e b after g (Err n) q =
+      let s : length b ≡ length a = ap length g ∙ gapped_length a free off in
+      q ∙ rw (s, e)
+  next_loaded off e b after g (Ok s) q = rw (g, e) at q
 
 -- ---- the memory below an offset, and zeros from there on
 
@@ -243,24 +238,24 @@ module _ (setting : Setting) (os : List Input) (a₀ a table : List ℕ) (off k 
         drop-cons (files_of os) k no_file (omega (arith, files_length os))
         ∙ ap (λ (f : File). f ∷ drop (suc k) (files_of os)) (file_at os k l)
 
-    module _ (a' : List ℕ) (p : Loaded) (r : LoadedNext setting file off a a' p) where
-      pub load_fail : (n : ℕ) → p ≡ loads.TheVariants.Refused n → (t : List ℕ) → LoadedFiles setting (files_of os) a₀ a' t (Refused n k)
+    module _ (a' : List ℕ) (p : Result Link Refusal) (r : LoadedNext setting file off a a' p) where
+      pub load_fail : (e : Refusal) → p ≡ Err e → (n : ℕ) → n ≡ number_of e → (t : List ℕ) → LoadedFiles setting (files_of os) a₀ a' t (refused n k)
       unfolding load_from verdict
-      load_fail n e t =
-          let g : (n ≡ object_refusal (eqb k 0) (length a - next) (get_or os k no_input).file) × (n ≡ 0 → ⊥) =
-          subst (λ (x : Loaded). LoadedNext setting file off a a' x) e r in
+      load_fail e is n same t =
+          let g : number_of e ≡ object_refusal (eqb k 0) (length a - next) (get_or os k no_input).file =
+          subst (λ (x : Result Link Refusal). LoadedNext setting file off a a' x) is r in
           record {
-            met = sym (h.met ∙ rw (left, ← h.same, ← g.0, ne_eqb n 0 g.1));
+            met = sym (h.met ∙ rw (left, ← h.same, ← g, ← same, ne_eqb n 0 (λ z. number_some e (sym same ∙ z))));
             arena = λ z. refused_not n k z;
             table = λ z. refused_not n k z;
             filtered = λ z. refused_not n k z;
           }
 
-      linked : (s : Link) → p ≡ loads.TheVariants.At s → LinkedAt (eqb k 0) (get_or os k no_input).file next (gapped a off next) a' s
-      linked s e = subst (λ (x : Loaded). LoadedNext setting file off a a' x) e r
+      linked : (s : Link) → p ≡ Ok s → LinkedAt (eqb k 0) (get_or os k no_input).file next (gapped a off next) a' s
+      linked s e = subst (λ (x : Result Link Refusal). LoadedNext setting file off a a' x) e r
 
       -- its span fits
-      pub load_fits : (s : Link) → p ≡ loads.TheVariants.At s → s.offset + s.span ≤ length a
+      pub load_fits : (s : Link) → p ≡ Ok s → s.offset + s.span ≤ length a
       load_fits s e =
           let g = linked s e in
           omega (
@@ -272,7 +267,7 @@ module _ (setting : Setting) (os : List Input) (a₀ a table : List ℕ) (off k 
           )
 
       pub load_turn :
-          (s : Link) → p ≡ loads.TheVariants.At s → length a' ≡ length a → (t : List ℕ) → link_at t k ≡ s
+          (s : Link) → p ≡ Ok s → length a' ≡ length a → (t : List ℕ) → link_at t k ≡ s
           → ((j : ℕ) → (j ≡ k → ⊥) → link_at t j ≡ link_at table j) → (FilteredBelow table k → FilteredBelow t (k + 1))
           → Loading setting os a₀ a' t (s.offset + s.span) (k + 1)
       unfolding load_from verdict place_files Linked
@@ -305,7 +300,7 @@ module _ (setting : Setting) (os : List Input) (a₀ a table : List ℕ) (off k 
           }
 
   pub load_finish : k ≡ length os → (a' : List ℕ) → a' ≡ patch a off (length a - off) (λ _. 0)
-      → LoadedFiles setting (files_of os) a₀ a' table Passed
+      → LoadedFiles setting (files_of os) a₀ a' table passed
   unfolding load_from place_files Linked
   load_finish e a' zeros =
       let n : drop k (files_of os) ≡ [] = rw (e, ← files_length os) (drop-length (files_of os)) in
@@ -340,7 +335,7 @@ linked_same setting t t' k off (f ∷ fs) same s = (
 module _ (setting : Setting) (types : Verdict) (os : List Input) (arena : List ℕ) where
   -- a refusal before anything is loaded
   refuses :
-      (n k : ℕ) → prepare_verdict setting types os (length arena) ≡ Refused n k → (arena' table : List ℕ) → Prepared setting types os arena arena' table (Refused n k)
+      (n k : ℕ) → prepare_verdict setting types os (length arena) ≡ refused n k → (arena' table : List ℕ) → Prepared setting types os arena arena' table (refused n k)
   refuses n k e arena' table =
       record {
         met = sym e;
@@ -352,21 +347,28 @@ module _ (setting : Setting) (types : Verdict) (os : List Input) (arena : List �
       }
 
   pub prepare_two :
-      arena_ok (length arena) setting.address ≡ false → (arena' table : List ℕ) → Prepared setting types os arena arena' table (Refused 2 0)
+      arena_ok (length arena) setting.address ≡ false → (arena' table : List ℕ) → Prepared setting types os arena arena' table (refused 2 0)
   unfolding prepare_verdict unless
   prepare_two e = refuses 2 0 (rw e)
 
   module _ (ok : arena_ok (length arena) setting.address ≡ true) where
     -- what is met between 2 and 3
-    pub prepare_types : (n k : ℕ) → types ≡ Refused n k → (arena' table : List ℕ) → Prepared setting types os arena arena' table types
+    pub prepare_types : (r : Refused) → types ≡ Err r → (arena' table : List ℕ) → Prepared setting types os arena arena' table (Err r)
     unfolding prepare_verdict unless
-    prepare_types n k e arena' table =
-        subst (λ (v : Verdict). Prepared setting types os arena arena' table v) (sym e) (refuses n k (rw (ok, e)) arena' table)
+    prepare_types r e arena' table = refuses r.number r.object (rw (ok, e)) arena' table
 
-    module _ (pass : types ≡ Passed) where
-      pub prepare_three : (t : ℕ) → t ≡ duplicate_of os → (t ≡ 0 → ⊥) → (arena' table : List ℕ) → Prepared setting types os arena arena' table (Refused 3 t)
+    module _ (pass : types ≡ passed) where
+      pub prepare_three : (t : ℕ) → t ≡ duplicate_of os → (t ≡ 0 → ⊥) → (arena' table : List ℕ) → Prepared setting types os arena arena' table (refused 3 t)
       unfolding prepare_verdict unless
       prepare_three t e ne = refuses 3 t (rw (ok, pass, ← e, ne_eqb t 0 ne))
+
+      pub prepare_unloaded :
+          duplicate_of os ≡ 0 → (r : Refused) (v : Verdict) → v ≡ Err r → (arena' table : List ℕ) → LoadedFiles setting (files_of os) arena arena' table v
+          → Prepared setting types os arena arena' table (Err r)
+      unfolding prepare_verdict unless
+      prepare_unloaded none r v e arena' table h =
+          refuses r.number r.object
+          (sym (sym e ∙ (h.met ∙ (sym (loads_same setting (length arena) (files_of os)) ∙ rw (ok, pass, eq-eqb (duplicate_of os) 0 none))))) arena' table
 
       -- the table `t` with the set's count and the setting is `t'`
       pub prepare_loads :
@@ -387,13 +389,13 @@ module _ (setting : Setting) (types : Verdict) (os : List Input) (arena : List �
 
 -- a set that passed
 pub record Ready (setting : Setting) (types : Verdict) (os : List Input) (size : ℕ) : Type 0 where
-  pub verdict_is : prepare_verdict setting types os size ≡ Passed
-  pub typed : types ≡ Passed
-  pub loads : load_from setting size 0 0 (files_of os) ≡ Passed
+  pub verdict_is : prepare_verdict setting types os size ≡ passed
+  pub typed : types ≡ passed
+  pub loads : load_from setting size 0 0 (files_of os) ≡ passed
   pub end : setting.address + size ≤ 2 ^ 63
   pub small : size ≤ 2 ^ 28
 
-pub ready : (setting : Setting) (types : Verdict) (os : List Input) (size : ℕ) → prepare_verdict setting types os size ≡ Passed → Ready setting types os size
+pub ready : (setting : Setting) (types : Verdict) (os : List Input) (size : ℕ) → prepare_verdict setting types os size ≡ passed → Ready setting types os size
 unfolding prepare_verdict
 ready setting types os size e =
     let b = first_passed (unless (arena_ok size setting.address) 2 0) _ e in
@@ -409,24 +411,6 @@ ready setting types os size e =
     }
 
 pub passes :
-    (setting : Setting) (types : Verdict) (os : List Input) (arena arena' table : List ℕ) (r : Verdict) → Prepared setting types os arena arena' table r → r ≡ Passed
+    (setting : Setting) (types : Verdict) (os : List Input) (arena arena' table : List ℕ) (r : Verdict) → Prepared setting types os arena arena' table r → r ≡ passed
     → Ready setting types os (length arena)
 passes setting types os arena arena' table r made z = ready setting types os (length arena) (sym made.met ∙ z)
-
--- a table of parts names as many objects as it counts
-pub many_parts : {sheet : List ℕ} {n : ℕ} {p : Parts} → Tabled sheet n p → (bytes : List ℕ) → length (inputs_in bytes p) ≡ p.count
-many_parts t bytes = ap length (t.same bytes) ∙ t.count bytes
-
--- a sheet is refused where its table of parts names no two objects
-module _ (sheet bytes : List ℕ) (p : Parts) (t : Tabled sheet (length bytes) p) where
-  pub sheet_refused : p.count < 2 → sheet_ok sheet (length bytes) ≡ false
-  sheet_refused l =
-      ⊎_elim (λ (ok : sheet_ok sheet (length bytes) ≡ true). absurd (omega (arith, two_parts t ok)))
-      (λ (bad : sheet_ok sheet (length bytes) ≡ false). bad) (decide (sheet_ok sheet (length bytes)))
-
-  pub sheet_passed : 2 ≤ p.count → sheet_ok sheet (length bytes) ≡ true
-  sheet_passed l =
-      ⊎_elim (λ (ok : sheet_ok sheet (length bytes) ≡ true). ok)
-      (λ (bad : sheet_ok sheet (length bytes) ≡ false).
-      let none : 0 ≡ p.count = rw bad at (t.count bytes) in absurd (omega (arith, none)))
-      (decide (sheet_ok sheet (length bytes)))

@@ -13,8 +13,7 @@ use Rattle.object.specs.HashTable.{answer_in}
 use Rattle.binder.specs.Setting.{Setting}
 use Rattle.model.specs.Symbols.{by_name}
 use Rattle.binder.specs.Instance.{File, file_image, file_record, exported_of, object_at, object_from, offset_of}
-use Rattle.binder.specs.Verdict.{no_file}
-use Rattle.binder.specs.declared.Verdict.TheVariants.{Passed}
+use Rattle.binder.specs.Verdict.{passed, no_file}
 use Rattle.scope.specs.Steps.Links.{link_at}
 use Rattle.binder.specs.Steps.Prepared.{load_from, place_files, Linked}
 use Rattle.scope.specs.Steps.ScopeCode as searches
@@ -78,7 +77,7 @@ module _ {setting : Setting} {size : ℕ} {files : List File} {n free k : ℕ} {
 -- every object of a loaded set has its link, and is asked there
 pub linked_for :
     (setting : Setting) (size : ℕ) (table : List ℕ) (h p : File) (fs : List File) (arena : List ℕ) (m : Mem) → length arena ≡ size
-    → setting.address + size < 2 ^ 64 → load_from setting size 0 0 (h ∷ (p ∷ fs)) ≡ Passed → Linked setting table 0 0 (h ∷ (p ∷ fs))
+    → setting.address + size < 2 ^ 64 → load_from setting size 0 0 (h ∷ (p ∷ fs)) ≡ passed → Linked setting table 0 0 (h ∷ (p ∷ fs))
     → mem arena ≡ place_files setting (h ∷ (p ∷ fs)) 0 m → LinkedFor setting.address arena table (objs_of (object_from setting) h p fs)
 linked_for setting size table h p fs arena m len small v s e k l =
     let f : File = get_or (h ∷ (p ∷ fs)) k no_file in

@@ -16,9 +16,8 @@ use Rattle.model.proofs.Orders.{times_tail}
 use Rattle.sheet.specs.Sheet.{Input, no_input}
 use Rattle.binder.specs.Instance.{File, file_image, file_record, named_words, relas_of}
 use Rattle.binder.specs.Setting.{Setting}
-use Rattle.binder.specs.Verdict.{first, verdict, no_file, words_verdict}
+use Rattle.binder.specs.Verdict.{passed, first, verdict, no_file, words_verdict}
 use Rattle.binder.specs.Steps.PlainVerdict.{plain_entries, plain_object, plain_order}
-use Rattle.binder.specs.declared.Verdict.TheVariants.{Passed}
 use Rattle.binder.specs.Report.{object_words, order_words, has_undefined, first_undefined}
 use Rattle.binder.specs.Steps.Relocating.{left, started, image_in, turn_of, again_refusal, run_at, run_order, run_until}
 use Rattle.binder.specs.declared.report.Progress.{Progress}
@@ -138,7 +137,7 @@ module _ (setting : Setting) (size : ℕ) (table : List ℕ) (h pr : File) (fs :
   pub record Ended (order : List ℕ) (n : ℕ) (p' : Progress) (a' report' : List ℕ) : Type 0 where
     pub verdict_is : verdict p'.refusal p'.object ≡ plain_order setting.row S fl order
     pub bound_is :
-        plain_order setting.row S fl order ≡ Passed
+        plain_order setting.row S fl order ≡ passed
         → (mem a' ≡ bound S order) × (length a' ≡ size) × Going (order_words setting.row S fl order) (first_undefined setting.row S fl order) n p' report'
     pub lengths : (length a' ≡ size) × (length report' ≡ n)
 
@@ -190,7 +189,7 @@ module _ (setting : Setting) (size : ℕ) (table : List ℕ) (h pr : File) (fs :
         (run_order table os ks (left p a report))
     unfolding plain_order order_words first_undefined run run_order
     order_ran [] more o ws u m p a report b =
-        ran_passed size n Passed (Before more (ws ++ []) (earlier u 0) m) p a report refl b.going.refusal b.steady.size_is
+        ran_passed size n passed (Before more (ws ++ []) (earlier u 0) m) p a report refl b.going.refusal b.steady.size_is
         (going_length ws u n p report b.going)
         record { going = rw (append-nil ws, earlier_none u) b.going; memory = b.memory; steady = b.steady; rest = b.rest }
     order_ran (k ∷ ks) more o ws u m p a report b =
@@ -301,7 +300,7 @@ module _ (setting : Setting) (size : ℕ) (table : List ℕ) (h pr : File) (fs :
             ∙ ap (plain_entries setting.row S k i r) (sym (take_entries i r m (omega (arith, entries_length i r)))));
       }
     where
-      stays : (p : Progress) → verdict p.refusal p.object ≡ plain_order setting.row S fl front → p.refusal ≡ 0 → plain_order setting.row S fl front ≡ Passed
+      stays : (p : Progress) → verdict p.refusal p.object ≡ plain_order setting.row S fl front → p.refusal ≡ 0 → plain_order setting.row S fl front ≡ passed
       stays p v z = sym v ∙ verdict_none p.refusal p.object z
 
       times_here : (k : ℕ) (front back : List ℕ) → 0 < times k (front ++ (k ∷ back))

@@ -17,12 +17,10 @@ use Rattle.object.specs.declared.relocate.Relr.{Relr}
 use Rattle.object.specs.declared.relocate.Relr.TheVariants.{Address, Bitmap}
 use Rattle.scope.specs.declared.links.Link.{Link}
 use Rattle.binder.specs.declared.turn.Turn.{Turn}
-use Rattle.binder.specs.declared.relr.Moved.{Moved}
 use Rattle.binder.specs.Instance.{File, file_image, file_record, places_of, named_words}
 use Rattle.binder.specs.Setting.{Setting}
-use Rattle.binder.specs.Verdict.{first, verdict, word_refusal, words_verdict}
-use Rattle.binder.specs.declared.Verdict.{Verdict}
-use Rattle.binder.specs.Steps.Relocating.{image_in, far, cut_to32, Summed, summed, Shifted, shifted, word_added, add_bits, bits_added, add_relr, then_relr, add_relrs, summed_in, run_relrs, part_of, with_part, turn_of}
+use Rattle.binder.specs.Verdict.{first, verdict, word_refusal, words_verdict, Verdict}
+use Rattle.binder.specs.Steps.Relocating.{Moved, image_in, far, cut_to32, Summed, summed, Shifted, shifted, word_added, add_bits, bits_added, add_relr, then_relr, add_relrs, summed_in, run_relrs, part_of, with_part, turn_of}
 use Rattle.binder.proofs.InsideLaws.{writable_inside}
 use Rattle.binder.proofs.Runs.{first_assoc, first_met}
 use Rattle.binder.proofs.PartLaws.{with_same, part_with, with_again, word_added_lem}

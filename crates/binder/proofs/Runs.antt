@@ -1,9 +1,7 @@
 -- Steps of binding one after another, until a refusal: what a step left, and a step after it. Assumes nothing.
-use Rattle.std.proofs.Common.{◌≡◌, ℕ, Bool, true, false, eqb, List, length, sym, refl, ◌∙◌, eq-eqb, ne_eqb}
+use Rattle.std.proofs.Common.{◌≡◌, ℕ, Bool, true, false, eqb, List, length, sym, refl, ◌∙◌, eq-eqb, ne_eqb, Err}
 use Rattle.words.specs.Choice.{pick}
-use Rattle.binder.specs.Verdict.{first, verdict}
-use Rattle.binder.specs.declared.Verdict.{Verdict}
-use Rattle.binder.specs.declared.Verdict.TheVariants.{Passed, Refused}
+use Rattle.binder.specs.Verdict.{Verdict, passed, refused, first, verdict}
 use Rattle.binder.specs.Steps.Relocating.{Left, left, unless_refused}
 use Rattle.binder.specs.declared.report.Progress.{Progress}
 use Rattle.binder.proofs.OutcomeLaws.{refused_not, verdict_passed}
@@ -11,10 +9,10 @@ use Rattle.binder.proofs.OutcomeLaws.{refused_not, verdict_passed}
 -- ---- the first of two refusals
 
 pub first_assoc : (u v w : Verdict) → first (first u v) w ≡ first u (first v w)
-first_assoc Passed v w = refl
-first_assoc (Refused n k) v w = refl
+first_assoc passed v w = refl
+first_assoc (Err m) v w = refl
 
-pub verdict_none : (n k : ℕ) → n ≡ 0 → verdict n k ≡ Passed
+pub verdict_none : (n k : ℕ) → n ≡ 0 → verdict n k ≡ passed
 unfolding verdict
 verdict_none n k e = rw (eq-eqb n 0 e)
 
@@ -23,11 +21,11 @@ pub first_met : (n k : ℕ) (v : Verdict) → (n ≡ 0 → ⊥) → first (verdi
 unfolding verdict
 first_met n k v ne = rw (ne_eqb n 0 ne)
 
-picked : (t : Bool) (x o z k : ℕ) → pick t Passed (Refused x o) ≡ Refused z k → t ≡ false
+picked : (t : Bool) (x o z k : ℕ) → pick t passed (refused x o) ≡ refused z k → t ≡ false
 picked true x o z k e = refused_not z k (sym e)
 picked false x o z k e = refl
 
-met : (x o z k : ℕ) → verdict x o ≡ Refused z k → eqb x 0 ≡ false
+met : (x o z k : ℕ) → verdict x o ≡ refused z k → eqb x 0 ≡ false
 unfolding verdict
 met x o z k e = picked (eqb x 0) x o z k e
 
@@ -39,7 +37,7 @@ module _ (size n : ℕ) where
     pub verdict_is : verdict p.refusal p.object ≡ v
     pub arena_length : length a ≡ size
     pub report_length : length report ≡ n
-    pub done : v ≡ Passed → D p a report
+    pub done : v ≡ passed → D p a report
 
   abbrev pub Ran : Verdict → (Progress → List ℕ → List ℕ → Type 0) → Left → Type 0
   Ran v D (left p a report) = RanTo v D p a report
@@ -58,7 +56,7 @@ module _ (size n : ℕ) where
 
   -- none
   pub ran_passed :
-      (v : Verdict) (D : Progress → List ℕ → List ℕ → Type 0) (p : Progress) (a report : List ℕ) → v ≡ Passed
+      (v : Verdict) (D : Progress → List ℕ → List ℕ → Type 0) (p : Progress) (a report : List ℕ) → v ≡ passed
       → p.refusal ≡ 0 → length a ≡ size → length report ≡ n → D p a report → Ran v D (left p a report)
   ran_passed v D p a report e z la lr d =
       record {
@@ -85,12 +83,12 @@ module _ (size n : ℕ) where
       (v w : Verdict) (D E : Progress → List ℕ → List ℕ → Type 0) (next : Left → Left)
       → ((p : Progress) (a report : List ℕ) → D p a report → Ran w E (next (left p a report)))
       → (st : Left) → Ran v D st → Ran (first v w) E (unless_refused next st)
-  ran_then Passed w D E next f (left p a report) r =
+  ran_then passed w D E next f (left p a report) r =
       rw (eq-eqb p.refusal 0 (verdict_passed p.refusal p.object r.verdict_is)) (f p a report (r.done refl))
-  ran_then (Refused z k) w D E next f (left p a report) r = rw (met p.refusal p.object z k r.verdict_is)
+  ran_then (Err m) w D E next f (left p a report) r = rw (met p.refusal p.object m.number m.object r.verdict_is)
       record {
         verdict_is = r.verdict_is;
         arena_length = r.arena_length;
         report_length = r.report_length;
-        done = λ e. refused_not z k e;
+        done = λ e. refused_not m.number m.object e;
       }

@@ -1,5 +1,5 @@
 -- The searches over the table of links are the model's `resolve` and `resolve_copy`, where each link is that of its object. Assumes nothing.
-use Rattle.std.proofs.Common.{◌≡◌, ℕ, suc, ◌+◌, ◌-◌, ◌<◌, Bool, true, false, List, [], ◌∷◌, length, get_or, sym, refl, ap, ◌∙◌, subst, mod-eq_of_lt, arith}
+use Rattle.std.proofs.Common.{◌≡◌, ℕ, suc, ◌+◌, ◌-◌, ◌<◌, Bool, true, false, List, [], ◌∷◌, length, get_or, sym, refl, ap, ◌∙◌, subst, mod-eq_of_lt, arith, None, Some, Option}
 use Rattle.words.specs.Choice.{pick}
 use Rattle.words.specs.Words.{sum64}
 use Rattle.words.specs.Hash.{gnu_hash, elf_hash}
@@ -8,11 +8,9 @@ use Rattle.model.specs.Symbols.{address}
 use Rattle.model.specs.Objects.{Obj, Objs, obj, count}
 use Rattle.model.specs.Scope as model
 use Rattle.object.specs.declared.hash_tables.Definition.{Definition}
-use Rattle.object.specs.declared.hash_tables.Exported.{Exported}
-use Rattle.object.specs.declared.hash_tables.Exported.TheVariants as object
 use Rattle.scope.specs.declared.links.Link.{Link}
-use Rattle.scope.specs.declared.scope.Resolved.{Resolved}
-use Rattle.scope.specs.declared.scope.Resolved.TheVariants.{Absent, Found}
+use Rattle.scope.specs.declared.scope.Found.{Found}
+use Rattle.scope.specs.Steps.ScopeCode.{found}
 use Rattle.scope.specs.Steps.Links as links-specs
 use Rattle.scope.specs.Steps.Links.{link_at, links_from, count_in, address_in}
 use Rattle.binder.specs.Instance.{definition_of, exported_of}
@@ -20,27 +18,29 @@ use Rattle.scope.specs.Steps.ScopeCode as searches
 use Rattle.scope.specs.Steps.ScopeCode.{answer_at, scoped_by, protected_by, or_else, link_answer, own_answer, scan_links, resolve_links, resolve_copy_links}
 use Rattle.binder.specs.Steps.ScopeModel.{scoped_of, LinkOf, LinkedFor}
 
-scoped_else : (a b : Resolved) → scoped_of (or_else a b) ≡ model.or_else (scoped_of a) (scoped_of b)
+scoped_else : (a b : Option Found) → scoped_of (or_else a b) ≡ model.or_else (scoped_of a) (scoped_of b)
 unfolding searches.or_else scoped_of
-scoped_else Absent b = refl
-scoped_else (Found k d x) b = refl
+scoped_else None b = refl
+scoped_else (Some hit) b = refl
 
 -- ---- one object
 
-by_found : (k base : ℕ) (o : Obj) (a : Exported) → base ≡ o.base → scoped_of (scoped_by k base a) ≡ model.scope_answer k o (exported_of a)
+by_found : (k base : ℕ) (o : Obj) (a : Option Definition) → base ≡ o.base → scoped_of (scoped_by k base a) ≡ model.scope_answer k o (exported_of a)
 unfolding scoped_of searches.scoped_by model.scope_answer symbols.address
-by_found k base o object.Absent h = refl
-by_found k base o (object.Present d) h = rw h
+by_found k base o None h = refl
+by_found k base o (Some d) h = rw h
 
-picked : (k : ℕ) (d : Definition) (x : ℕ) (t : Bool) → scoped_of (pick t (Found k d x) Absent) ≡ pick t (symbols.answer k (definition_of d) x) symbols.absent
+picked : (hit : Found) (t : Bool) → scoped_of (pick t (Some hit) None) ≡ pick t (symbols.answer hit.object (definition_of hit.definition) hit.address) symbols.absent
 unfolding scoped_of
-picked k d x true = refl
-picked k d x false = refl
+picked hit true = refl
+picked hit false = refl
 
-by_protected : (k base : ℕ) (o : Obj) (a : Exported) → base ≡ o.base → scoped_of (protected_by k base a) ≡ model.protected_of k o (exported_of a)
-unfolding scoped_of searches.protected_by model.protected_of symbols.address
-by_protected k base o object.Absent h = refl
-by_protected k base o (object.Present d) h = rw h (picked k d (address o.base (definition_of d)) d.protected)
+by_protected :
+    (k base : ℕ) (o : Obj) (a : Option Definition) → base ≡ o.base → scoped_of (protected_by (scoped_by k base a)) ≡ model.protected_of k o (exported_of a)
+unfolding scoped_of searches.scoped_by searches.protected_by model.protected_of symbols.address
+by_protected k base o None h = refl
+by_protected k base o (Some d) h =
+    rw h (picked (record { object = k; definition = d; address = address o.base (definition_of d) }) d.protected)
 
 module _ (at : ℕ) (arena table name : List ℕ) where
   module _ (k : ℕ) (o : Obj) (s : Link) (h : LinkOf at arena o s) where
@@ -54,7 +54,7 @@ module _ (at : ℕ) (arena table name : List ℕ) where
         ∙ ap (model.scope_answer k o) (sym (h.find name))
 
     own_is : scoped_of (own_answer at arena k s name (gnu_hash name) (elf_hash name)) ≡ model.protected_of k o (o.find (symbols.by_name name))
-    unfolding searches.own_answer
+    unfolding searches.own_answer searches.link_answer
     own_is =
         by_protected k (sum64 at s.offset) o (answer_at arena s name (gnu_hash name) (elf_hash name)) base_is
         ∙ ap (model.protected_of k o) (sym (h.find name))

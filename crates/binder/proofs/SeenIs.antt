@@ -1,11 +1,12 @@
 -- The copies that the code finds over the placed arena are those of the entries that no refusal meets. Assumes nothing.
-use Rattle.std.proofs.Common.{◌≡◌, ℕ, suc, ◌+◌, ◌<◌, ◌≤◌, min, Bool, true, false, eqb, List, [], ◌∷◌, length, get_or, sym, refl, ap, ◌∙◌, subst, ⊎_elim, arith}
+use Rattle.std.proofs.Common.{◌≡◌, ℕ, suc, ◌+◌, ◌<◌, ◌≤◌, min, Bool, true, false, eqb, List, [], ◌∷◌, length, get_or, sym, refl, ap, ◌∙◌, subst, ⊎_elim, arith, Ok, Result, Option, None, Some}
 use Rattle.words.specs.Choice.{pick}
 use Rattle.model.specs.Symbols.{absent, answer}
 use Rattle.model.specs.Symbols as model
 use Rattle.model.specs.Objects.{Objs, count, obj}
 use Rattle.model.specs.Scope.{resolve_copy}
 use Rattle.model.proofs.Scope.{resolve_copy_range}
+use Rattle.words.specs.declared.refusal.Refusal.{Refusal}
 use Rattle.object.specs.Refusal.{require}
 use Rattle.object.specs.TableBytes.{in_writable}
 use Rattle.object.specs.Symbol.{symbol_at, symbol_name}
@@ -14,13 +15,10 @@ use Rattle.object.specs.Record.{Record, checked_symbol, name_of}
 use Rattle.object.specs.declared.symbol.Symbol.{Symbol}
 use Rattle.object.specs.declared.hash_tables.Definition.{Definition}
 use Rattle.object.specs.declared.relocate.Rela.{Rela}
-use Rattle.object.specs.declared.entry_symbol.CheckedSymbol.{CheckedSymbol}
-use Rattle.object.specs.declared.entry_symbol.CheckedSymbol.TheVariants.{Checked}
 use Rattle.sheet.specs.Sheet.{Input, no_input}
 use Rattle.scope.specs.Steps.Links.{link_at}
 use Rattle.scope.specs.declared.links.Link.{Link}
-use Rattle.scope.specs.declared.scope.Resolved.{Resolved}
-use Rattle.scope.specs.declared.scope.Resolved.TheVariants.{Absent, Found}
+use Rattle.scope.specs.declared.scope.Found.{Found}
 use Rattle.binder.specs.Setting.{Setting}
 use Rattle.binder.specs.Instance.{File, file_image, file_record, definition_of, relas_of, wanted_by}
 use Rattle.binder.specs.Copies.{copy_found, copy_by}
@@ -94,20 +92,20 @@ module _ (setting : Setting) (size : ℕ) (table : List ℕ) (h pr : File) (fs :
             rw (fits, z, link_offset k hi, link_offset o ol)
 
         by :
-            (x : model.Resolved) (s : Resolved) → scoped_of s ≡ x → ((o : ℕ) (z : model.Definition) (v : ℕ) → x ≡ answer o z v → o < count S)
+            (x : model.Resolved) (s : Option Found) → scoped_of s ≡ x → ((o : ℕ) (z : model.Definition) (v : ℕ) → x ≡ answer o z v → o < count S)
             → (e : Rela) → e.place ≡ p → copy_refusal S k r p y.size x ≡ 0 → copy_found S k p y.size x ≡ one_copy (copy_to table (length a) t e y s)
         unfolding scoped_of copy_refusal copy_found copy_to one_copy
-        by x Absent eq range e is z = rw (← eq)
-        by x (Found o d v) eq range e is z =
+        by x None eq range e is z = rw (← eq)
+        by x (Some hit) eq range e is z =
             rw (is, ← eq)
-            (found o (range o (definition_of d) v (sym eq)) d v (eqb (min y.size d.size) 0) refl
+            (found hit.object (range hit.object (definition_of hit.definition) hit.address (sym eq)) hit.definition hit.address (eqb (min y.size hit.definition.size) 0) refl
             (subst (λ (x : model.Resolved). copy_refusal S k r p y.size x ≡ 0) (sym eq) z))
 
       image_is : image_in a t ≡ image
       image_is = at_place k hi
 
       checked :
-          (e : Rela) (c : CheckedSymbol) → checked_symbol image r e.symbol ≡ c
+          (e : Rela) (c : Result Symbol Refusal) → checked_symbol image r e.symbol ≡ c
           → symbol_then c (λ y. copy_refusal S k r e.place y.size (resolve_copy S (wanted_by image r e.symbol))) ≡ 0
           → copy_found S k e.place (symbol_at image r.symbols e.symbol).size (resolve_copy S (wanted_by image r e.symbol))
           ≡ one_copy (copy_checked table a t r e c)
@@ -116,16 +114,16 @@ module _ (setting : Setting) (size : ℕ) (table : List ℕ) (h pr : File) (fs :
           ⊎_elim
           (λ s.
           let y : Symbol = symbol_at image r.symbols e.symbol in
-          let same : c ≡ Checked y = sym is ∙ s.0 in
-          let z' = subst (λ (c : CheckedSymbol). symbol_then c (λ y. copy_refusal S k r e.place y.size (resolve_copy S (wanted_by image r e.symbol))) ≡ 0) same z in
+          let same : c ≡ Ok y = sym is ∙ s.0 in
+          let z' = subst (λ (c : Result Symbol Refusal). symbol_then c (λ y. copy_refusal S k r e.place y.size (resolve_copy S (wanted_by image r e.symbol))) ≡ 0) same z in
           let name : name_of (image_in a t) r y ≡ symbol_name image r.symbols r.strings e.symbol =
           ap (λ (i : List ℕ). name_of i r y) image_is ∙ name_is image r e.symbol in
-          subst (λ (c : CheckedSymbol). copy_found S k e.place y.size (resolve_copy S (wanted_by image r e.symbol)) ≡ one_copy (copy_checked table a t r e c)) (sym same)
+          subst (λ (c : Result Symbol Refusal). copy_found S k e.place y.size (resolve_copy S (wanted_by image r e.symbol)) ≡ one_copy (copy_checked table a t r e c)) (sym same)
           (by e.place y (resolve_copy S (wanted_by image r e.symbol)) (sought_for_copy table a (name_of (image_in a t) r y))
           (ap (λ (x : List ℕ). scoped_of (sought_for_copy table a x)) name ∙ copy_searches setting size table h pr fs L a steady (symbol_name image r.symbols r.strings e.symbol))
           (λ o d v q. (resolve_copy_range S (wanted_by image r e.symbol) o d v q).0) e refl z'))
           (λ s.
-          absurd (s.1 (subst (λ (c : CheckedSymbol). symbol_then c (λ y. copy_refusal S k r e.place y.size (resolve_copy S (wanted_by image r e.symbol))) ≡ 0) (sym is ∙ s.2) z)))
+          absurd (s.1 (subst (λ (c : Result Symbol Refusal). symbol_then c (λ y. copy_refusal S k r e.place y.size (resolve_copy S (wanted_by image r e.symbol))) ≡ 0) (sym is ∙ s.2) z)))
           (symbol_case image r e.symbol)
 
       by_row :

@@ -14,9 +14,8 @@ use Rattle.object.specs.TableBytes.{in_writable}
 use Rattle.object.specs.RelocationTypes.{Row}
 use Rattle.binder.specs.Setting.{Setting}
 use Rattle.binder.specs.Instance.{File, file_image, file_record, places_of, named_words, relas_of, entry_of, object_at, object_from}
-use Rattle.binder.specs.Verdict.{no_file, words_verdict}
+use Rattle.binder.specs.Verdict.{passed, no_file, words_verdict}
 use Rattle.binder.specs.Steps.PlainVerdict.{plain_entries, plain_object, plain_order}
-use Rattle.binder.specs.declared.Verdict.TheVariants.{Passed}
 use Rattle.binder.specs.Steps.Prepared.{load_from}
 use Rattle.binder.proofs.OutcomeLaws.{first_passed}
 use Rattle.binder.proofs.OffsetLaws.{made_after}
@@ -27,7 +26,7 @@ use Rattle.binder.proofs.InsideLaws.{writable_inside, words_inside, entries_insi
 -- ---- the objects fit the arena
 
 pub set_fits :
-    (setting : Setting) (size : ℕ) (h p : File) (fs : List File) → load_from setting size 0 0 (h ∷ (p ∷ fs)) ≡ Passed
+    (setting : Setting) (size : ℕ) (h p : File) (fs : List File) → load_from setting size 0 0 (h ∷ (p ∷ fs)) ≡ passed
     → Fits (objs_of (object_from setting) h p fs) size
 set_fits setting size h p fs v k l =
     let t = object_lies setting size h p fs v k l in
@@ -36,14 +35,14 @@ set_fits setting size h p fs v k l =
 -- ---- every object of the order is checked
 
 pub order_checked :
-    (row : ℕ → Row) (S : Objs) (files : List File) (order : List ℕ) → plain_order row S files order ≡ Passed → (k : ℕ) → 0 < times k order
-    → plain_object row S k (get_or files k no_file) ≡ Passed
+    (row : ℕ → Row) (S : Objs) (files : List File) (order : List ℕ) → plain_order row S files order ≡ passed → (k : ℕ) → 0 < times k order
+    → plain_object row S k (get_or files k no_file) ≡ passed
 unfolding plain_order
 order_checked row S files [] v k h = absurd (omega arith)
 order_checked row S files (j ∷ js) v k h =
     let a = first_passed (plain_object row S j (get_or files j no_file)) (plain_order row S files js) v in
     ⊎_elim
-    (λ (t : eqb j k ≡ true). subst (λ (i : ℕ). plain_object row S i (get_or files i no_file) ≡ Passed) (eqb-true j k t) a.0)
+    (λ (t : eqb j k ≡ true). subst (λ (i : ℕ). plain_object row S i (get_or files i no_file) ≡ passed) (eqb-true j k t) a.0)
     (λ (t : eqb j k ≡ false). order_checked row S files js a.1 k (rw t at h))
     (decide (eqb j k))
 
@@ -73,9 +72,9 @@ from_pick false xs m = m
 
 -- ---- the set
 
-module _ (setting : Setting) (size : ℕ) (h p : File) (fs : List File) (v : load_from setting size 0 0 (h ∷ (p ∷ fs)) ≡ Passed) (order : List ℕ)
+module _ (setting : Setting) (size : ℕ) (h p : File) (fs : List File) (v : load_from setting size 0 0 (h ∷ (p ∷ fs)) ≡ passed) (order : List ℕ)
     (once : OnceEach (count (objs_of (object_from setting) h p fs)) order)
-    (w : plain_order setting.row (objs_of (object_from setting) h p fs) (h ∷ (p ∷ fs)) order ≡ Passed) where
+    (w : plain_order setting.row (objs_of (object_from setting) h p fs) (h ∷ (p ∷ fs)) order ≡ passed) where
   abbrev set : Objs
   set = objs_of (object_from setting) h p fs
 
@@ -84,8 +83,8 @@ module _ (setting : Setting) (size : ℕ) (h p : File) (fs : List File) (v : loa
 
   checked :
       (k : ℕ) → 1 ≤ k → k < count set
-      → (words_verdict k (file_record (file k)) (named_words (file_image (file k)) (file_record (file k))) ≡ Passed)
-      × (plain_entries setting.row set k (file_image (file k)) (file_record (file k)) (relas_of (file_image (file k)) (file_record (file k))) ≡ Passed)
+      → (words_verdict k (file_record (file k)) (named_words (file_image (file k)) (file_record (file k))) ≡ passed)
+      × (plain_entries setting.row set k (file_image (file k)) (file_record (file k)) (relas_of (file_image (file k)) (file_record (file k))) ≡ passed)
   unfolding plain_object
   checked k a b =
       first_passed (words_verdict k (file_record (file k)) (named_words (file_image (file k)) (file_record (file k)))) _

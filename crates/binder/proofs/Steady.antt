@@ -12,8 +12,7 @@ use Rattle.object.specs.declared.hash_tables.Definition.{Definition}
 use Rattle.model.specs.Symbols.{by_name}
 use Rattle.binder.specs.Instance.{File, file_image, file_record, definition_of, object_from}
 use Rattle.binder.specs.Setting.{Setting}
-use Rattle.binder.specs.Verdict.{no_file, copy_ok}
-use Rattle.binder.specs.declared.Verdict.TheVariants.{Passed}
+use Rattle.binder.specs.Verdict.{passed, no_file, copy_ok}
 use Rattle.scope.specs.Steps.Links.{link_at, count_in, address_in}
 use Rattle.binder.specs.Steps.Prepared.{load_from, link_of, place_files, Linked}
 use Rattle.scope.specs.Steps.ScopeCode.{image_at}
@@ -37,7 +36,7 @@ module _ (setting : Setting) (size : ℕ) (table : List ℕ) (h p : File) (fs : 
   -- refusals 2, 4 to 12 and 21 were passed, and the table has the links, the count, the address and the words of the types
   pub record LoadedSet : Type 0 where
     pub others : (k : ℕ) → 1 ≤ k → k < count set → (file_at k).host ≡ false
-    pub loads : load_from setting size 0 0 files ≡ Passed
+    pub loads : load_from setting size 0 0 files ≡ passed
     pub links : Linked setting table 0 0 files
     pub counted : count_in table ≡ count set
     pub addressed : address_in table ≡ address

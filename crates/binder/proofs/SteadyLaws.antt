@@ -1,4 +1,5 @@
 -- What stays in an arena while a loaded set is relocated: the laws that Steady states. Assumes nothing.
+use Rattle.std.specs.Prelude.{Option, None, Some}
 use Rattle.std.proofs.Common.{◌≡◌, ℕ, zero, suc, ◌+◌, ◌-◌, ◌*◌, ◌/◌, ◌%◌, ◌^◌, ◌<◌, ◌≤◌, Bool, true, false, not, eqb, ltb, leb, ◌⊎◌, List, [], ◌∷◌, length, get_or, sym, refl, ap, ◌∙◌, subst, inl, inr, ⊎_elim, true≢false, mod-eq_of_lt, arith, length-drop, length-take, eqb-true, le-leb, leb-true}
 use native.Mathlib.Decide.{dec_lt, ℕ_discrete}
 use Rattle.words.specs.Choice.{pick, both, either, every, some}
@@ -26,8 +27,6 @@ use Rattle.object.specs.Placed as placing
 use Rattle.object.specs.Loaded.{object_refusal}
 use Rattle.object.specs.Loaded as loading
 use Rattle.object.specs.declared.program_header.Segment.{Segment}
-use Rattle.object.specs.declared.program_header.Dynamic.{Dynamic}
-use Rattle.object.specs.declared.program_header.Dynamic.TheVariants.{Missing, At}
 use Rattle.object.proofs.LoadedLaws.{record_span}
 use Rattle.object.proofs.Ranges.{spares, seg_in, below_at, table_inside}
 use Rattle.object.proofs.RefusalLaws.{required, after_zero}
@@ -84,11 +83,11 @@ file_span f = record_span f.host f.bytes
 
 -- refusals 9 to 12 passed: what is read is table bytes
 read_tables :
-    (host : Bool) (image : List ℕ) (ss : List Segment) (d : Dynamic) → read_refusal host image ss d ≡ 0
+    (host : Bool) (image : List ℕ) (ss : List Segment) (d : Option ℕ) → read_refusal host image ss d ≡ 0
     → tables_ok host image (records.record_at image ss d) ≡ true
 unfolding records.read_refusal records.record_at
-read_tables host image ss Missing e = absurd (omega arith)
-read_tables host image ss (At at) e =
+read_tables host image ss None e = absurd (omega arith)
+read_tables host image ss (Some at) e =
     let a = after_zero (fields_refusal (ends_inside image at) (fields_of image at)) _ e in
     let b = required (leb (length (needed_offsets image at)) 64) 10 _ a.1 in
     (required (tables_ok host image (record_in image ss (fields_of image at) (needed_offsets image at))) 11 0 b.1).0
@@ -358,7 +357,7 @@ module _ (setting : Setting) (size : ℕ) (table : List ℕ) (h p : File) (fs : 
   unfolding again_refusal loading.object_record
   again s a k g l placed =
       let f : File = file_at k in
-      let d : Dynamic = dynamic_of f.bytes in
+      let d : Option ℕ = dynamic_of f.bytes in
       let host : f.host ≡ false = s.others k g l in
       let loaded = (lies s k l).object.loads in
       let room : ℕ = size - (obj set k).offset in

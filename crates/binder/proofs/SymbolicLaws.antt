@@ -1,6 +1,6 @@
 -- One turn of a run of entries that are Symbolic whose places lie in one writable segment, and whose symbols need no further test:
 -- specs/RunSteps.antt. Assumes nothing.
-use Rattle.std.proofs.Common.{◌≡◌, ℕ, ◌+◌, ◌*◌, ◌%◌, ◌^◌, ◌<◌, ◌≤◌, Bool, true, false, eqb, List, sym, refl, ap, ◌∙◌, arith, eqb-true}
+use Rattle.std.proofs.Common.{◌≡◌, ℕ, ◌+◌, ◌*◌, ◌%◌, ◌^◌, ◌<◌, ◌≤◌, Bool, true, false, eqb, List, sym, refl, ap, ◌∙◌, arith, eqb-true, Ok, Option, None, Some}
 use Rattle.words.specs.Choice.{pick}
 use Rattle.words.specs.Memory.{mem, patch}
 use Rattle.words.specs.Words.{le_at, byte_of}
@@ -19,10 +19,8 @@ use Rattle.object.specs.Steps.WritableRange.{WritableRange}
 use Rattle.object.specs.declared.symbol.Symbol.{Symbol}
 use Rattle.object.specs.declared.relocate.Rela.{Rela}
 use Rattle.object.specs.declared.relocate.Action.TheVariants.{Symbolic}
-use Rattle.object.specs.declared.entry_symbol.CheckedSymbol.TheVariants.{Checked}
 use Rattle.object.proofs.FineLaws.{fine_checked}
-use Rattle.scope.specs.declared.scope.Resolved.{Resolved}
-use Rattle.scope.specs.declared.scope.Resolved.TheVariants.{Absent, Found}
+use Rattle.scope.specs.declared.scope.Found.{Found}
 use Rattle.binder.specs.declared.report.Progress.{Progress}
 use Rattle.binder.specs.declared.turn.Turn.{Turn}
 use Rattle.binder.specs.declared.relocate.Symbols.{Symbols}
@@ -107,7 +105,7 @@ module _
           rw (of.symbols, index_here)
           (number_in t a 4 (y.symbols + 24 * index + 0) (t.offset + y.symbols + 24 * index) (omega (arith, here.few)) (omega arith) here.name_is)
 
-      checked : checked_symbol (image_in a t) r e.symbol ≡ Checked y_here
+      checked : checked_symbol (image_in a t) r e.symbol ≡ Ok y_here
       checked = fine_checked (image_in a t) r y.fits y.ends of.fine e.symbol (omega (arith, index_here, here.few)) (omega (arith, name_here, here.named))
 
       module _ (p : Progress) (report : List ℕ) (i : ℕ) where
@@ -120,15 +118,15 @@ module _
         field_here v q' h = rw (wide_fits field (written_number t e calculation v) here.wide, written, here.wide, place_here, addend_here, h)
 
         -- the search found it
-        sought : (x : Resolved) → At found ≡ address_found x → left (keeps (e.symbol + 1) found p) b report ≡ write_sought t e calculation i (sought_by y_here x) q a report
+        sought : (x : Option Found) → At found ≡ address_found x → left (keeps (e.symbol + 1) found p) b report ≡ write_sought t e calculation i (sought_by y_here x) q a report
         unfolding write_sought
-        sought Absent h = at_nowhere found h
-        sought (Found o d v) h =
-            rw (at_same found v h) (ap (with_report report) (field_here v (keeps (e.symbol + 1) v p) (at_same found v h)))
+        sought None h = at_nowhere found h
+        sought (Some hit) h =
+            rw (at_same found hit.address h) (ap (with_report report) (field_here hit.address (keeps (e.symbol + 1) hit.address p) (at_same found hit.address h)))
 
-        answered : (c : Bool) → eqb s.last (e.symbol + 1) ≡ c → (x : Resolved) → At found ≡ pick c (At s.address) (address_found x)
+        answered : (c : Bool) → eqb s.last (e.symbol + 1) ≡ c → (x : Option Found) → At found ≡ pick c (At s.address) (address_found x)
             → left (keeps (e.symbol + 1) found p) b report
-            ≡ write_sought t e calculation i (pick c (Known s.address) (sought_by y_here x)) q a report
+            ≡ write_sought t e calculation i (pick c (Ok (Known s.address)) (sought_by y_here x)) q a report
         unfolding write_sought
         answered true h x g =
             rw (← eqb-true s.last (e.symbol + 1) h, at_same found s.address g)

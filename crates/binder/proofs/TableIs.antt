@@ -11,9 +11,8 @@ use Rattle.object.specs.Record.{Record}
 use Rattle.object.specs.declared.relocate.Rela.{Rela}
 use Rattle.binder.specs.Instance.{File, file_image, file_record, relas_of, entry_of}
 use Rattle.binder.specs.Setting.{Setting}
-use Rattle.binder.specs.Verdict.{first, verdict, entry_refusal}
+use Rattle.binder.specs.Verdict.{passed, first, verdict, entry_refusal}
 use Rattle.binder.specs.Steps.PlainVerdict.{plain_entries}
-use Rattle.binder.specs.declared.Verdict.TheVariants.{Passed}
 use Rattle.binder.specs.Report.{report_word, is_undefined, is_passed, entry_report}
 use Rattle.binder.specs.Steps.Relocating.{left, unless_refused, image_in, cut_to32, turn_of, run_action, run_table, run_tables, row_at}
 use Rattle.binder.specs.declared.turn.Turn.{Turn}
@@ -165,7 +164,7 @@ module _ (setting : Setting) (size : ℕ) (table : List ℕ) (h pr : File) (fs :
         (run_table table t r at start c j (left p a report))
     unfolding run_table relas_from plain_entries entry_report some effects
     table_ran zero i j e b ws u m p a report d =
-        plain setting size table h pr fs L k lo hi n a₀ ws u m p a report d Passed m a refl d.written d.memory
+        plain setting size table h pr fs L k lo hi n a₀ ws u m p a report d passed m a refl d.written d.memory
     table_ran (suc c) i j e b ws u m p a report d =
         ran_then size n (verdict (entry_refusal row S k image r (rela_at image at j)) k) (plain_entries row S k image r (relas_from image at (j + 1) c))
         (Does (ws ++ entry_word row S k image r i (rela_at image at j)) (earlier u (pick (is_undefined row S k image r (rela_at image at j)) k 0))

@@ -14,9 +14,7 @@ use Rattle.scope.specs.Steps.Links.{count_in, Filtered}
 use Rattle.scope.proofs.LinkLaws.{link_same, filter_same}
 use Rattle.binder.specs.Setting.{Setting, setting_of, setting_at}
 use Rattle.binder.specs.Instance.{File, offset_of}
-use Rattle.binder.specs.Verdict.{first, verdict}
-use Rattle.binder.specs.declared.Verdict.{Verdict}
-use Rattle.binder.specs.declared.Verdict.TheVariants.{Passed}
+use Rattle.binder.specs.Verdict.{Verdict, passed, first, verdict}
 use Rattle.binder.specs.Bind.{files_of, unless, prepare_verdict, types_verdict}
 use Rattle.binder.specs.Steps.Prepared.{load_from, place_files, Linked, Prepared}
 use Rattle.binder.specs.Steps.Relocating.{row_at}
@@ -144,7 +142,7 @@ module _ (address : ℕ) (words : List ℕ) (os : List Input) (before after : Li
   made v table e p = prepared_as setting (types_verdict setting) os before after table r (subst (λ (w : Verdict). Prepared (setting_at address) w os before after table r) e p)
 
   -- there are 64 words
-  pub all_words : (table : List ℕ) → Made table → r ≡ Passed → length words ≡ 64
+  pub all_words : (table : List ℕ) → Made table → r ≡ passed → length words ≡ 64
   unfolding types_ok
   all_words table p z =
       eqb-true (length words) 64

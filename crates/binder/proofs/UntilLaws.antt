@@ -1,16 +1,16 @@
 -- An object's turn up to an entry, and what is met before a copy that crosses an earlier one. Assumes nothing.
-use Rattle.std.proofs.Common.{◌≡◌, ℕ, ◌+◌, ◌-◌, ◌<◌, min, true, false, List, length, get_or, take, sym, refl, ap, ◌∙◌, ⊎_elim, true≢false, arith, get_or-take, take-take, eq-eqb, ne_eqb}
+use Rattle.std.proofs.Common.{◌≡◌, ℕ, ◌+◌, ◌-◌, ◌<◌, min, true, false, List, length, get_or, take, sym, ap, ◌∙◌, ⊎_elim, true≢false, eq-eqb, ne_eqb, Err}
 use Rattle.object.specs.Record.{Record}
 use Rattle.sheet.specs.Sheet.{Input, no_input}
-use Rattle.binder.specs.Verdict.{first, verdict}
-use Rattle.binder.specs.declared.Verdict.{Verdict}
-use Rattle.binder.specs.declared.Verdict as verdicts
+use Rattle.binder.specs.Verdict.{Verdict, refused, first, verdict, passed}
 use Rattle.binder.specs.declared.report.Progress.{Progress}
 use Rattle.binder.specs.declared.turn.Turn.{Turn}
 use Rattle.binder.specs.declared.crossing.Crossing.{Crossing}
 use Rattle.binder.specs.Steps.Relocating.{Left, left, summed, started, refused_by, keeps, image_in, turn_of, cut_to32, again_refusal}
 use Rattle.binder.specs.Steps.Relocating.{again_record, run_relrs, run_table, until_tables, run_order, run_until}
 use Rattle.binder.specs.Steps.Crossing.{PlainlyApart, FirstCrossing, CrossingIn}
+use Rattle.binder.specs.declared.Refused.{Refused}
+use Rattle.binder.proofs.OutcomeLaws.{verdict_met}
 use Rattle.binder.specs.Steps.Finished.{UntilReadable, Crossed}
 
 -- ---- an object up to an entry
@@ -59,52 +59,45 @@ module _ (table : List ℕ) (k : ℕ) (file : List ℕ) (m : ℕ) (p : Progress)
 
 -- ---- 28, or what is met before it
 
-module _ (os : List Input) (table list : List ℕ) (n i j : ℕ) (arena report : List ℕ) (l : i < n) where
-  cut_twice : take i (take n list) ≡ take i list
-  cut_twice = take-take i n list (omega arith)
-
-  module _ (p : Progress) (a notes : List ℕ) (run : left p a notes ≡ run_order table os (take i list) (left started arena report)) where
-    run_front : left p a notes ≡ run_order table os (take i (take n list)) (left started arena report)
-    run_front = run ∙ ap (λ (ks : List ℕ). run_order table os ks (left started arena report)) (sym cut_twice)
-
+module _ (os : List Input) (table ks : List ℕ) (i j : ℕ) (arena report : List ℕ) where
+  module _ (p : Progress) (a notes : List ℕ) (run : left p a notes ≡ run_order table os (take i ks) (left started arena report)) where
     pub crossed_early :
-        (p.refusal ≡ 0 → ⊥) → Crossed os table (take n list) i j arena report (verdicts.TheVariants.Refused p.refusal p.object)
-    crossed_early h =
-        record { progress = p; before = a; notes = notes; leaves = run_front; stopped = λ _. refl; until = λ z. absurd (h z) }
+        (d : Refused) → Err d ≡ verdict p.refusal p.object → Crossed os table ks i j arena report (Err d)
+    crossed_early d e =
+        let h = verdict_met p.refusal p.object d e in
+        record { progress = p; before = a; notes = notes; leaves = run; stopped = λ _. h.1; until = λ z. absurd (h.0 z) }
 
-    module _ (z : p.refusal ≡ 0) (read : UntilReadable os table (take n list) i arena report) {k : ℕ} (is : k ≡ get_or list i 0)
+    module _ (z : p.refusal ≡ 0) (read : UntilReadable os table ks i arena report) {k : ℕ} (is : k ≡ get_or ks i 0)
         {file : List ℕ} (f : file ≡ (get_or os k no_input).file) {q : Progress} {a' notes' : List ℕ}
         (run_to : again_refusal (image_in a (turn_of table k)) file ≡ 0 → left q a' notes' ≡ run_until table k file (j + 1) p a notes) where
-      same : get_or (take n list) i 0 ≡ k
-      same = get_or-take n list i 0 l ∙ sym is
+      same : get_or ks i 0 ≡ k
+      same = sym is
 
       readable : again_refusal (image_in a (turn_of table k)) file ≡ 0
-      readable = let r = read p a notes run_front z in rw f (rw same at r)
+      readable = let r = read p a notes run z in rw f (rw same at r)
 
-      runs : left q a' notes' ≡ run_until table (get_or (take n list) i 0) (get_or os (get_or (take n list) i 0) no_input).file (j + 1) p a notes
+      runs : left q a' notes' ≡ run_until table (get_or ks i 0) (get_or os (get_or ks i 0) no_input).file (j + 1) p a notes
       runs = rw (same, ← f) (run_to readable)
 
       with_28 :
-          (m : Verdict) → m ≡ first (verdict q.refusal q.object) (verdicts.TheVariants.Refused 28 (get_or (take n list) i 0))
-          → Crossed os table (take n list) i j arena report m
+          (m : Verdict) → m ≡ first (verdict q.refusal q.object) (refused 28 (get_or ks i 0))
+          → Crossed os table ks i j arena report m
       with_28 m e =
           record {
             progress = p;
             before = a;
             notes = notes;
-            leaves = run_front;
+            leaves = run;
             stopped = λ h. absurd (h z);
             until = λ _. (q, a', notes', runs, e);
           }
 
       pub crossed_there :
-          (q.refusal ≡ 0 → ⊥) → Crossed os table (take n list) i j arena report (verdicts.TheVariants.Refused q.refusal q.object)
-      unfolding verdict
-      crossed_there h = with_28 (verdicts.TheVariants.Refused q.refusal q.object) (rw (ne_eqb q.refusal 0 h))
+          (d : Refused) → Err d ≡ verdict q.refusal q.object → Crossed os table ks i j arena report (Err d)
+      crossed_there d e = with_28 (Err d) (rw (← e))
 
-      pub crossed_28 : q.refusal ≡ 0 → Crossed os table (take n list) i j arena report (verdicts.TheVariants.Refused 28 k)
-      unfolding verdict
-      crossed_28 h = with_28 (verdicts.TheVariants.Refused 28 k) (rw (eq-eqb q.refusal 0 h, same))
+      pub crossed_28 : passed ≡ verdict q.refusal q.object → Crossed os table ks i j arena report (refused 28 k)
+      crossed_28 e = with_28 (refused 28 k) (rw (← e, same))
 
 -- what was found is of an object of the order
 pub crossing_index :

@@ -1,5 +1,5 @@
 -- The walk over the copies of an order, round by round: what it keeps and what it finds. Assumes nothing.
-use Rattle.std.proofs.Common.{◌≡◌, ℕ, suc, ◌+◌, ◌-◌, ◌*◌, ◌<◌, ◌≤◌, min, Bool, true, false, ltb, leb, List, [], ◌∷◌, ◌++◌, length, get_or, take, drop, sym, refl, ap, ◌∙◌, subst, append_assoc, append-nil, arith, length-append, take-append-drop, take_all, get_or-take, take-suc, eq-eqb, ne_eqb, leb-false, leb-true}
+use Rattle.std.proofs.Common.{◌≡◌, ℕ, suc, ◌+◌, ◌-◌, ◌*◌, ◌<◌, ◌≤◌, min, Bool, true, false, ltb, leb, List, [], ◌∷◌, ◌++◌, length, get_or, take, drop, sym, refl, ap, ◌∙◌, subst, append_assoc, append-nil, arith, length-append, take-append-drop, take_all, take-suc, eq-eqb, ne_eqb, leb-false, leb-true}
 use lib.Seq.{split_at}
 use Rattle.words.specs.Choice.{pick, both, some}
 use Rattle.object.specs.Record.{Record}
@@ -15,7 +15,7 @@ use Rattle.binder.specs.declared.crossing.Copy.{Copy}
 use Rattle.binder.specs.declared.crossing.Scan.{Scan}
 use Rattle.binder.specs.declared.crossing.Crossing.{Crossing}
 use Rattle.binder.proofs.ApartLaws.{bool_clash, some_part, apart_left, apart_one, apart_more, apart_all}
-use Rattle.binder.proofs.CrossCode.{take_long, kept_none, kept_next}
+use Rattle.binder.proofs.CrossCode.{kept_none, kept_next}
 
 -- ---- entries, one after another
 
@@ -284,17 +284,15 @@ module _ (table : List ℕ) (os : List Input) (a : List ℕ) (ks : List ℕ) whe
   search_ends first m s l =
       record { quiet = apart_all first [] (Met m.hit m.index m.entry) (omega (arith, s.count)) s.apart; met = s.met }
 
--- the walk over the object at the place `i` of an order that the code has as a list
+-- the walk over the object at the place `i` of an order
 pub walk_here :
-    (table : List ℕ) (os : List Input) (a list : List ℕ) (n i : ℕ) → n ≤ length list → i < n
+    (table : List ℕ) (os : List Input) (a ks : List ℕ) (i : ℕ) → i < length ks
     → (first seen : ℕ) (kept kept' : List ℕ) (r : Scan) {file : List ℕ}
-    → file ≡ (get_or os (get_or list i 0) no_input).file
-    → (again_refusal (image_in a (turn_of table (get_or list i 0))) file ≡ 0
-    → WalksOn first seen kept (seen_of table a (turn_of table (get_or list i 0)) (again_record (image_in a (turn_of table (get_or list i 0))) file))
-    (entries_of (image_in a (turn_of table (get_or list i 0))) (again_record (image_in a (turn_of table (get_or list i 0))) file)) kept' r)
-    → Readable table os a (take n list)
-    → WalksOn first seen kept (seen_at table os a (get_or (take n list) i 0)) (entries_at table os a (get_or (take n list) i 0)) kept' r
-walk_here table os a list n i long l first seen kept kept' r f walk read =
-    let e : get_or (take n list) i 0 ≡ get_or list i 0 = get_or-take n list i 0 l in
-    let z = rw e at (read i (omega (arith, take_long list n long))) in
-    rw (e, ← f) (walk (rw f z))
+    → file ≡ (get_or os (get_or ks i 0) no_input).file
+    → (again_refusal (image_in a (turn_of table (get_or ks i 0))) file ≡ 0
+    → WalksOn first seen kept (seen_of table a (turn_of table (get_or ks i 0)) (again_record (image_in a (turn_of table (get_or ks i 0))) file))
+    (entries_of (image_in a (turn_of table (get_or ks i 0))) (again_record (image_in a (turn_of table (get_or ks i 0))) file)) kept' r)
+    → Readable table os a ks
+    → WalksOn first seen kept (seen_at table os a (get_or ks i 0)) (entries_at table os a (get_or ks i 0)) kept' r
+walk_here table os a ks i l first seen kept kept' r f walk read =
+    rw (← f) (walk (rw f (read i l)))

@@ -1,7 +1,7 @@
 -- What `bind` and `query` answer, and what they leave in arena and report: from their arguments alone, refused calls too. Document 01,
 -- "Refused, in checking order", "Relocated bytes and report", "An address for a name" (the public query); demand 1, "a refusal leaves zeros
 -- in arena and report". Assumes nothing.
-use Rattle.std.specs.Prelude.{ℕ, ◌-◌, Bool, true, false, List, [], ◌∷◌, ◌++◌, map, length, drop, replicate, ◌==◌, nat_le, nat_lt}
+use Rattle.std.specs.Prelude.{ℕ, ◌-◌, Bool, true, false, List, [], ◌∷◌, ◌++◌, map, length, drop, replicate, ◌==◌, nat_le, nat_lt, Option, Some, None, Result, Ok, Err}
 use Rattle.words.specs.Choice.{pick}
 use Rattle.words.specs.Memory.{tab}
 use Rattle.model.specs.Symbols.{by_name, absent, answer}
@@ -12,17 +12,13 @@ use Rattle.model.specs.Relocation.{placed, bound}
 use Rattle.model.specs.Layout.{objs_of}
 use Rattle.binder.specs.declared.Policy.{Policy}
 use Rattle.binder.specs.declared.Policy.TheVariants.{Strict, Lenient}
-use Rattle.binder.specs.declared.Answer.{Answer}
-use Rattle.binder.specs.declared.Answer as answers
-use Rattle.binder.specs.declared.Reply.{Reply}
-use Rattle.binder.specs.declared.Reply as replies
+use Rattle.binder.specs.declared.Found.{Found}
+use Rattle.binder.specs.declared.Refused.{Refused}
 use Rattle.object.specs.RelocationTypes.{Row}
 use Rattle.sheet.specs.Sheet.{Input, sheet_ok, set_of, arena_ok, duplicate_of}
 use Rattle.binder.specs.Setting.{Setting}
 use Rattle.binder.specs.Instance.{File, object_from}
-use Rattle.binder.specs.Verdict.{first, no_file, load_verdict, order_verdict}
-use Rattle.binder.specs.declared.Verdict.{Verdict}
-use Rattle.binder.specs.declared.Verdict.TheVariants.{Passed, Refused}
+use Rattle.binder.specs.Verdict.{Verdict, passed, refused, first, no_file, load_verdict, order_verdict}
 use Rattle.binder.specs.Report.{order_words, first_undefined}
 use Rattle.binder.specs.SetOrder.{set_order}
 
@@ -44,7 +40,7 @@ objects_of setting (h ∷ (p ∷ fs)) = objs_of (object_from setting) h p fs
 
 -- refusal `n`, object `k`, unless the test holds
 unfoldable pub unless : Bool → ℕ → ℕ → Verdict
-unless t n k = pick t Passed (Refused n k)
+unless t n k = pick t passed (refused n k)
 
 -- 2 to 12 and 21 of a set, which a query meets too; `types` is what a call that binds meets between 2 and 3
 unfoldable pub prepare_verdict : Setting → Verdict → List Input → ℕ → Verdict
@@ -74,16 +70,16 @@ relocate_verdict row S files order policy words =
 
 -- the answer, the arena and the report that a call leaves
 pub data Outcome : Type 0 where
-  outcome : (answer : Answer) (arena report : List ℕ) → Outcome
+  outcome : (answer : Verdict) (arena report : List ℕ) → Outcome
 
 -- "a refusal leaves zeros in arena and report"
 abbrev pub refused_bind : ℕ → ℕ → ℕ → ℕ → Outcome
-refused_bind size words n k = outcome (answers.TheVariants.Refused n k) (replicate size 0) (replicate words 0)
+refused_bind size words n k = outcome (refused n k) (replicate size 0) (replicate words 0)
 
 -- a refusal; else the arena and the report, "Unused words are 0"
 unfoldable pub outcome_of : ℕ → ℕ → Verdict → List ℕ → List ℕ → Outcome
-outcome_of size words (Refused n k) arena report = refused_bind size words n k
-outcome_of size words Passed arena report = outcome answers.TheVariants.Bound arena (report ++ replicate (words - length report) 0)
+outcome_of size words (Err r) arena report = refused_bind size words r.number r.object
+outcome_of size words passed arena report = outcome passed arena (report ++ replicate (words - length report) 0)
 
 -- a set bound in an order, in an arena of `size` bytes and with a report of `words` words
 unfoldable pub bind_in : Setting → Verdict → List File → List ℕ → ℕ → Policy → ℕ → Outcome
@@ -103,27 +99,33 @@ bind_of setting sheet bytes size policy words =
 
 -- ---- query
 
+-- "A lookup yields an object, a symbol index and an address, or absence"
+abbrev pub Reply : Type 0
+Reply = Result (Option Found) Refused
+
+abbrev pub found : ℕ → ℕ → ℕ → Reply
+found k i a = Ok (Some (record { object = k; symbol = i; address = a }))
+
 pub data Replied : Type 0 where
   replied : (reply : Reply) (arena : List ℕ) → Replied
 
--- "A lookup yields an object, a symbol index and an address, or absence"
 abbrev pub reply_of : symbols.Resolved → Reply
-reply_of absent = replies.TheVariants.Absent
-reply_of (answer k s a) = replies.TheVariants.Found k s.index a
+reply_of absent = Ok None
+reply_of (answer k s a) = found k s.index a
 
 -- a refusal leaves zeros
 abbrev pub refused_query : ℕ → ℕ → ℕ → Replied
-refused_query size n k = replied (replies.TheVariants.Refused n k) (replicate size 0)
+refused_query size n k = replied (refused n k) (replicate size 0)
 
 -- "after an answer the arena holds the placed, unrelocated bytes"
 unfoldable pub replied_of : ℕ → Verdict → Reply → List ℕ → Replied
-replied_of size (Refused n k) reply arena = refused_query size n k
-replied_of size Passed reply arena = replied reply arena
+replied_of size (Err r) reply arena = refused_query size r.number r.object
+replied_of size passed reply arena = replied reply arena
 
 -- a set that is asked: it "meets only refusals 1 to 13", 2 to 13 here, and 21
 unfoldable pub ask_set : Setting → List Input → ℕ → ℕ → List ℕ → Replied
 ask_set setting os size requester name =
-    replied_of size (first (prepare_verdict setting Passed os size) (unless (nat_lt requester (length os)) 13 0))
+    replied_of size (first (prepare_verdict setting passed os size) (unless (nat_lt requester (length os)) 13 0))
     (reply_of (resolve (objects_of setting (files_of os)) requester (by_name name))) (tab size (placed (objects_of setting (files_of os))))
 
 -- what `query` answers for a sheet and its bytes

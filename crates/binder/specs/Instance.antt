@@ -1,15 +1,13 @@
 -- The objects of a set as the model has them: its objects made of files by the reader's definitions. Document 01, "Placed bytes" ("base =
 -- arena address + offset"), "An address for a name", "Relocated bytes and report"; document 02, (a). An object depends on its file, on whether
 -- it is the host's, on its offset and on the setting, and on nothing else. Assumes nothing.
-use Rattle.std.specs.Prelude.{ℕ, ◌+◌, ◌-◌, ◌*◌, ◌/◌, Bool, List, [], ◌∷◌, ◌++◌, map}
+use Rattle.std.specs.Prelude.{ℕ, ◌+◌, ◌-◌, ◌*◌, ◌/◌, Bool, List, [], ◌∷◌, ◌++◌, map, Option, None, Some}
 use Rattle.words.specs.Choice.{pick}
 use Rattle.model.specs.Symbols.{Wanted, by_name, none, hit}
 use Rattle.model.specs.Symbols as model
 use Rattle.model.specs.Objects.{Entry, fixed, symbol, copy, pass, Obj}
 use Rattle.object.specs.declared.relocate.Rela.{Rela}
 use Rattle.object.specs.declared.hash_tables.Definition.{Definition}
-use Rattle.object.specs.declared.hash_tables.Exported.{Exported}
-use Rattle.object.specs.declared.hash_tables.Exported.TheVariants.{Absent, Present}
 use Rattle.object.specs.Symbol.{symbol_at, symbol_name}
 use Rattle.object.specs.HashTable.{answer_in}
 use Rattle.object.specs.RelocationTypes.{Row, no_search, in_scope, ignored, passed_over, turned_away, marked_refuse, copies, writes}
@@ -35,9 +33,9 @@ file_record f = object_record f.host f.bytes
 abbrev pub definition_of : Definition → model.Definition
 definition_of d = record { index = d.index; value = d.value; size = d.size; protected = d.protected; absolute = d.absolute }
 
-abbrev pub exported_of : Exported → model.Exported
-exported_of Absent = none
-exported_of (Present d) = hit (definition_of d)
+abbrev pub exported_of : Option Definition → model.Exported
+exported_of None = none
+exported_of (Some d) = hit (definition_of d)
 
 -- the places of the words that RELR names; refusal 17 leaves no word before any address
 unfoldable pub places_of : List Word → List ℕ

@@ -1,11 +1,13 @@
 -- Refusals of a set, each with its object: 4 to 12 and 21 object by object, 14 to 18, 22, 25 and 28 entry by entry in binding order. Document
 -- 01, "Refused, in checking order"; document 02, (a), (b), (f) and (h). All are functions of the placed images. Assumes nothing.
-use Rattle.std.specs.Prelude.{ℕ, ◌+◌, ◌-◌, min, Bool, true, not, List, [], ◌∷◌, ◌++◌, ◌==◌, nat_le, slice_index_or}
+use Rattle.std.specs.Prelude.{ℕ, ◌+◌, ◌-◌, min, Bool, true, not, List, [], ◌∷◌, ◌++◌, ◌==◌, nat_le, slice_index_or, Ok, Err, Result}
 use Rattle.words.specs.Choice.{pick, both, either}
 use Rattle.model.specs.Symbols.{Definition, Resolved, absent, answer}
 use Rattle.model.specs.Objects.{Objs, obj}
 use Rattle.model.specs.Scope.{resolve, resolve_copy}
 use Rattle.model.specs.Relocation.{address_or0}
+use Rattle.words.specs.Refusal.{number_of}
+use Rattle.words.specs.declared.refusal.Refusal.{Refusal}
 use Rattle.object.specs.Refusal.{require}
 use Rattle.object.specs.TableBytes.{in_writable}
 use Rattle.object.specs.RelocationTypes.{Calculation, Row, no_search, in_scope, ignored, passed_over, turned_away, marked_refuse, copies, writes}
@@ -14,28 +16,36 @@ use Rattle.object.specs.Record.{Record, checked_symbol}
 use Rattle.object.specs.Loaded.{object_refusal}
 use Rattle.object.specs.declared.symbol.Symbol.{Symbol}
 use Rattle.object.specs.declared.relocate.Rela.{Rela}
-use Rattle.object.specs.declared.entry_symbol.CheckedSymbol.{CheckedSymbol}
-use Rattle.object.specs.declared.entry_symbol.CheckedSymbol as checked
-use Rattle.binder.specs.declared.Verdict.{Verdict}
-use Rattle.binder.specs.declared.Verdict.TheVariants.{Passed, Refused}
 use Rattle.binder.specs.Instance.{File, file_image, file_record, named_words, relas_of, wanted_by}
+use Rattle.binder.specs.declared.Refused.{Refused}
 use Rattle.binder.specs.declared.crossing.Copy.{Copy}
 use Rattle.binder.specs.Copies.{crosses_one, entry_copy, object_copies}
 
+-- what passes, or is refused
+abbrev pub Verdict : Type 0
+Verdict = Result (Unit {0}) Refused
+
+pattern abbrev pub passed : Verdict
+passed = Ok tt
+
+-- "refused N object M"
+abbrev pub refused : {A : Type 0} → ℕ → ℕ → Result A Refused
+refused n k = Err (record { number = n; object = k })
+
 -- the first refusal of two
 abbrev pub first : Verdict → Verdict → Verdict
-first Passed v = v
-first (Refused n k) v = Refused n k
+first passed v = v
+first (Err m) v = Err m
 
 -- a refusal of object `k`; 0 is none
 unfoldable pub verdict : ℕ → ℕ → Verdict
-verdict n k = pick (n == 0) Passed (Refused n k)
+verdict n k = pick (n == 0) passed (refused n k)
 
 -- ---- 4 to 12 and 21: "object by object"
 
 -- the files from object `k` on, each at its object's offset in an arena of `size` bytes
 unfoldable pub load_verdict : Objs → ℕ → ℕ → List File → Verdict
-load_verdict S size k [] = Passed
+load_verdict S size k [] = passed
 load_verdict S size k (f ∷ fs) =
     first (verdict (object_refusal f.host (size - (obj S k).offset) f.bytes) k) (load_verdict S size (k + 1) fs)
 
@@ -67,9 +77,9 @@ field_refusal base r e f s =
     require (in_writable r.segments e.place f.width) 17 (require (f.fits (f.value s e.addend base (base + e.place))) 22 0)
 
 -- 14 and 15 of the entry's symbol, else what follows
-abbrev pub symbol_then : CheckedSymbol → (Symbol → ℕ) → ℕ
-symbol_then (checked.TheVariants.Refused n) rest = n
-symbol_then (checked.TheVariants.Checked y) rest = rest y
+abbrev pub symbol_then : Result Symbol Refusal → (Symbol → ℕ) → ℕ
+symbol_then (Err x) rest = number_of x
+symbol_then (Ok y) rest = rest y
 
 -- 14 to 18, 22 and 25 of an entry, by the row of its type
 unfoldable pub refusal_by : Objs → ℕ → List ℕ → Record → Rela → Row → ℕ
@@ -89,7 +99,7 @@ entry_refusal row S k image r e = refusal_by S k image r e (row e.rtype)
 
 -- the words that RELR names, then the entries of RELA and PLT
 unfoldable pub words_verdict : ℕ → Record → List Word → Verdict
-words_verdict k r [] = Passed
+words_verdict k r [] = passed
 words_verdict k r (w ∷ ws) = first (verdict (word_refusal r w) k) (words_verdict k r ws)
 
 -- 28, after 18 in the entry's turn: "an entry that breaks this with an earlier one", `earlier` being the copies so far
@@ -97,7 +107,7 @@ abbrev pub cross_refusal : List Copy → List Copy → ℕ
 cross_refusal earlier cs = pick (crosses_one earlier cs) 28 0
 
 unfoldable pub entries_verdict : (ℕ → Row) → Objs → ℕ → List ℕ → Record → List Copy → List Rela → Verdict
-entries_verdict row S k image r earlier [] = Passed
+entries_verdict row S k image r earlier [] = passed
 entries_verdict row S k image r earlier (e ∷ es) =
     first (verdict (entry_refusal row S k image r e) k)
     (first (verdict (cross_refusal earlier (entry_copy row S k image r e)) k)
@@ -114,7 +124,7 @@ no_file = record { host = true; bytes = [] }
 
 -- the objects of an order, one after another
 unfoldable pub order_verdict : (ℕ → Row) → Objs → List File → List Copy → List ℕ → Verdict
-order_verdict row S files earlier [] = Passed
+order_verdict row S files earlier [] = passed
 order_verdict row S files earlier (k ∷ ks) =
     first (object_verdict row S earlier k (slice_index_or files k no_file))
     (order_verdict row S files (earlier ++ object_copies row S k (slice_index_or files k no_file)) ks)

@@ -12,16 +12,7 @@ use scope::links::Link;
 pub(crate) fn ends_inside(size: usize, off: usize, place: usize, n: usize) -> bool
     ensures { result ≡ nat_le (off + place + n) size }
 {
-    if size < off {
-        return false;
-    }
-    if size - off < place {
-        return false;
-    }
-    if size - off - place < n {
-        return false;
-    }
-    true
+    off <= size && place <= size - off && n <= size - off - place
 }
 
 // Whether a COPY of `n` bytes of the definition `d`, in the object at the link `s`, to the place `to` passes refusal 18; `size` is the
@@ -42,13 +33,7 @@ pub(crate) fn copy_fits(size: usize, t: Turn, to: usize, s: Link, d: Definition,
     if !ends_inside(size, s.offset, value, n) {
         return false;
     }
-    if t.offset + to + n <= s.offset + value {
-        return true;
-    }
-    if s.offset + value + n <= t.offset + to {
-        return true;
-    }
-    false
+    t.offset + to + n <= s.offset + value || s.offset + value + n <= t.offset + to
 }
 
 // Type 5, where the definition `d` was found in the object at the link `s`: `n` bytes.
@@ -62,7 +47,7 @@ pub(crate) fn copy_found(
     d: Definition,
     n: usize,
 ) -> Progress
-    ensures { wrote result arena.new ≡ copy_bytes t (take b.count b.segments) to s d n p arena.old }
+    ensures { wrote result arena.new ≡ copy_bytes t (b.entry.segments.now) to s d n p arena.old }
 {
     if n == 0 {
         return p;

@@ -1,26 +1,22 @@
 // COPY entries whose places cross, refusal 28: the first entry of an order whose copy crosses an earlier one. Copies do not depend on what
 // relocation writes, so they are looked at before it, over the placed bytes.
-ghost use Rattle.std.specs.Prelude.{◌≡◌, ◌+◌, ◌-◌, ◌*◌, ◌^◌, ◌<◌, ◌≤◌, min, max, true, false, length, take, nat_le, nat_lt, slice_index_or};
+ghost use Rattle.std.specs.Prelude.{◌≡◌, ◌+◌, ◌-◌, ◌*◌, ◌^◌, ◌<◌, ◌≤◌, min, max, true, false, length, take, nat_le, nat_lt, slice_index_or, IfSome};
 ghost use Rattle.words.specs.Choice.{pick, both, some};
 ghost use Rattle.object.specs.Entries.{rela_at, relas_from};
 ghost use Rattle.object.specs.Steps.Actions.{row_by};
 ghost use Rattle.object.specs.Record.{held_by};
-ghost use Rattle.sheet.specs.Steps.Parts.{inputs_in};
 ghost use Rattle.scope.specs.Steps.Links.{Filtered};
 ghost use Rattle.binder.specs.Copies.{meets, crosses};
 ghost use Rattle.binder.specs.Steps.Relocating.{image_in, again_refusal, again_record, turn_of, row_at};
 ghost use Rattle.binder.specs.Steps.Crossing.{copies_row, empty_copy, copy_linked, seen_of, entries_by, entries_of, tables_of, no_rela, round, kept_at, kept_from, kept_with, WalksOn, Readable, Passed, FirstCrossing, Bounded, earlier_of, no_claim, claim_of, window, MarksTaken, ClaimedIn, ClaimsApart, NoCopies, PlainlyApart, CrossingIn};
 
-use crate::order::Order;
 use crate::turn::Turn;
 use object::dynamic_fields::ObjectData;
-use object::entry_symbol::CheckedSymbol;
 use object::hash_tables::Definition;
-use object::program_header::Loads;
 use object::relocate::{Action, Rela};
 use scope::links::Link;
-use scope::scope::Resolved;
-use sheet::sheet::Parts;
+use sheet::sheet::Set;
+use words::word::Word;
 
 // `size` bytes from the arena offset `source` to the arena offset `to`; 0 bytes are no copy.
 #[derive(Clone, Copy)]
@@ -47,45 +43,28 @@ pub struct Tables {
     pub plts: u32,
 }
 
-// Where the next claim is behind a window, if the claims in it are apart.
-#[derive(Clone, Copy)]
-pub struct Claims {
-    pub apart: bool,
-    pub next: usize,
-}
-
 // ---- ranges
 
 // Whether `a` is below `b` + `n`.
 fn below_sum(a: usize, b: usize, n: usize) -> bool
     ensures { result ≡ nat_lt a (b + n) }
 {
-    if a < b {
-        return true;
-    }
-    a - b < n
+    a < b || a - b < n
 }
 
 // Whether `n` bytes at `at` and `m` bytes at `other` have a byte in common.
 fn ranges_meet(at: usize, n: usize, other: usize, m: usize) -> bool
     ensures { result ≡ meets at n other m }
 {
-    if below_sum(at, other, m) {
-        return below_sum(other, at, n);
-    }
-    false
+    below_sum(at, other, m) && below_sum(other, at, n)
 }
 
 fn copies_cross(c: Copy, d: Copy) -> bool
     ensures { result ≡ crosses c d }
 {
-    if ranges_meet(c.to, c.size, d.to, d.size) {
-        return true;
-    }
-    if ranges_meet(c.source, c.size, d.to, d.size) {
-        return true;
-    }
-    ranges_meet(c.to, c.size, d.source, d.size)
+    ranges_meet(c.to, c.size, d.to, d.size)
+        || ranges_meet(c.source, c.size, d.to, d.size)
+        || ranges_meet(c.to, c.size, d.source, d.size)
 }
 
 // ---- the copies that are kept: up to 1,024, three words each
@@ -107,12 +86,10 @@ fn crosses_kept(kept: &[usize], n: usize, c: Copy) -> bool
     requires { 3 * n ≤ length kept.now }
     ensures { result ≡ some (crosses c) (kept_from kept.now 0 n) }
 {
-    let mut j = 0;
-    while j < n {
+    for j in 0..n {
         if copies_cross(c, kept_at(kept, j)) {
             return true;
         }
-        j += 1;
     }
     false
 }
@@ -151,30 +128,26 @@ fn no_copy() -> Copy
     }
 }
 
-// The record of an object that was loaded, read again from its placed bytes.
+// The record of an object that was loaded, read again from its placed bytes. No Option: what was loaded is not refused, and nothing is said of
+// a record that is.
 pub(crate) fn record_again(arena: &[u8], t: Turn, file: &[u8]) -> ObjectData
     ensures { again_refusal (image_in arena.now t) file.now ≡ 0 → held_by result ≡ again_record (image_in arena.now t) file.now }
 {
-    let l = object::program_header::read_loads(file);
-    let d = object::program_header::dynamic_at(file);
+    let Some(loads) = object::program_header::read_loads(file) else {
+        return ObjectData::default();
+    };
     let image = crate::turn::image_of(arena, t);
-    if 16 < l.count {
-        let list = l.list;
-        let few = Loads {
-            list: list,
-            count: 0,
-        };
-        let r = object::dynamic_fields::read_fields(image, few, d);
-        return r.object;
+    let d = object::program_header::dynamic_at(file);
+    match object::dynamic_fields::read_fields(image, loads, d) {
+        Ok(o) => o,
+        Err(_) => ObjectData::default(),
     }
-    let r = object::dynamic_fields::read_fields(image, l, d);
-    r.object
 }
 
 // Entry `i` of RELA and PLT.
-fn entry_at(arena: &[u8], t: Turn, o: ObjectData, i: usize) -> Rela
-    requires { i < length (entries_of (image_in arena.now t) (held_by o)) }
-    ensures { result ≡ slice_index_or (entries_of (image_in arena.now t) (held_by o)) i no_rela }
+fn entry_at(arena: &[u8], t: Turn, o: &ObjectData, i: usize) -> Rela
+    requires { i < length (entries_of (image_in arena.now t) (held_by o.now)) }
+    ensures { result ≡ slice_index_or (entries_of (image_in arena.now t) (held_by o.now)) i no_rela }
 {
     let relas = crate::relr::cut_to_32(o.relas);
     if i < relas as usize {
@@ -228,29 +201,22 @@ fn copy_range(size: usize, t: Turn, to: usize, s: Link, d: Definition, n: usize)
 }
 
 // The copy that an entry makes; none, where refusal 14, 15 or 18 meets the entry.
-fn copy_of(arena: &[u8], table: &[u64], t: Turn, o: ObjectData, e: Rela) -> Copy
+fn copy_of(arena: &[u8], table: &[u64], t: Turn, o: &ObjectData, e: Rela) -> Copy
     requires { Filtered table.now }
-    ensures { result ≡ seen_of table.now arena.now t (held_by o) e }
+    ensures { result ≡ seen_of table.now arena.now t (held_by o.now) e }
 {
     if !is_copy(table, e.rtype) {
         return no_copy();
     }
-    let c = crate::relocate::symbol_of(arena, t, o, e.symbol);
-    let CheckedSymbol::Checked(y) = c else {
+    let Ok(y) = crate::relocate::symbol_of(arena, t, o, e.symbol) else {
         return no_copy();
     };
-    let s = crate::relocate::search_copy(arena, table, t, o.strings, y.name);
-    let Resolved::Found {
-        object,
-        definition,
-        address: _,
-    } = s
-    else {
+    let Some(found) = crate::relocate::search_copy(arena, table, t, o.strings, y.name) else {
         return no_copy();
     };
-    let n = words::bytes::smaller(y.size as usize, definition.size as usize);
-    let link = scope::links::link_at(table, object);
-    copy_range(arena.len(), t, e.place, link, definition, n)
+    let n = (y.size as usize).min(found.definition.size as usize);
+    let link = scope::links::link_at(table, found.object);
+    copy_range(arena.len(), t, e.place, link, found.definition, n)
 }
 
 // How far a walk over copies came: how many it has seen, and whether the entry with that number crosses an earlier one.
@@ -266,27 +232,20 @@ fn scan_object(
     arena: &[u8],
     table: &[u64],
     t: Turn,
-    o: ObjectData,
+    o: &ObjectData,
     kept: &mut [usize],
     first: usize,
     seen: usize,
 ) -> Scan
     requires { Filtered table.now × (length kept.old ≡ 3 * round) × (seen ≤ 2 ^ 62) }
-    ensures { (result.seen ≤ seen + 2 ^ 33) × (result.entry ≤ 2 ^ 33) × (length kept.new ≡ 3 * round) × WalksOn first seen kept.old (seen_of table.now arena.now t (held_by o)) (entries_of (image_in arena.now t) (held_by o)) kept.new result }
+    ensures { (result.seen ≤ seen + 2 ^ 33) × (result.entry ≤ 2 ^ 33) × (length kept.new ≡ 3 * round) × WalksOn first seen kept.old (seen_of table.now arena.now t (held_by o.now)) (entries_of (image_in arena.now t) (held_by o.now)) kept.new result }
 {
     let n = crate::relr::cut_to_32(o.relas) as usize + crate::relr::cut_to_32(o.plts) as usize;
     let mut s = seen;
-    let mut i = 0;
-    while i < n {
+    for i in 0..n {
         let c = copy_of(arena, table, t, o, entry_at(arena, t, o, i));
-        if c.size == 0 {
-            i += 1;
-        } else {
-            if crosses_kept(
-                kept,
-                words::bytes::smaller(words::bytes::monus(s, first), 1024),
-                c,
-            ) {
+        if c.size != 0 {
+            if crosses_kept(kept, s.saturating_sub(first).min(1024), c) {
                 return Scan {
                     seen: s,
                     hit: true,
@@ -295,7 +254,6 @@ fn scan_object(
             }
             keep_copy(kept, first, s, c);
             s += 1;
-            i += 1;
         }
     }
     Scan {
@@ -319,7 +277,7 @@ fn scan_at(
 {
     let t = crate::turn::turn_of(table, k);
     let o = record_again(arena, t, file);
-    scan_object(arena, table, t, o, kept, first, seen)
+    scan_object(arena, table, t, &o, kept, first, seen)
 }
 
 // ---- an order
@@ -335,24 +293,20 @@ pub struct Crossing {
 
 // The first that crosses one of the 1,024 copies from number `first` on.
 fn scan_order(
-    bytes: &[u8],
-    parts: Parts,
+    set: &Set,
     arena: &[u8],
     table: &[u64],
-    order: Order,
+    order: &[u32],
     kept: &mut [usize],
     first: usize,
 ) -> Crossing
-    requires { (order.count ≤ 64) × Filtered table.now × (length kept.old ≡ 3 * round) }
-    ensures { Bounded order.count result × (result.seen ≤ 2 ^ 62) × (length kept.new ≡ 3 * round) × (Readable table.now (inputs_in bytes.now parts) arena.now (take order.count order.list) → Passed table.now (inputs_in bytes.now parts) arena.now (take order.count order.list) first result) }
+    requires { (length order.now ≤ 64) × Filtered table.now × (length kept.old ≡ 3 * round) }
+    ensures { Bounded (length order.now) result × (result.seen ≤ 2 ^ 62) × (length kept.new ≡ 3 * round) × (Readable table.now set.now arena.now order.now → Passed table.now set.now arena.now order.now first result) }
 {
-    let list = order.list;
-    let n = order.count;
     let mut seen = 0;
-    let mut i = 0;
-    while i < n {
-        let k = list[i];
-        let file = sheet::sheet::file_of(bytes, parts, k as usize);
+    for (i, k) in order.iter().enumerate() {
+        let k = *k;
+        let file = set.file(k as usize);
         let s = scan_at(arena, table, k, file, kept, first, seen);
         if s.hit {
             return Crossing {
@@ -363,12 +317,11 @@ fn scan_order(
             };
         }
         seen = s.seen;
-        i += 1;
     }
     Crossing {
         seen: seen,
         hit: false,
-        index: n,
+        index: order.len(),
         entry: 0,
     }
 }
@@ -387,15 +340,16 @@ fn earlier_of(m: Crossing, q: Crossing) -> Crossing
 }
 
 // The first that crosses an earlier one: 1,024 earlier ones at a time.
-fn first_crossing(bytes: &[u8], parts: Parts, arena: &[u8], table: &[u64], order: Order) -> Crossing
-    requires { (order.count ≤ 64) × Filtered table.now }
-    ensures { Bounded order.count result × (Readable table.now (inputs_in bytes.now parts) arena.now (take order.count order.list) → FirstCrossing table.now (inputs_in bytes.now parts) arena.now (take order.count order.list) result) }
+fn first_crossing(set: &Set, arena: &[u8], table: &[u64], order: &[u32]) -> Crossing
+    requires { (length order.now ≤ 64) × Filtered table.now }
+    ensures { Bounded (length order.now) result × (Readable table.now set.now arena.now order.now → FirstCrossing table.now set.now arena.now order.now result) }
 {
     let mut kept = [0usize; 3072];
-    let mut m = scan_order(bytes, parts, arena, table, order, &mut kept, 0);
+    let mut m = scan_order(set, arena, table, order, &mut kept, 0);
     let mut first = 1024;
+    // No `for`: how far it goes falls with what is met.
     while first < m.seen {
-        let q = scan_order(bytes, parts, arena, table, order, &mut kept, first);
+        let q = scan_order(set, arena, table, order, &mut kept, first);
         m = earlier_of(m, q);
         first += 1024;
     }
@@ -409,13 +363,11 @@ fn take_marks(marks: &mut [u8], low: usize, high: usize) -> bool
     requires { high ≤ length marks.old }
     ensures { (length marks.new ≡ length marks.old) × (result ≡ true → MarksTaken marks.old marks.new low high) }
 {
-    let mut i = low;
-    while i < high {
+    for i in low..high {
         if marks[i] != 0 {
             return false;
         }
         marks[i] = 1;
-        i += 1;
     }
     true
 }
@@ -424,7 +376,7 @@ fn take_marks(marks: &mut [u8], low: usize, high: usize) -> bool
 fn in_window(w: usize, at: usize) -> usize
     ensures { result ≡ min (at - w) window }
 {
-    words::bytes::smaller(words::bytes::monus(at, w), 32768)
+    at.saturating_sub(w).min(32768)
 }
 
 fn no_claim() -> Claim
@@ -438,13 +390,13 @@ fn claim_at(image: &[u8], symbols: usize, at: usize, i: u32) -> Claim
     ensures { result ≡ claim_of image.now symbols (rela_at image.now at i) }
 {
     let k = 24 * (i as usize);
-    if words::bytes::u32_off(image, at, k + 8) != 5 {
+    if words::bytes::word_off::<u32>(image, at, k + 8) != 5 {
         return no_claim();
     }
-    let s = words::bytes::u32_off(image, at, k + 12);
+    let s = words::bytes::word_off::<u32>(image, at, k + 12);
     Claim {
-        place: words::bytes::u64_off(image, at, k) as usize,
-        size: words::bytes::u64_off(image, symbols, 24 * (s as usize) + 16) as usize,
+        place: words::bytes::word_off::<u64>(image, at, k) as usize,
+        size: words::bytes::word_off::<u64>(image, symbols, 24 * (s as usize) + 16) as usize,
     }
 }
 
@@ -464,60 +416,40 @@ fn next_after(w: usize, next: usize, c: Claim, end: usize) -> usize
     requires { c.place + c.size ≤ end }
     ensures { result ≡ pick (nat_le (c.place + c.size - w) window) next (min next (max c.place (w + window))) }
 {
-    if words::bytes::monus(c.place + c.size, w) <= 32768 {
+    if (c.place + c.size).saturating_sub(w) <= 32768 {
         return next;
     }
-    words::bytes::smaller(next, words::bytes::larger(c.place, w + 32768))
+    next.min(c.place.max(w + 32768))
 }
 
 // Whether a claim ends inside `end` bytes.
 fn claim_fits(end: usize, c: Claim) -> bool
     ensures { result ≡ nat_le (c.place + c.size) end }
 {
-    if end < c.size {
-        return false;
-    }
-    c.place <= end - c.size
-}
-
-fn met() -> Claims
-    ensures { result.apart ≡ false }
-{
-    Claims {
-        apart: false,
-        next: 0,
-    }
+    c.size <= end && c.place <= end - c.size
 }
 
 // The claims of an object's entries in the window from `w` on: where the next is behind it, if no two meet and none leaves the image.
-fn claims_in(image: &[u8], r: Tables, marks: &mut [u8], w: usize) -> Claims
+fn claims_in(image: &[u8], r: Tables, marks: &mut [u8], w: usize) -> Option<usize>
     requires { (length marks.old ≡ window) × (w < length image.now) }
-    ensures { (length marks.new ≡ window) × (result.apart ≡ true → ClaimedIn image.now r w result.next) }
+    ensures { (length marks.new ≡ window) × IfSome result (λ next. ClaimedIn image.now r w next) }
 {
-    let n = r.relas as usize + r.plts as usize;
     let end = image.len();
-    words::bytes::clear(marks);
+    marks.fill(0);
     let mut next = end;
-    let mut i = 0;
-    while i < n {
+    for i in 0..r.relas as usize + r.plts as usize {
         let c = claim_in(image, r, i);
-        if c.size == 0 {
-            i += 1;
-        } else {
+        if c.size != 0 {
             if !claim_fits(end, c) {
-                return met();
+                return None;
             }
             if !take_marks(marks, in_window(w, c.place), in_window(w, c.place + c.size)) {
-                return met();
+                return None;
             }
             next = next_after(w, next, c, end);
-            i += 1;
         }
     }
-    Claims {
-        apart: true,
-        next: next,
-    }
+    Some(next)
 }
 
 // Whether no two claims of an object meet, and none leaves its image: window by window of 32 KiB.
@@ -526,18 +458,18 @@ fn claims_apart(image: &[u8], r: Tables) -> bool
 {
     let mut marks = [0u8; 32768];
     let mut w = 0;
+    // No `for`: the next window begins where the next claim is.
     while w < image.len() {
-        let c = claims_in(image, r, &mut marks, w);
-        if !c.apart {
+        let Some(next) = claims_in(image, r, &mut marks, w) else {
             return false;
-        }
-        w = c.next;
+        };
+        w = next;
     }
     true
 }
 
-fn tables_of(o: ObjectData) -> Tables
-    ensures { result ≡ tables_of (held_by o) }
+fn tables_of(o: &ObjectData) -> Tables
+    ensures { result ≡ tables_of (held_by o.now) }
 {
     Tables {
         symbols: o.symbols,
@@ -559,13 +491,11 @@ fn has_copies(image: &[u8], at: usize, n: u32) -> bool
         return true;
     }
     let mut k = at;
-    let mut i = 0u32;
-    while i < n {
-        if words::bytes::u32_in(image, k + 8) == 5 {
+    for i in 0..n {
+        if u32::load(image, k + 8) == 5 {
             return true;
         }
         k += 24;
-        i += 1;
     }
     false
 }
@@ -574,35 +504,29 @@ fn has_copies(image: &[u8], at: usize, n: u32) -> bool
 fn tables_copy(image: &[u8], r: Tables) -> bool
     ensures { result ≡ false → NoCopies (entries_by image.now r) }
 {
-    if has_copies(image, r.rela, r.relas) {
-        return true;
-    }
-    has_copies(image, r.plt, r.plts)
+    has_copies(image, r.rela, r.relas) || has_copies(image, r.plt, r.plts)
 }
 
 // The tables of an object that was loaded, read again from its placed bytes.
 fn tables_again(arena: &[u8], t: Turn, file: &[u8]) -> Tables
     ensures { again_refusal (image_in arena.now t) file.now ≡ 0 → result ≡ tables_of (again_record (image_in arena.now t) file.now) }
 {
-    tables_of(record_again(arena, t, file))
+    tables_of(&record_again(arena, t, file))
 }
 
 // Whether only the last object of the order copies, if one does, and that is the program, to places that are apart by its symbols' own sizes.
-fn plainly_apart(bytes: &[u8], parts: Parts, arena: &[u8], table: &[u64], order: Order) -> bool
-    requires { (order.count ≤ 64) × Filtered table.now }
-    ensures { Readable table.now (inputs_in bytes.now parts) arena.now (take order.count order.list) → result ≡ true → PlainlyApart table.now (inputs_in bytes.now parts) arena.now (take order.count order.list) }
+fn plainly_apart(set: &Set, arena: &[u8], table: &[u64], order: &[u32]) -> bool
+    requires { (length order.now ≤ 64) × Filtered table.now }
+    ensures { Readable table.now set.now arena.now order.now → result ≡ true → PlainlyApart table.now set.now arena.now order.now }
 {
-    let list = order.list;
-    let n = order.count;
-    let mut i = 0;
-    while i < n {
-        let k = list[i];
-        let file = sheet::sheet::file_of(bytes, parts, k as usize);
+    for (i, k) in order.iter().enumerate() {
+        let k = *k;
+        let file = set.file(k as usize);
         let t = crate::turn::turn_of(table, k);
         let r = tables_again(arena, t, file);
         let image = crate::turn::image_of(arena, t);
         if tables_copy(image, r) {
-            if i + 1 < n {
+            if i + 1 < order.len() {
                 return false;
             }
             if k != 1 {
@@ -610,23 +534,16 @@ fn plainly_apart(bytes: &[u8], parts: Parts, arena: &[u8], table: &[u64], order:
             }
             return claims_apart(image, r);
         }
-        i += 1;
     }
     true
 }
 
 // The first entry of the order whose copy crosses an earlier one, if there is one.
-pub(crate) fn crossing_in(
-    bytes: &[u8],
-    parts: Parts,
-    arena: &[u8],
-    table: &[u64],
-    order: Order,
-) -> Crossing
-    requires { (order.count ≤ 64) × Filtered table.now }
-    ensures { Bounded order.count result × (Readable table.now (inputs_in bytes.now parts) arena.now (take order.count order.list) → CrossingIn table.now (inputs_in bytes.now parts) arena.now (take order.count order.list) result) }
+pub(crate) fn crossing_in(set: &Set, arena: &[u8], table: &[u64], order: &[u32]) -> Crossing
+    requires { (length order.now ≤ 64) × Filtered table.now }
+    ensures { Bounded (length order.now) result × (Readable table.now set.now arena.now order.now → CrossingIn table.now set.now arena.now order.now result) }
 {
-    if plainly_apart(bytes, parts, arena, table, order) {
+    if plainly_apart(set, arena, table, order) {
         return Crossing {
             seen: 0,
             hit: false,
@@ -634,5 +551,5 @@ pub(crate) fn crossing_in(
             entry: 0,
         };
     }
-    first_crossing(bytes, parts, arena, table, order)
+    first_crossing(set, arena, table, order)
 }

@@ -1,6 +1,12 @@
 // Ordering the objects of a set, and binding them.
 #![tactic(auto)]
 
+ghost use Rattle.std.specs.Prelude.{◌≡◌};
+ghost use Rattle.words.specs.Refusal.{number_of};
+
+use std::fmt;
+use words::refusal::Refusal;
+
 pub mod bind;
 pub mod copy;
 pub mod crossing;
@@ -17,44 +23,40 @@ pub mod turn;
 pub mod types;
 
 // What happens to a set with undefined entries: it is refused, or bound with a report.
-#[derive(Clone, Copy)]
+#[derive(Clone, Copy, Debug, PartialEq, Eq)]
 pub enum Policy {
     Strict,
     Lenient,
 }
 
-// The checks of a set: passed, or the first refusal with its object.
-#[derive(Clone, Copy)]
-pub enum Verdict {
-    Passed,
-    Refused { number: u32, object: u32 },
+// The refusal of a call: its number and its object. What relocation meets it keeps by number, so it stands here by number too.
+#[derive(Clone, Copy, Debug, PartialEq, Eq)]
+pub struct Refused {
+    pub number: u32,
+    pub object: u32,
 }
 
-// The answer of a call that binds: refusals have a number and an object.
-#[derive(Clone, Copy)]
-pub enum Answer {
-    Bound,
-    Refused { number: u32, object: u32 },
+impl Refused {
+    pub fn new(refusal: Refusal, object: u32) -> Refused
+        ensures { result ≡ record { number = number_of refusal; object = object } }
+    {
+        Refused {
+            number: u32::from(refusal),
+            object: object,
+        }
+    }
 }
 
-// The answer of a query.
-#[derive(Clone, Copy)]
-pub enum Reply {
-    Found {
-        object: usize,
-        symbol: usize,
-        address: u64,
-    },
-    Absent,
-    Refused {
-        number: u32,
-        object: u32,
-    },
+impl fmt::Display for Refused {
+    fn fmt<W: fmt::Write>(&self, f: &mut fmt::Formatter<W>) -> fmt::Result {
+        write!(f, "refused {} object {}", self.number, self.object)
+    }
 }
 
-// The answer of a query for many names.
-#[derive(Clone, Copy)]
-pub enum ReplyAll {
-    Answered,
-    Refused { number: u32, object: u32 },
+// Where a query found its name.
+#[derive(Clone, Copy, Debug, PartialEq, Eq)]
+pub struct Found {
+    pub object: usize,
+    pub symbol: usize,
+    pub address: u64,
 }

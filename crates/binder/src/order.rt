@@ -5,59 +5,37 @@ ghost use Rattle.words.specs.Memory.{mem};
 ghost use Rattle.binder.specs.Steps.Table.{Ordered};
 ghost use Rattle.binder.specs.Steps.OrderState.{state_of, Room, Visited, Unlisted};
 
-// The numbers of the objects in order: the first `count` of `list`.
-#[derive(Clone, Copy)]
-pub struct Order {
-    pub list: [u32; 64],
-    pub count: usize,
-}
-
-fn wide(x: u8) -> usize
-    ensures { result ≡ x }
-{
-    x as usize
-}
+use arrayvec::ArrayVec;
 
 // The need at place i of library k.
 fn need_at(needs: &[u8], k: usize, i: usize) -> usize
     requires { k < 64 }
     ensures { result ≡ mem needs.now (k * 64 + i) }
 {
-    wide(words::bytes::byte_at(needs, k * 64, i))
+    usize::from(words::bytes::byte_at(needs, k * 64, i))
 }
 
-// Orders library k after what it needs, the last need first, `depth` deep; passes over what is marked. The order so far is the first `count`
-// of `list`; the answer is its new count. `seen` marks the libraries that are ordered or whose needs are being visited, and the numbers that
-// are no library's. Stack, in the compiled archive: 96 bytes a level, 5,952 for 62 levels, and 96 for the call at depth 0.
-fn visit(
-    needs: &[u8],
-    depth: usize,
-    k: usize,
-    count: usize,
-    list: &mut [u32; 64],
-    seen: &mut [bool; 64],
-) -> usize
-    requires { Room (state_of list.old count seen.old) }
-    ensures { Visited needs.now depth k (state_of list.old count seen.old) (state_of list.new result seen.new) }
+// Puts library k at the end of the order after what it needs, the last need first, `depth` deep; passes over what is marked. `seen` marks the
+// libraries that are ordered or whose needs are being visited, and the numbers that are no library's. Stack, in the compiled archive: 64 bytes a
+// level, 3,968 for 62 levels, and 64 for the call at depth 0.
+fn visit(needs: &[u8], depth: usize, k: usize, order: &mut ArrayVec<u32, 64>, seen: &mut [bool; 64])
+    requires { Room (state_of order.old.items seen.old) }
+    ensures { Visited needs.now depth k (state_of order.old.items seen.old) (state_of order.new.items seen.new) }
 {
     if depth == 0 {
-        return count;
+        return;
     }
     if 64 <= k {
-        return count;
+        return;
     }
     if seen[k] {
-        return count;
+        return;
     }
     seen[k] = true;
-    let mut n = count;
-    let mut i = 64;
-    while 0 < i {
-        i -= 1;
-        n = visit(needs, depth - 1, need_at(needs, k, i), n, list, seen);
+    for i in (0..64).rev() {
+        visit(needs, depth - 1, need_at(needs, k, i), order, seen);
     }
-    list[n] = k as u32;
-    n + 1
+    order.push(k as u32);
 }
 
 // Marks the numbers that are no library's.
@@ -66,40 +44,23 @@ fn unlisted(libs: usize) -> [bool; 64]
     ensures { Unlisted libs result }
 {
     let mut s = [true; 64];
-    let mut j = 2;
-    while j < libs + 2 {
+    for j in 2..libs + 2 {
         s[j] = false;
-        j += 1;
     }
     s
 }
 
-fn at_most_62(libraries: usize) -> usize
-    ensures { result ≡ min libraries 62 }
-{
-    if libraries < 62 {
-        return libraries;
-    }
-    62
-}
-
 // The order of a program and its libraries, of which there are at most 62; more are cut to 62. Library k needs the objects whose numbers
 // are the 64 bytes of `needs` from k * 64 on, in file order. A number that is no library's is passed over: 0 where there is no need.
-pub fn arrange(needs: &[u8], libraries: usize) -> Order
-    ensures { Ordered needs.now libraries result }
+pub fn arrange(needs: &[u8], libraries: usize) -> ArrayVec<u32, 64>
+    ensures { Ordered needs.now libraries result.items }
 {
-    let libs = at_most_62(libraries);
-    let mut list = [0u32; 64];
+    let libs = libraries.min(62);
+    let mut order = ArrayVec::new();
     let mut seen = unlisted(libs);
-    let mut n = 0;
-    let mut k = 2;
-    while k < libs + 2 {
-        n = visit(needs, libs, k, n, &mut list, &mut seen);
-        k += 1;
+    for k in 2..libs + 2 {
+        visit(needs, libs, k, &mut order, &mut seen);
     }
-    list[n] = 1;
-    Order {
-        list: list,
-        count: n + 1,
-    }
+    order.push(1);
+    order
 }

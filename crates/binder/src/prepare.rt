@@ -1,23 +1,16 @@
 // What every call does with a set first: refusals 2 and 3, then its objects into the arena, refusals 4 to 12 and 21, object by object.
 ghost use Rattle.std.specs.Prelude.{◌≡◌, ◌+◌, ◌^◌, ◌≤◌, length};
-ghost use Rattle.sheet.specs.Steps.Parts.{inputs_in};
 ghost use Rattle.binder.specs.Setting.{setting_at};
 ghost use Rattle.binder.specs.Bind.{files_of};
-ghost use Rattle.object.specs.Placed.{CheckedBy};
+ghost use Rattle.object.specs.Placed.{Checked};
 ghost use Rattle.binder.specs.Instance.{next_offset};
 ghost use Rattle.binder.specs.Steps.Prepared.{LoadedAt, LoadedNext, LoadedFiles, Prepared};
 
-use crate::Verdict;
+use crate::Refused;
 use object::object_data::Placed;
 use scope::links::Link;
-use sheet::sheet::Parts;
-
-// One object: its refusal, or its link.
-#[derive(Clone, Copy)]
-pub enum Loaded {
-    Refused(u32),
-    At(Link),
-}
+use sheet::sheet::Set;
+use words::refusal::Refusal;
 
 // Where an object goes: the host to the next free offset, any other to the least one from there on whose address is a multiple of its
 // alignment.
@@ -36,69 +29,64 @@ fn offset_of(address: u64, free: usize, align: usize, host: bool) -> usize
 }
 
 // Loads an object whose headers were checked at the offset `off`, in the part of the arena from there to its end: refusals 8 to 12.
-fn load_at(arena: &mut [u8], off: usize, file: &[u8], host: bool, checked: Placed) -> Loaded
-    requires { (off ≤ length arena.old) × CheckedBy host file.now checked × (checked.refusal ≡ 0) }
+fn load_at(
+    arena: &mut [u8],
+    off: usize,
+    file: &[u8],
+    host: bool,
+    checked: Placed,
+) -> Result<Link, Refusal>
+    requires { (off ≤ length arena.old) × Checked host file.now checked }
     ensures { LoadedAt host file.now off arena.old arena.new result }
 {
-    let r = object::object_data::load(&mut arena[off..], file, host, checked);
-    let number = r.refusal;
-    if number != 0 {
-        return Loaded::Refused(number);
-    }
-    let o = r.object;
-    let view = object::dynamic_fields::view_of(o);
-    let link = Link {
+    let object = object::object_data::load(&mut arena[off..], file, host, checked)?;
+    Ok(Link {
         offset: off,
-        span: o.span,
-        view: view,
-    };
-    Loaded::At(link)
+        span: object.span,
+        view: object::dynamic_fields::view_of(&object),
+    })
 }
 
 // Loads an object where it goes, `free` being the next free offset, and writes zeros before it: refusals 4 to 12 and 21.
-fn load_next(arena: &mut [u8], address: u64, free: usize, file: &[u8], host: bool) -> Loaded
+fn load_next(
+    arena: &mut [u8],
+    address: u64,
+    free: usize,
+    file: &[u8],
+    host: bool,
+) -> Result<Link, Refusal>
     requires { (free ≤ length arena.old) × (length arena.old ≤ 2 ^ 28) × (address + length arena.old ≤ 2 ^ 63) }
     ensures { LoadedNext (setting_at address) (record { host = host; bytes = file.now }) free arena.old arena.new result }
 {
-    let c = object::object_data::check_headers(file, host);
-    let number = c.refusal;
-    if number != 0 {
-        return Loaded::Refused(number);
-    }
-    let off = offset_of(address, free, c.align, host);
+    let checked = object::object_data::check_headers(file, host)?;
+    let off = offset_of(address, free, checked.align, host);
     if arena.len() < off {
-        return Loaded::Refused(8);
+        return Err(Refusal::Room);
     }
     words::bytes::zero(arena, free, off - free);
-    load_at(arena, off, file, host, c)
+    load_at(arena, off, file, host, checked)
 }
 
-// Loads the objects that the table of parts names, one after another, writes zeros between them and behind the last, and fills the table of
+// Loads the set's objects, one after another, writes zeros between them and behind the last, and fills the table of
 // links.
-fn load_all(
-    bytes: &[u8],
-    parts: Parts,
-    arena: &mut [u8],
-    address: u64,
-    table: &mut [u64],
-) -> Verdict
-    requires { (parts.count ≤ 64) × (length (inputs_in bytes.now parts) ≡ parts.count) × (1024 ≤ length table.old) × (length arena.old ≤ 2 ^ 28) × (address + length arena.old ≤ 2 ^ 63) }
-    ensures { LoadedFiles (setting_at address) (files_of (inputs_in bytes.now parts)) arena.old arena.new table.new result }
+fn load_all(set: &Set, arena: &mut [u8], address: u64, table: &mut [u64]) -> Result<(), Refused>
+    requires { (1024 ≤ length table.old) × (length arena.old ≤ 2 ^ 28) × (address + length arena.old ≤ 2 ^ 63) }
+    ensures { LoadedFiles (setting_at address) (files_of set.now) arena.old arena.new table.new result }
 {
-    let count = parts.count;
+    let count = set.len();
     let mut free = 0;
     let mut k = 0;
     while k < count {
-        let file = sheet::sheet::file_of(bytes, parts, k);
+        let file = set.file(k);
         let p = load_next(arena, address, free, file, k == 0);
         match p {
-            Loaded::Refused(number) => {
-                return Verdict::Refused {
-                    number: number,
+            Err(refusal) => {
+                return Err(Refused {
+                    number: refusal.into(),
                     object: k as u32,
-                };
+                });
             }
-            Loaded::At(s) => {
+            Ok(s) => {
                 scope::links::put_link(table, k, s);
                 free = s.offset + s.span;
                 k += 1;
@@ -106,39 +94,31 @@ fn load_all(
         }
     }
     words::bytes::zero(arena, free, arena.len() - free);
-    Verdict::Passed
+    Ok(())
 }
 
-// Refusals 2 to 12 and 21 of the objects that the table of parts names, and `types` between 2 and 3; what passes is loaded, whatever the arena holds before, and its links,
+// Refusals 2 to 12 and 21 of the set's objects, and `types` between 2 and 3; what passes is loaded, whatever the arena holds before, and its links,
 // its count and the arena's address are in the table.
 pub fn prepare(
-    bytes: &[u8],
-    parts: Parts,
+    set: &Set,
     arena: &mut [u8],
     address: u64,
-    types: Verdict,
+    types: Result<(), Refused>,
     table: &mut [u64],
-) -> Verdict
-    requires { (parts.count ≤ 64) × (length (inputs_in bytes.now parts) ≡ parts.count) × (1026 ≤ length table.old) }
-    ensures { Prepared (setting_at address) types (inputs_in bytes.now parts) arena.old arena.new table.new result }
+) -> Result<(), Refused>
+    requires { 1026 ≤ length table.old }
+    ensures made { Prepared (setting_at address) types set.now arena.old arena.new table.new result }
+    ensures objects { length set.now ≤ 64 }
 {
+    let count = set.len();
     if !sheet::sheet::arena_ok(arena.len(), address) {
-        return Verdict::Refused {
-            number: 2,
-            object: 0,
-        };
+        return Err(Refused::new(Refusal::Arena, 0));
     }
-    let Verdict::Passed = types else {
-        return types;
-    };
-    let t = sheet::sheet::duplicate(bytes, parts);
-    if t != 0 {
-        return Verdict::Refused {
-            number: 3,
-            object: t as u32,
-        };
+    types?;
+    if let Some(k) = set.duplicate() {
+        return Err(Refused::new(Refusal::Duplicate, k as u32));
     }
-    let m = load_all(bytes, parts, arena, address, table);
-    scope::links::put_set(table, parts.count, address);
-    m
+    load_all(set, arena, address, table)?;
+    scope::links::put_set(table, count, address);
+    Ok(())
 }

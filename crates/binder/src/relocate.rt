@@ -1,56 +1,56 @@
 // Relocation: port of strategies/relocate.rs. The objects one after another: RELR, RELA, PLT; refusals 14 to 18, 22 and 25, entry
 // by entry.
-ghost use Rattle.std.specs.Prelude.{◌≡◌, ◌+◌, ◌-◌, ◌*◌, ◌^◌, ◌<◌, ◌≤◌, true, length, take, ◌==◌};
+ghost use Rattle.std.specs.Prelude.{◌≡◌, ◌+◌, ◌-◌, ◌*◌, ◌^◌, ◌<◌, ◌≤◌, true, length, take, ◌==◌, Ok, IfOk};
 ghost use Rattle.words.specs.Choice.{pick};
 ghost use Rattle.words.specs.Names.{name_at};
 ghost use Rattle.object.specs.Entries.{rela_at};
 ghost use Rattle.object.specs.Steps.Actions.{relative_word, field_by, searched_by};
 ghost use Rattle.object.specs.Record.{held_by, checked_symbol};
 ghost use Rattle.object.specs.Steps.WritableRange.{WritableRange};
-ghost use Rattle.sheet.specs.Steps.Parts.{inputs_in};
 ghost use Rattle.scope.specs.Steps.Links.{Filtered};
-ghost use Rattle.binder.specs.Steps.Relocating.{left, wrote, started, image_in, field_of, fixed_of, symbol_refusal, sought_for, sought_for_copy, sought_of, write_sought, copying_of, run_action, run_table, run_tables, run_object, run_at, run_order, run_until, turn_of, again_refusal, row_at};
+ghost use Rattle.binder.specs.Steps.Relocating.{left, wrote, started, image_in, field_of, fixed_of, sought_for, sought_for_copy, sought_of, write_sought, copying_of, run_action, run_table, run_tables, run_object, run_at, run_order, run_until, turn_of, again_refusal, again_record, row_at};
+ghost use Rattle.words.specs.Refusal.{refused_by};
 ghost use Rattle.binder.specs.Steps.RunSteps.{InReach, RelativesWritten, EntriesPassed, SymbolsOf, EntryRead, address_found, SymbolsPassed};
 ghost use Rattle.binder.specs.declared.relocate.Address.TheVariants.{At};
 
-use crate::order::Order;
 use crate::report::Progress;
 use crate::turn::Turn;
 use object::dynamic_fields::ObjectData;
-use object::entry_symbol::CheckedSymbol;
 use object::relocate::{Action, Field, Rela};
 use object::symbol::Symbol;
 use object::table_bytes::{Bounds, Writable};
-use scope::scope::Resolved;
-use sheet::sheet::Parts;
+use scope::scope::Found;
+use sheet::sheet::Set;
+use words::refusal::Refusal;
+use words::word::Word;
 
 // ---- RELA and PLT
 
 // Relative: base + addend.
 fn relative(arena: &mut [u8], p: Progress, t: Turn, b: Bounds, e: Rela) -> Progress
-    ensures { wrote result arena.new ≡ fixed_of t (take b.count b.segments) e relative_word p arena.old }
+    ensures { wrote result arena.new ≡ fixed_of t (b.entry.segments.now) e relative_word p arena.old }
 {
     if !object::table_bytes::in_writable(b, e.place, 8) {
         return crate::report::refused(p, t, 17);
     }
-    crate::turn::write_word(
-        arena,
-        t.offset,
-        e.place,
-        words::bytes::sum_u64(t.base, e.addend),
-    );
+    crate::turn::write_word(arena, t.offset, e.place, t.base.wrapping_add(e.addend));
     p
 }
 
 // The symbol of an entry, or refusal 14 or 15.
-pub(crate) fn symbol_of(arena: &[u8], t: Turn, o: ObjectData, index: u32) -> CheckedSymbol
-    ensures { result ≡ checked_symbol (image_in arena.now t) (held_by o) index }
+pub(crate) fn symbol_of(
+    arena: &[u8],
+    t: Turn,
+    o: &ObjectData,
+    index: u32,
+) -> Result<Symbol, Refusal>
+    ensures { result ≡ checked_symbol (image_in arena.now t) (held_by o.now) index }
 {
     object::entry_symbol::checked_symbol(crate::turn::image_of(arena, t), o, index)
 }
 
 // The search for the name of an entry's symbol.
-fn search(arena: &[u8], table: &[u64], t: Turn, strings: usize, name: u32) -> Resolved
+fn search(arena: &[u8], table: &[u64], t: Turn, strings: usize, name: u32) -> Option<Found>
     requires { Filtered table.now }
     ensures { result ≡ sought_for table.now t arena.now (name_at (image_in arena.now t) (strings + name)) }
 {
@@ -66,7 +66,7 @@ pub(crate) fn search_copy(
     t: Turn,
     strings: usize,
     name: u32,
-) -> Resolved
+) -> Option<Found>
     requires { Filtered table.now }
     ensures { result ≡ sought_for_copy table.now arena.now (name_at (image_in arena.now t) (strings + name)) }
 {
@@ -91,62 +91,42 @@ fn write_field(arena: &mut [u8], p: Progress, t: Turn, e: Rela, f: Field, s: u64
     p
 }
 
-// What the symbol of an entry came to: refusal 14, 15 or 17; an address that needs no search, or one that a search found; or none.
+// What the symbol of an entry came to: an address that needs no search, or one that a search found; or none.
 #[derive(Clone, Copy)]
 pub enum Sought {
-    Stopped(u32),
     Known(u64),
     Searched(u64),
     Missing(Symbol),
 }
 
-// Refusal 14 or 15, or 0.
-fn symbol_refusal(c: CheckedSymbol) -> u32
-    ensures { result ≡ symbol_refusal c }
-{
-    match c {
-        CheckedSymbol::Refused(n) => n,
-        CheckedSymbol::Checked(y) => 0,
-    }
-}
-
-// What the symbol of an entry with the field `f` comes to.
+// What the symbol of an entry with the field `f` comes to, or refusal 14, 15 or 17.
 fn seek(
     arena: &[u8],
     p: Progress,
     table: &[u64],
     t: Turn,
-    o: ObjectData,
+    o: &ObjectData,
     e: Rela,
     f: Field,
-) -> Sought
+) -> Result<Sought, Refusal>
     requires { Filtered table.now }
-    ensures { result ≡ sought_of table.now t (held_by o) e (searched_by f) (field_by f) p arena.now (checked_symbol (image_in arena.now t) (held_by o) e.symbol) }
+    ensures { result ≡ sought_of table.now t (held_by o.now) e (searched_by f) (field_by f) p arena.now (checked_symbol (image_in arena.now t) (held_by o.now) e.symbol) }
 {
-    let c = symbol_of(arena, t, o, e.symbol);
-    let CheckedSymbol::Checked(y) = c else {
-        return Sought::Stopped(symbol_refusal(c));
-    };
+    let y = symbol_of(arena, t, o, e.symbol)?;
     let b = object::dynamic_fields::bounds_of(o);
     if !object::table_bytes::in_writable(b, e.place, object::relocate::width_of(f)) {
-        return Sought::Stopped(17);
+        return Err(Refusal::NotWritable);
     }
     if !object::relocate::searches(f, e.symbol) {
-        return Sought::Known(0);
+        return Ok(Sought::Known(0));
     }
     if p.last == e.symbol as u64 + 1 {
-        return Sought::Known(p.address);
+        return Ok(Sought::Known(p.address));
     }
-    let s = search(arena, table, t, o.strings, y.name);
-    let Resolved::Found {
-        object: _,
-        definition: _,
-        address,
-    } = s
-    else {
-        return Sought::Missing(y);
-    };
-    Sought::Searched(address)
+    match search(arena, table, t, o.strings, y.name) {
+        Some(found) => Ok(Sought::Searched(found.address)),
+        None => Ok(Sought::Missing(y)),
+    }
 }
 
 // The field of the entry with number `i` by what its symbol came to: what was found is kept; what was found nowhere is 0, and a word of the
@@ -161,10 +141,9 @@ fn write_sought(
     f: Field,
     s: Sought,
 ) -> Progress
-    ensures { left result arena.new report.new ≡ write_sought t e (field_by f) i s p arena.old report.old }
+    ensures { left result arena.new report.new ≡ write_sought t e (field_by f) i (Ok s) p arena.old report.old }
 {
     match s {
-        Sought::Stopped(n) => crate::report::refused(p, t, n),
         Sought::Known(v) => write_field(arena, p, t, e, f, v),
         Sought::Searched(v) => {
             let q = crate::report::keep(p, e.symbol as u64 + 1, v);
@@ -184,30 +163,24 @@ fn copying(
     p: Progress,
     table: &[u64],
     t: Turn,
-    o: ObjectData,
+    o: &ObjectData,
     i: u32,
     e: Rela,
 ) -> Progress
     requires { Filtered table.now }
-    ensures { left result arena.new report.new ≡ copying_of table.now t (held_by o) e i (checked_symbol (image_in arena.old t) (held_by o) e.symbol) p arena.old report.old }
+    ensures { left result arena.new report.new ≡ copying_of table.now t (held_by o.now) e i (checked_symbol (image_in arena.old t) (held_by o.now) e.symbol) p arena.old report.old }
 {
-    let c = symbol_of(arena, t, o, e.symbol);
-    let CheckedSymbol::Checked(y) = c else {
-        return crate::report::refused(p, t, symbol_refusal(c));
+    let y = match symbol_of(arena, t, o, e.symbol) {
+        Ok(y) => y,
+        Err(refusal) => return crate::report::refused(p, t, u32::from(refusal)),
     };
     let b = object::dynamic_fields::bounds_of(o);
-    let s = search_copy(arena, table, t, o.strings, y.name);
-    let Resolved::Found {
-        object,
-        definition,
-        address: _,
-    } = s
-    else {
+    let Some(found) = search_copy(arena, table, t, o.strings, y.name) else {
         return crate::report::unresolved(report, p, y, t.number, i);
     };
-    let n = words::bytes::smaller(y.size as usize, definition.size as usize);
-    let link = scope::links::link_at(table, object);
-    crate::copy::copy_found(arena, p, t, b, e.place, link, definition, n)
+    let n = (y.size as usize).min(found.definition.size as usize);
+    let link = scope::links::link_at(table, found.object);
+    crate::copy::copy_found(arena, p, t, b, e.place, link, found.definition, n)
 }
 
 // What the type of an entry asks for.
@@ -217,12 +190,12 @@ fn run_action(
     p: Progress,
     table: &[u64],
     t: Turn,
-    o: ObjectData,
+    o: &ObjectData,
     i: u32,
     e: Rela,
 ) -> Progress
     requires { Filtered table.now }
-    ensures { left result arena.new report.new ≡ run_action table.now t (held_by o) i e (row_at table.now e.rtype) p arena.old report.old }
+    ensures { left result arena.new report.new ≡ run_action table.now t (held_by o.now) i e (row_at table.now e.rtype) p arena.old report.old }
 {
     let a = crate::types::action_at(table, e.rtype);
     match a {
@@ -236,8 +209,10 @@ fn run_action(
         Action::Refused => crate::report::refused(p, t, 25),
         Action::Relative => relative(arena, p, t, object::dynamic_fields::bounds_of(o), e),
         Action::Symbolic(f) => {
-            let s = seek(arena, p, table, t, o, e, f);
-            write_sought(arena, report, p, t, i, e, f, s)
+            match seek(arena, p, table, t, o, e, f) {
+                Ok(s) => write_sought(arena, report, p, t, i, e, f, s),
+                Err(refusal) => crate::report::refused(p, t, u32::from(refusal)),
+            }
         }
         Action::Copy => copying(arena, report, p, table, t, o, i, e),
     }
@@ -290,18 +265,18 @@ fn relatives(
     let mut i = start;
     let mut k = at + 24 * (start as usize);
     while i < n {
-        if words::bytes::u32_in(part, k + 8) != 8 {
+        if u32::load(part, k + 8) != 8 {
             return i;
         }
-        let place = words::bytes::u64_in(part, k) as usize;
+        let place = u64::load(part, k) as usize;
         if place < low {
             return i;
         }
         if last < place {
             return i;
         }
-        let v = words::bytes::sum_u64(base, words::bytes::u64_in(part, k + 16));
-        words::bytes::store_in(part, place, v);
+        let v = base.wrapping_add(u64::load(part, k + 16));
+        words::bytes::store_in::<u64>(part, place, v);
         k += 24;
         i += 1;
     }
@@ -357,8 +332,8 @@ pub enum Address {
     At(u64),
 }
 
-fn symbols_of(arena: &[u8], t: Turn, o: ObjectData) -> Symbols
-    ensures { SymbolsOf t (held_by o) result arena.now }
+fn symbols_of(arena: &[u8], t: Turn, o: &ObjectData) -> Symbols
+    ensures { SymbolsOf t (held_by o.now) result arena.now }
 {
     let f = object::entry_symbol::fine_in(crate::turn::image_of(arena, t), o);
     Symbols {
@@ -406,28 +381,28 @@ fn symbol_entry(
     requires { (k + 24 ≤ length arena.now) × (t.offset + y.symbols + 24 * y.fits ≤ length arena.now) × (8 ≤ high) }
     ensures { EntryRead table.now arena.now t y k low high result }
 {
-    let a = crate::types::action_at(table, words::bytes::u32_in(arena, k + 8));
+    let a = crate::types::action_at(table, u32::load(arena, k + 8));
     let Action::Symbolic(field) = a else {
         return SymbolEntry::Other;
     };
     if object::relocate::width_of(field) != 8 {
         return SymbolEntry::Other;
     }
-    let place = words::bytes::u64_in(arena, k) as usize;
+    let place = u64::load(arena, k) as usize;
     if place < low {
         return SymbolEntry::Other;
     }
     if high - 8 < place {
         return SymbolEntry::Other;
     }
-    let index = words::bytes::u32_in(arena, k + 12);
+    let index = u32::load(arena, k + 12);
     if y.fits <= index as usize {
         return SymbolEntry::Other;
     }
     if !object::relocate::searches(field, index) {
         return SymbolEntry::Other;
     }
-    let name = words::bytes::u32_in(arena, t.offset + y.symbols + 24 * (index as usize));
+    let name = u32::load(arena, t.offset + y.symbols + 24 * (index as usize));
     if y.ends <= name as usize {
         return SymbolEntry::Other;
     }
@@ -436,7 +411,7 @@ fn symbol_entry(
         place: place,
         index: index,
         name: name,
-        addend: words::bytes::u64_in(arena, k + 16),
+        addend: u64::load(arena, k + 16),
     }
 }
 
@@ -457,14 +432,9 @@ fn address_of(
     if last == number {
         return Address::At(kept);
     }
-    let s = search(arena, table, t, strings, name);
-    match s {
-        Resolved::Absent => Address::Nowhere,
-        Resolved::Found {
-            object: _,
-            definition: _,
-            address: found,
-        } => Address::At(found),
+    match search(arena, table, t, strings, name) {
+        Some(found) => Address::At(found.address),
+        None => Address::Nowhere,
     }
 }
 
@@ -509,7 +479,7 @@ fn symbolics(
             return p;
         };
         let v = object::relocate::value_of(field, found, addend, t.base, place as u64);
-        words::bytes::store_in(arena, t.offset + place, v);
+        words::bytes::store_in::<u64>(arena, t.offset + place, v);
         p = Run {
             next: p.next + 1,
             last: number,
@@ -532,8 +502,8 @@ fn in_runs(table: &[u64], rtype: u32) -> bool {
 
 // The range to be used after an entry: after one that the loops above do, the segment of its place.
 fn range_after(table: &[u64], w: Writable, b: Bounds, rtype: u32, place: usize) -> Writable
-    requires { WritableRange (take b.count b.segments) w.low w.high }
-    ensures { WritableRange (take b.count b.segments) result.low result.high }
+    requires { WritableRange (b.segments.now) w.low w.high }
+    ensures { WritableRange (b.entry.segments.now) result.low result.high }
 {
     if !in_runs(table, rtype) {
         return w;
@@ -556,11 +526,11 @@ fn run_table(
     p: Progress,
     table: &[u64],
     t: Turn,
-    o: ObjectData,
+    o: &ObjectData,
     x: Entries,
 ) -> Progress
     requires { Filtered table.now }
-    ensures { left result arena.new report.new ≡ run_table table.now t (held_by o) x.at x.first x.count 0 (left p arena.old report.old) }
+    ensures { left result arena.new report.new ≡ run_table table.now t (held_by o.now) x.at x.first x.count 0 (left p arena.old report.old) }
 {
     let b = object::dynamic_fields::bounds_of(o);
     let y = symbols_of(arena, t, o);
@@ -602,10 +572,10 @@ fn run_tables(
     p: Progress,
     table: &[u64],
     t: Turn,
-    o: ObjectData,
+    o: &ObjectData,
 ) -> Progress
     requires { Filtered table.now }
-    ensures { left result arena.new report.new ≡ run_tables table.now t (held_by o) (left p arena.old report.old) }
+    ensures { left result arena.new report.new ≡ run_tables table.now t (held_by o.now) (left p arena.old report.old) }
 {
     let relas = crate::relr::cut_to_32(o.relas);
     let rela = Entries {
@@ -632,18 +602,27 @@ fn run_object(
     p: Progress,
     table: &[u64],
     t: Turn,
-    o: ObjectData,
+    o: &ObjectData,
 ) -> Progress
     requires { Filtered table.now }
-    ensures { left result arena.new report.new ≡ run_object table.now t (held_by o) p arena.old report.old }
+    ensures { left result arena.new report.new ≡ run_object table.now t (held_by o.now) p arena.old report.old }
 {
     let z = crate::report::keep(p, 0, 0);
     let q = crate::report::note(report, z, std::num::wrapping_add_u32(0x5000_0000, t.number));
-    let number = crate::relr::run_relrs(arena, t, o);
-    if number != 0 {
-        return crate::report::refused(q, t, number);
+    if let Err(refusal) = crate::relr::run_relrs(arena, t, o) {
+        return crate::report::refused(q, t, u32::from(refusal));
     }
     run_tables(arena, report, q, table, t, o)
+}
+
+// The record of an object that was loaded, read and checked again: its placed bytes and its file are given.
+pub(crate) fn read_again(image: &[u8], file: &[u8]) -> Result<ObjectData, Refusal>
+    ensures refusal { refused_by result ≡ again_refusal image.now file.now }
+    ensures object { IfOk result (λ o. held_by o ≡ again_record image.now file.now) }
+{
+    let loads = object::program_header::read_loads(file).ok_or(Refusal::Segments)?;
+    let d = object::program_header::dynamic_at(file);
+    object::dynamic_fields::read_object(image, loads, d, false)
 }
 
 // Object `k`, whose file is given. Its record is read again: no relocation before its turn wrote to its part of the arena.
@@ -659,17 +638,10 @@ fn run_at(
     ensures { left result arena.new report.new ≡ run_at table.now k file.now p arena.old report.old }
 {
     let t = crate::turn::turn_of(table, k);
-    let l = object::program_header::read_loads(file);
-    if 16 < l.count {
-        return crate::report::refused(p, t, 7);
+    match read_again(crate::turn::image_of(arena, t), file) {
+        Ok(o) => run_object(arena, report, p, table, t, &o),
+        Err(refusal) => crate::report::refused(p, t, refusal.into()),
     }
-    let d = object::program_header::dynamic_at(file);
-    let r = object::dynamic_fields::read_object(crate::turn::image_of(arena, t), l, d, false);
-    if r.refusal != 0 {
-        return crate::report::refused(p, t, r.refusal);
-    }
-    let o = r.object;
-    run_object(arena, report, p, table, t, o)
 }
 
 // Object `k`, whose file is given, as far as its first `entries` entries of RELA and PLT; its word of the report is left out.
@@ -687,47 +659,43 @@ pub(crate) fn run_until(
 {
     let t = crate::turn::turn_of(table, k);
     let o = crate::crossing::record_again(arena, t, file);
-    let number = crate::relr::run_relrs(arena, t, o);
-    if number != 0 {
-        return crate::report::refused(p, t, number);
+    if let Err(refusal) = crate::relr::run_relrs(arena, t, &o) {
+        return crate::report::refused(p, t, u32::from(refusal));
     }
     let relas = crate::relr::cut_to_32(o.relas);
-    let front = words::bytes::smaller(relas as usize, entries);
+    let front = (relas as usize).min(entries);
     let rela = Entries {
         at: o.rela,
         first: 0,
         count: front as u32,
     };
     let fresh = crate::report::keep(p, 0, 0);
-    let q = run_table(arena, report, fresh, table, t, o, rela);
+    let q = run_table(arena, report, fresh, table, t, &o, rela);
     if q.refusal != 0 {
         return q;
     }
-    let back = words::bytes::smaller(crate::relr::cut_to_32(o.plts) as usize, entries - front);
+    let back = (crate::relr::cut_to_32(o.plts) as usize).min(entries - front);
     let plt = Entries {
         at: o.plt,
         first: relas,
         count: back as u32,
     };
-    run_table(arena, report, q, table, t, o, plt)
+    run_table(arena, report, q, table, t, &o, plt)
 }
 
 // ---- the objects
 
 // The objects of an order, one after another, from where no report word was written.
 pub(crate) fn run_order(
-    bytes: &[u8],
-    parts: Parts,
+    set: &Set,
     arena: &mut [u8],
     report: &mut [u32],
     table: &[u64],
-    order: Order,
+    order: &[u32],
 ) -> Progress
-    requires { (order.count ≤ 64) × Filtered table.now }
-    ensures { left result arena.new report.new ≡ run_order table.now (inputs_in bytes.now parts) (take order.count order.list) (left started arena.old report.old) }
+    requires { Filtered table.now }
+    ensures { left result arena.new report.new ≡ run_order table.now set.now order.now (left started arena.old report.old) }
 {
-    let list = order.list;
-    let n = order.count;
     let mut p = Progress {
         refusal: 0,
         object: 0,
@@ -737,15 +705,12 @@ pub(crate) fn run_order(
         last: 0,
         address: 0,
     };
-    let mut i = 0;
-    while i < n {
-        let k = list[i];
-        let file = sheet::sheet::file_of(bytes, parts, k as usize);
-        p = run_at(arena, report, p, table, k, file);
+    for k in order {
+        let file = set.file(*k as usize);
+        p = run_at(arena, report, p, table, *k, file);
         if p.refusal != 0 {
             return p;
         }
-        i += 1;
     }
     p
 }

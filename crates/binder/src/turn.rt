@@ -23,7 +23,7 @@ pub(crate) fn turn_of(table: &[u64], k: u32) -> Turn
         number: k,
         offset: s.offset,
         span: s.span,
-        base: words::bytes::sum_u64(scope::links::address_in(table), s.offset as u64),
+        base: scope::links::address_in(table).wrapping_add(s.offset as u64),
     }
 }
 
@@ -41,7 +41,7 @@ pub(crate) fn write_word(arena: &mut [u8], off: usize, place: usize, v: u64)
     if arena.len() < off {
         return;
     }
-    words::bytes::store_u64(&mut arena[off..], place, v);
+    words::bytes::store::<u64>(&mut arena[off..], place, v);
 }
 
 // The four bytes at `place` of the object at `off` become the low ones of `v`.
@@ -51,16 +51,7 @@ pub(crate) fn write_half(arena: &mut [u8], off: usize, place: usize, v: u64)
     if arena.len() < off {
         return;
     }
-    words::bytes::store_u32(&mut arena[off..], place, v);
-}
-
-// The byte at `place` of the object at `off` becomes `b`.
-pub(crate) fn write_byte(arena: &mut [u8], off: usize, place: usize, b: u8)
-    requires { off + place + 1 ≤ length arena.old }
-    ensures { arena.new ≡ slice_set arena.old (off + place) b }
-{
-    let part = &mut arena[off..];
-    part[place] = b;
+    words::bytes::store::<u32>(&mut arena[off..], place, v);
 }
 
 // The `n` bytes at `start` of the arena go to the place `to` of the object at `off`; the two ranges are apart.
@@ -68,10 +59,5 @@ pub(crate) fn copy_part(arena: &mut [u8], off: usize, to: usize, start: usize, n
     requires { CopyApart (length arena.old) (off + to) start n }
     ensures { arena.new ≡ patch arena.old (off + to) n (from start (mem arena.old)) }
 {
-    let mut i = 0;
-    while i < n {
-        let b = arena[start + i];
-        write_byte(arena, off, to + i, b);
-        i += 1;
-    }
+    arena.copy_within(start..start + n, off + to);
 }

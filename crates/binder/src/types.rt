@@ -7,8 +7,9 @@ ghost use Rattle.object.specs.declared.relocate.Action.TheVariants as actions;
 ghost use Rattle.binder.specs.Bind.{unless};
 ghost use Rattle.binder.specs.Steps.Relocating.{row_at};
 
-use crate::Verdict;
+use crate::Refused;
 use object::relocate::Action;
+use words::refusal::Refusal;
 
 // ---- what is handed in
 
@@ -16,16 +17,12 @@ use object::relocate::Action;
 fn word_ok(word: u32, rtype: u32) -> bool
     ensures { result ≡ word_ok rtype word }
 {
-    if word as u64 == 0x9000_0000 + rtype as u64 {
+    let word = u64::from(word);
+    let low = u64::from(rtype);
+    if word == 0x9000_0000 + low {
         return object::relocate::may_apply(rtype);
     }
-    if word as u64 == 0xa000_0000 + rtype as u64 {
-        return true;
-    }
-    if word as u64 == 0xb000_0000 + rtype as u64 {
-        return true;
-    }
-    false
+    word == 0xa000_0000 + low || word == 0xb000_0000 + low
 }
 
 fn types_ok(types: &[u32]) -> bool
@@ -34,27 +31,23 @@ fn types_ok(types: &[u32]) -> bool
     if types.len() != 64 {
         return false;
     }
-    let mut i = 0;
-    while i < 64 {
-        if !word_ok(types[i], i as u32) {
+    for (i, word) in types.iter().enumerate() {
+        if !word_ok(*word, i as u32) {
             return false;
         }
-        i += 1;
     }
     true
 }
 
 // Refusal 24.
-pub fn types_verdict(types: &[u32]) -> Verdict
+#[tactic(auto, unfolding(crate::specs::Bind::unless))]
+pub fn types_verdict(types: &[u32]) -> Result<(), Refused>
     ensures { result ≡ unless (types_ok types.now) 24 0 }
 {
-    if types_ok(types) {
-        return Verdict::Passed;
+    if !types_ok(types) {
+        return Err(Refused::new(Refusal::Types, 0));
     }
-    Verdict::Refused {
-        number: 24,
-        object: 0,
-    }
+    Ok(())
 }
 
 // The supplied word of type `i`; 0 past the last.
@@ -71,29 +64,19 @@ fn supplied_at(i: usize) -> u32
 pub fn supply(types: &mut [u32])
     ensures { types.new ≡ tab (length types.old) (mem supplied_types) }
 {
-    let mut i = 0;
-    while i < types.len() {
+    for i in 0..types.len() {
         types[i] = supplied_at(i);
-        i += 1;
     }
 }
 
 // ---- in the table of a set, behind its count and address
 
-fn wide(word: u32) -> u64
-    ensures { result ≡ word }
-{
-    word as u64
-}
-
 pub fn put_types(table: &mut [u64], types: &[u32])
     requires { (1090 ≤ length table.old) × (length types.now ≡ 64) }
     ensures { table.new ≡ patch table.old 1026 64 (mem types.now) }
 {
-    let mut i = 0;
-    while i < 64 {
-        table[1026 + i] = wide(types[i]);
-        i += 1;
+    for (i, word) in types.iter().enumerate() {
+        table[1026 + i] = u64::from(*word);
     }
 }
 
@@ -102,10 +85,7 @@ fn word_of(table: &[u64], rtype: u32) -> u64
     ensures { result ≡ slice_index table.now (1026 + rtype) }
 {
     let k = 1026 + rtype as usize;
-    if k < table.len() {
-        return table[k];
-    }
-    0
+    table.get(k).copied().unwrap_or(0)
 }
 
 // What the type of an entry asks for.
@@ -119,8 +99,7 @@ pub(crate) fn action_at(table: &[u64], rtype: u32) -> Action
 pub(crate) fn applies_relative(table: &[u64]) -> bool
     ensures { result ≡ true → row_at table.now 8 ≡ row_by actions.Relative }
 {
-    let a = action_at(table, 8);
-    match a {
+    match action_at(table, 8) {
         Action::Relative => true,
         _ => false,
     }

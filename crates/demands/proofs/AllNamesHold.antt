@@ -1,4 +1,5 @@
 -- The statements about `query_all` hold. Assumes nothing.
+use Rattle.std.proofs.Common.{Ok, Err}
 use mathlib.Core.Path.{◌≡◌, refl, sym, ap, ◌∙◌}
 use mathlib.Core.Bool.{Bool, true, false}
 use mathlib.Core.Logic.{inl, inr, ⊎_elim}
@@ -20,16 +21,11 @@ use Rattle.model.specs.Relocation.{placed, address_or0}
 use Rattle.model.proofs.OrderLaws.{decide}
 use Rattle.sheet.specs.Sheet.{Input, set_of}
 use Rattle.sheet.proofs.SheetLonger.{Longer, sheet_longer}
-use Rattle.binder.specs.declared.Reply as replies
-use Rattle.binder.specs.declared.ReplyAll.{ReplyAll}
-use Rattle.binder.specs.declared.ReplyAll as all
 use Rattle.binder.specs.Setting.{Setting}
-use Rattle.binder.specs.Verdict.{first}
-use Rattle.binder.specs.declared.Verdict.{Verdict}
-use Rattle.binder.specs.declared.Verdict.TheVariants.{Passed, Refused}
+use Rattle.binder.specs.Verdict.{Verdict, passed, refused, first}
 use Rattle.binder.specs.Bind.{unless, replied, Replied, reply_of, replied_of, query_of}
 use Rattle.binder.specs.QueryAll.{beginning, names_in, ends_in_zero, zero_bytes, list_ok, replied_all, replied_all_of, addresses_of, ask_all_set}
-use Rattle.binder.proofs.OutcomeLaws.{first_passed, unless_passed, objects_in, sheet_verdict, query_one}
+use Rattle.binder.proofs.OutcomeLaws.{first_passed, unless_passed, objects_in, sheet_verdict, query_one, refused_same}
 use Rattle.binder.proofs.QueryAllIs.{query_all_one}
 use Rattle.demands.specs.LongerSet.{set_objects}
 use Rattle.demands.specs.Refusals.{QueryRefused}
@@ -41,7 +37,7 @@ use Rattle.demands.proofs.LongerQueryLaw.{asked, longer_query}
 -- ---- as many single queries
 
 -- a reply's word is the answer's address
-word_is : (size : ℕ) (v : Verdict) (x : symbols.Resolved) (a : List ℕ) → v ≡ Passed → word_of (replied_of size v (reply_of x) a) ≡ address_or0 x
+word_is : (size : ℕ) (v : Verdict) (x : symbols.Resolved) (a : List ℕ) → v ≡ passed → word_of (replied_of size v (reply_of x) a) ≡ address_or0 x
 unfolding replied_of address_or0
 word_is size v absent a e = rw e refl
 word_is size v (answer k s b) a e = rw e refl
@@ -49,7 +45,7 @@ word_is size v (answer k s b) a e = rw e refl
 module _ (setting : Setting) (sheet bytes : List ℕ) (size requester : ℕ) where
   -- refusals 1 to 13 and 21
   abbrev asking : Verdict
-  asking = first (sheet_verdict setting Passed sheet bytes size) (unless (ltb requester (length (set_of sheet bytes))) 13 0)
+  asking = first (sheet_verdict setting passed sheet bytes size) (unless (ltb requester (length (set_of sheet bytes))) 13 0)
 
   abbrev S : Objs
   S = objects_in setting (set_of sheet bytes)
@@ -57,7 +53,7 @@ module _ (setting : Setting) (sheet bytes : List ℕ) (size requester : ℕ) whe
   abbrev word : List ℕ → ℕ
   word name = word_of (query_of setting sheet bytes size requester name)
 
-  words_are : asking ≡ Passed → (names : List (List ℕ)) → addresses_of S requester names ≡ map word names
+  words_are : asking ≡ passed → (names : List (List ℕ)) → addresses_of S requester names ≡ map word names
   unfolding addresses_of
   words_are e [] = refl
   words_are e (name ∷ names) =
@@ -67,21 +63,21 @@ module _ (setting : Setting) (sheet bytes : List ℕ) (size requester : ℕ) whe
       ) (ap (λ (ws : List ℕ). address_or0 (resolve S requester (by_name name)) ∷ ws) (words_are e names))
 
 put_together :
-    (size slots : ℕ) (v w : Verdict) (t : Bool) (x : symbols.Resolved) (arena ws ws' : List ℕ) → (first v w ≡ Passed → ws ≡ ws')
+    (size slots : ℕ) (v w : Verdict) (t : Bool) (x : symbols.Resolved) (arena ws ws' : List ℕ) → (first v w ≡ passed → ws ≡ ws')
     → replied_all_of size slots (first v (first w (unless t 23 0))) arena ws ≡ from_single size slots t (replied_of size (first v w) (reply_of x) arena) ws'
 unfolding replied_all_of replied_of unless
-put_together size slots (Refused n k) w t x arena ws ws' same = refl
-put_together size slots Passed (Refused n k) t x arena ws ws' same = refl
-put_together size slots Passed Passed true absent arena ws ws' same = ap (replied_all all.TheVariants.Answered arena) (same refl)
-put_together size slots Passed Passed true (answer k s a) arena ws ws' same = ap (replied_all all.TheVariants.Answered arena) (same refl)
-put_together size slots Passed Passed false absent arena ws ws' same = refl
-put_together size slots Passed Passed false (answer k s a) arena ws ws' same = refl
+put_together size slots (Err m) w t x arena ws ws' same = refl
+put_together size slots passed (Err m) t x arena ws ws' same = refl
+put_together size slots passed passed true absent arena ws ws' same = ap (replied_all passed arena) (same refl)
+put_together size slots passed passed true (answer k s a) arena ws ws' same = ap (replied_all passed arena) (same refl)
+put_together size slots passed passed false absent arena ws ws' same = refl
+put_together size slots passed passed false (answer k s a) arena ws ws' same = refl
 
 pub single_queries : SingleQueries
 single_queries setting sheet bytes size requester list slots some =
     query_all_one setting sheet bytes size requester list slots
     ∙ rw (query_one setting sheet bytes size requester some)
-    (put_together size slots (sheet_verdict setting Passed sheet bytes size) (unless (ltb requester (length (set_of sheet bytes))) 13 0) (list_ok list slots)
+    (put_together size slots (sheet_verdict setting passed sheet bytes size) (unless (ltb requester (length (set_of sheet bytes))) 13 0) (list_ok list slots)
     (resolve (S setting sheet bytes size requester) requester (by_name some)) (tab size (placed (S setting sheet bytes size requester))) _ _
     (λ e. words_are setting sheet bytes size requester e (names_in list)))
 
@@ -128,26 +124,25 @@ end_to_end_lem list slots ok =
 -- ---- refusals
 
 not_answered :
-    {P : Type 0} {a b c d : List ℕ} {n k : ℕ} → replied_all all.TheVariants.Answered a b ≡ replied_all (all.TheVariants.Refused n k) c d → P
+    {P : Type 0} {a b c d : List ℕ} {n k : ℕ} → replied_all passed a b ≡ replied_all (refused n k) c d → P
 not_answered e = let z : ◌≡◌ {A = ℕ} 0 1 = cc in absurd (omega arith)
 
 refused_single :
     (sheet bytes : List ℕ) (size slots : ℕ) (t : Bool) (r : Replied) (ws : List ℕ) (n k : ℕ) (arena words : List ℕ)
-    → ((n k : ℕ) (arena : List ℕ) → r ≡ replied (replies.TheVariants.Refused n k) arena → QueryRefused sheet bytes size n k arena)
-    → from_single size slots t r ws ≡ replied_all (all.TheVariants.Refused n k) arena words
+    → ((n k : ℕ) (arena : List ℕ) → r ≡ replied (refused n k) arena → QueryRefused sheet bytes size n k arena)
+    → from_single size slots t r ws ≡ replied_all (refused n k) arena words
     → AllRefused sheet bytes size slots n k arena words
-refused_single sheet bytes size slots t (replied (replies.TheVariants.Refused i j) a) ws n k arena words q e =
-    let number : i ≡ n = cc in
-    let object : j ≡ k = cc in
+refused_single sheet bytes size slots t (replied (Err m) a) ws n k arena words q e =
+    let number : m.number ≡ n = cc in
+    let object : m.object ≡ k = cc in
     let left : a ≡ arena = cc in
-    let o = rw (number, object, left) at (q i j a refl) in
+    let o = rw (number, object, left) at (q m.number m.object a refl) in
     record { number = inl (o.number, o.object); arena_zeros = o.arena_zeros; words_zeros = cc }
-refused_single sheet bytes size slots true (replied (replies.TheVariants.Found i j b) a) ws n k arena words q e = not_answered e
-refused_single sheet bytes size slots true (replied replies.TheVariants.Absent a) ws n k arena words q e = not_answered e
-refused_single sheet bytes size slots false (replied (replies.TheVariants.Found i j b) a) ws n k arena words q e =
-    record { number = inr (cc, cc); arena_zeros = cc; words_zeros = cc }
-refused_single sheet bytes size slots false (replied replies.TheVariants.Absent a) ws n k arena words q e =
-    record { number = inr (cc, cc); arena_zeros = cc; words_zeros = cc }
+refused_single sheet bytes size slots true (replied (Ok f) a) ws n k arena words q e = not_answered e
+refused_single sheet bytes size slots false (replied (Ok f) a) ws n k arena words q e =
+    let x : ◌≡◌ {A = Verdict} (refused n k) (refused 23 0) = cc in
+    let y = refused_same n k 23 0 x in
+    record { number = inr (y.0, y.1); arena_zeros = cc; words_zeros = cc }
 
 pub all_refusals : AllRefusals
 all_refusals setting sheet bytes size requester list slots n k arena words e =
@@ -158,47 +153,47 @@ all_refusals setting sheet bytes size requester list slots n k arena words e =
 -- ---- every call
 
 answered_lengths :
-    (size slots : ℕ) (v : Verdict) (a ws : List ℕ) (r : ReplyAll) (arena words : List ℕ) → length a ≡ size → (v ≡ Passed → length ws ≡ slots)
+    (size slots : ℕ) (v : Verdict) (a ws : List ℕ) (r : Verdict) (arena words : List ℕ) → length a ≡ size → (v ≡ passed → length ws ≡ slots)
     → replied_all_of size slots v a ws ≡ replied_all r arena words
     → (length arena ≡ size) × (length words ≡ slots)
 unfolding replied_all_of
-answered_lengths size slots Passed a ws r arena words la lw e =
+answered_lengths size slots passed a ws r arena words la lw e =
     let arena_is : arena ≡ a = cc in
     let words_is : words ≡ ws = cc in
     (ap length arena_is ∙ la, ap length words_is ∙ lw refl)
-answered_lengths size slots (Refused n k) a ws r arena words la lw e =
+answered_lengths size slots (Err m) a ws r arena words la lw e =
     let arena_is : arena ≡ replicate size 0 = cc in
     let words_is : words ≡ replicate slots 0 = cc in
     (ap length arena_is ∙ length-replicate size 0, ap length words_is ∙ length-replicate slots 0)
 
 -- 23 was passed
 list_passed :
-    (v w : Verdict) (t : Bool) → first v (first w (unless t 23 0)) ≡ Passed → t ≡ true
+    (v w : Verdict) (t : Bool) → first v (first w (unless t 23 0)) ≡ passed → t ≡ true
 list_passed v w t e = unless_passed t 23 0 (first_passed w (unless t 23 0) (first_passed v _ e).1).1
 
 pub all_lengths : AllLengths
 unfolding addresses_of
 all_lengths setting sheet bytes size requester list slots r arena words e =
     answered_lengths size slots _ _ _ r arena words (length_tab size _)
-    (λ v. length-map (names_in list) _ ∙ (end_to_end_lem list slots (list_passed (sheet_verdict setting Passed sheet bytes size) (unless (ltb requester (length (set_of sheet bytes))) 13 0) (list_ok list slots) v)).1)
+    (λ v. length-map (names_in list) _ ∙ (end_to_end_lem list slots (list_passed (sheet_verdict setting passed sheet bytes size) (unless (ltb requester (length (set_of sheet bytes))) 13 0) (list_ok list slots) v)).1)
     (sym (query_all_one setting sheet bytes size requester list slots) ∙ e)
 
 -- ---- a longer set
 
 -- a call that was answered: nothing was refused, and what it leaves
 answered_all :
-    (size slots : ℕ) (v : Verdict) (a ws arena words : List ℕ) → replied_all_of size slots v a ws ≡ replied_all all.TheVariants.Answered arena words
-    → (v ≡ Passed) × (words ≡ ws)
+    (size slots : ℕ) (v : Verdict) (a ws arena words : List ℕ) → replied_all_of size slots v a ws ≡ replied_all passed arena words
+    → (v ≡ passed) × (words ≡ ws)
 unfolding replied_all_of
-answered_all size slots Passed a ws arena words e = (refl, cc)
-answered_all size slots (Refused n k) a ws arena words e = not_answered (sym e)
+answered_all size slots passed a ws arena words e = (refl, cc)
+answered_all size slots (Err m) a ws arena words e = not_answered (sym e)
 
-both_passed : {v w : Verdict} → v ≡ Passed → w ≡ Passed → first v w ≡ Passed
+both_passed : {v w : Verdict} → v ≡ passed → w ≡ passed → first v w ≡ passed
 both_passed e f = rw (e, f) refl
 
 answered_from :
     (size slots : ℕ) (x : symbols.Resolved) (arena ws : List ℕ)
-    → from_single size slots true (replied (reply_of x) arena) ws ≡ replied_all all.TheVariants.Answered arena ws
+    → from_single size slots true (replied (reply_of x) arena) ws ≡ replied_all passed arena ws
 answered_from size slots absent arena ws = refl
 answered_from size slots (answer k s a) arena ws = refl
 
@@ -217,13 +212,13 @@ longer_all setting sheet bytes size requester list slots arena words e f n added
     let T : List ℕ = sheet ++ (f ∷ (n ∷ [])) in
     let more : List ℕ = bytes ++ added in
     let x = answered_all size slots _ _ _ arena words (sym (query_all_one setting sheet bytes size requester list slots) ∙ e) in
-    let p = first_passed (sheet_verdict setting Passed sheet bytes size) _ x.0 in
+    let p = first_passed (sheet_verdict setting passed sheet bytes size) _ x.0 in
     let q = first_passed (unless (ltb requester (length os)) 13 0) (unless (list_ok list slots) 23 0) p.1 in
     let ok : list_ok list slots ≡ true = unless_passed (list_ok list slots) 23 0 q.1 in
     let l : requester < length os = ltb-true requester (length os) (unless_passed (ltb requester (length os)) 13 0 q.0) in
     let h : requester < length (set_of T more) =
-    omega (arith, longer_count os (set_of T more) (sheet_longer sheet bytes f n added (sheet_prepared sheet bytes setting Passed size p.0).0)) in
-    let passed : asking setting sheet bytes size requester ≡ Passed = both_passed p.0 q.0 in
+    omega (arith, longer_count os (set_of T more) (sheet_longer sheet bytes f n added (sheet_prepared sheet bytes setting passed size p.0).0)) in
+    let passed : asking setting sheet bytes size requester ≡ passed = both_passed p.0 q.0 in
     let ws : words ≡ map (word setting sheet bytes size requester) (names_in list) = x.1 ∙ words_are setting sheet bytes size requester passed (names_in list) in (
       map (word setting T more size' requester) (names_in list),
       single_queries setting T more size' requester list slots []

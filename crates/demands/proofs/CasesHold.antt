@@ -1,6 +1,6 @@
 -- Document 01, "Proved cases": all of them hold. Assumes nothing.
 use mathlib.Core.Path.{refl}
-use Rattle.words.specs.Hash.{hash_by, elf_hash, gnu_hash}
+use Rattle.words.specs.Hash.{elf_hash, gnu_hash}
 use Rattle.model.specs.Order.{visit, order_of}
 use Rattle.object.specs.RelocationTypes.{applied_row}
 use Rattle.object.specs.Entries.{relr_of, bit_words, relr_words}
@@ -9,7 +9,7 @@ use Rattle.binder.specs.Instance.{entry_by}
 use Rattle.demands.specs.Cases.{Cases}
 
 pub cases : Cases
-unfolding hash_by elf_hash gnu_hash relr_of bit_words relr_words applied_row visit order_of count_of entry_by
+unfolding elf_hash gnu_hash relr_of bit_words relr_words applied_row visit order_of count_of entry_by
 cases =
     record {
       elf_empty = refl;

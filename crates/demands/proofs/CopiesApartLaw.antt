@@ -25,8 +25,6 @@ use Rattle.object.specs.declared.relocate.Rela.{Rela}
 use Rattle.sheet.specs.Sheet.{set_of}
 use Rattle.binder.specs.Instance.{File, file_image, file_record, named_words, relas_of, wanted_by}
 use Rattle.binder.specs.declared.crossing.Copy.{Copy}
-use Rattle.binder.specs.declared.Verdict.{Verdict}
-use Rattle.binder.specs.declared.Verdict.TheVariants.{Passed}
 use Rattle.binder.specs.Copies.{meets, crosses, crosses_one, copy_found, copy_by, entry_copy, entries_copies, object_copies}
 use Rattle.binder.specs.Verdict.{
   first,
@@ -42,6 +40,8 @@ use Rattle.binder.specs.Verdict.{
   object_verdict,
   order_verdict,
   order_copies,
+  Verdict,
+  passed,
 }
 use Rattle.binder.specs.Bind.{files_of, names_of, unless, types_verdict, relocate_verdict, bind_in}
 use Rattle.binder.specs.OwnOrder.{may_take}
@@ -84,10 +84,10 @@ AllApart earlier cs = Quiet earlier cs × Each cs
 apart_join : (earlier xs ys : List Copy) → AllApart earlier xs → AllApart (earlier ++ xs) ys → AllApart earlier (xs ++ ys)
 apart_join earlier xs ys a b = (quiet_join earlier xs ys a.0 b.0, each_append xs ys a.1 b.1)
 
-passed : (b : Bool) (n rest : ℕ) → require b (suc n) rest ≡ 0 → (b ≡ true) × (rest ≡ 0)
+required : (b : Bool) (n rest : ℕ) → require b (suc n) rest ≡ 0 → (b ≡ true) × (rest ≡ 0)
 unfolding require
-passed true n rest e = (refl, e)
-passed false n rest e = absurd (omega arith)
+required true n rest e = (refl, e)
+required false n rest e = absurd (omega arith)
 
 module _ (row : ℕ → Row) (S : Objs) (k : ℕ) (image : List ℕ) (r : Record) where
   ok_own :
@@ -121,8 +121,8 @@ module _ (row : ℕ → Row) (S : Objs) (k : ℕ) (image : List ℕ) (r : Record
           → (pick t [] (copied p size d s ∷ []) ≡ []) ⊎ ((c : Copy) × (pick t [] (copied p size d s ∷ []) ≡ c ∷ []) × Own c)
       go true z = inl refl
       go false z =
-          let w = passed (in_writable r.segments p (min size s.size)) 16 _ z in
-          let o = passed (copy_ok S k p d s (min size s.size)) 17 0 w.1 in
+          let w = required (in_writable r.segments p (min size s.size)) 16 _ z in
+          let o = required (copy_ok S k p d s (min size s.size)) 17 0 w.1 in
           inr (_, refl, ok_own p d (min size s.size) s o.0)
 
   entry_one :
@@ -148,7 +148,7 @@ module _ (row : ℕ → Row) (S : Objs) (k : ℕ) (image : List ℕ) (r : Record
       go false z = refl
 
   entries_apart :
-      (earlier : List Copy) (es : List Rela) → entries_verdict row S k image r earlier es ≡ Passed → AllApart earlier (entries_copies row S k image r es)
+      (earlier : List Copy) (es : List Rela) → entries_verdict row S k image r earlier es ≡ passed → AllApart earlier (entries_copies row S k image r es)
   unfolding entries_verdict entries_copies Quiet Each
   entries_apart earlier [] v = (Prim.tt {0}, Prim.tt {0})
   entries_apart earlier (e ∷ es) v =
@@ -166,7 +166,7 @@ module _ (row : ℕ → Row) (S : Objs) (k : ℕ) (image : List ℕ) (r : Record
 
 module _ (row : ℕ → Row) (S : Objs) (files : List File) where
   order_apart :
-      (earlier : List Copy) (ks : List ℕ) → order_verdict row S files earlier ks ≡ Passed → AllApart earlier (order_copies row S files ks)
+      (earlier : List Copy) (ks : List ℕ) → order_verdict row S files earlier ks ≡ passed → AllApart earlier (order_copies row S files ks)
   unfolding order_verdict object_verdict order_copies Quiet Each
   order_apart earlier [] v = (Prim.tt {0}, Prim.tt {0})
   order_apart earlier (k ∷ ks) v =
@@ -258,7 +258,7 @@ module _ (cs : List Copy) (q : Quiet [] cs) (e : Each cs) where
 
 -- of an order that passed
 passed_apart :
-    (row : ℕ → Row) (S : Objs) (files : List File) (order : List ℕ) → order_verdict row S files [] order ≡ Passed
+    (row : ℕ → Row) (S : Objs) (files : List File) (order : List ℕ) → order_verdict row S files [] order ≡ passed
     → Apart (order_copies row S files order)
 passed_apart row S files order v =
     let x = order_apart row S files [] order v in

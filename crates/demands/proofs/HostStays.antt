@@ -1,4 +1,5 @@
 -- The host's part of the arena is the host's file. Assumes nothing.
+use Rattle.std.proofs.Common.{Err}
 use mathlib.Core.Path.{◌≡◌, refl, sym, ap, ◌∙◌}
 use mathlib.Core.Logic.{◌≢◌}
 use mathlib.Core.Bool.{true}
@@ -20,16 +21,12 @@ use Rattle.object.specs.Placed.{object_span, object_bytes}
 use Rattle.sheet.specs.Sheet.{Input, set_of}
 use Rattle.sheet.proofs.SheetLonger.{Shape, sheet_shape}
 use Rattle.binder.specs.declared.Policy.{Policy}
-use Rattle.binder.specs.declared.Reply as replies
-use Rattle.binder.specs.declared.Reply.{Reply}
 use Rattle.binder.specs.Setting.{Setting}
 use Rattle.binder.specs.Instance.{File, object_at, next_offset, object_from}
 use Rattle.binder.specs.Steps.PlainVerdict.{plain_order}
-use Rattle.binder.specs.declared.Verdict.{Verdict}
-use Rattle.binder.specs.declared.Verdict.TheVariants.{Passed, Refused}
 use Rattle.binder.specs.SetOrder.{set_order}
 use Rattle.binder.specs.Steps.Prepared.{load_from, place_files}
-use Rattle.binder.specs.Bind.{files_of, names_of, objects_of, replied, replied_of, query_of}
+use Rattle.binder.specs.Bind.{Reply, files_of, names_of, objects_of, replied, replied_of, query_of}
 use Rattle.binder.proofs.FileLaws.{host_file, file_of, files_are}
 use Rattle.binder.proofs.OutcomeLaws.{objects_in, order_in, sheet_verdict, query_one, bound_passed, first_passed}
 use Rattle.binder.proofs.OrderIs.{names_length, order_is}
@@ -39,6 +36,7 @@ use Rattle.binder.proofs.SoundLaws.{set_sound, set_fits}
 use Rattle.demands.proofs.PassedSet.{prepared, sheet_prepared}
 use Rattle.demands.specs.LongerSet.{BoundBy}
 use Rattle.demands.specs.Refusals.{HostIn, HostKept}
+use Rattle.binder.specs.Verdict.{Verdict, passed, refused}
 
 -- ---- placing and binding leave the bytes of the first object
 
@@ -76,11 +74,11 @@ first_bytes file size m l same =
     many : length (take (length file) (tab size m)) ≡ length file
     many = simp (length-take, length_tab) (omega arith)
 
-module _ (setting : Setting) (size : ℕ) (h p : Input) (ls : List Input) (v : load_from setting size 0 0 (files_of (h ∷ (p ∷ ls))) ≡ Passed) where
+module _ (setting : Setting) (size : ℕ) (h p : Input) (ls : List Input) (v : load_from setting size 0 0 (files_of (h ∷ (p ∷ ls))) ≡ passed) where
   abbrev fs : List File
   fs = map file_of ls
 
-  loads : load_from setting size 0 0 (host_file h ∷ (file_of p ∷ fs)) ≡ Passed
+  loads : load_from setting size 0 0 (host_file h ∷ (file_of p ∷ fs)) ≡ passed
   loads = rw (files_are h p ls) at v
 
   fits : length h.file ≤ size
@@ -92,7 +90,7 @@ module _ (setting : Setting) (size : ℕ) (h p : Input) (ls : List Input) (v : l
   placed_host i l = rw (files_are h p ls) (placed_first setting h (file_of p) fs i l)
 
   bound_host :
-      plain_order setting.row (objects_in setting (h ∷ (p ∷ ls))) (files_of (h ∷ (p ∷ ls))) (order_in (h ∷ (p ∷ ls))) ≡ Passed
+      plain_order setting.row (objects_in setting (h ∷ (p ∷ ls))) (files_of (h ∷ (p ∷ ls))) (order_in (h ∷ (p ∷ ls))) ≡ passed
       → (i : ℕ) → i < length h.file
       → bound (objects_in setting (h ∷ (p ∷ ls))) (order_in (h ∷ (p ∷ ls))) i ≡ mem h.file i
   unfolding objects_of object_span object_from object_at next_offset layouts.objs_of
@@ -105,7 +103,7 @@ module _ (setting : Setting) (size : ℕ) (h p : Input) (ls : List Input) (v : l
 
 -- ---- of a set
 
-module _ (setting : Setting) (size : ℕ) (os : List Input) (s : Shape os) (v : load_from setting size 0 0 (files_of os) ≡ Passed) where
+module _ (setting : Setting) (size : ℕ) (os : List Input) (s : Shape os) (v : load_from setting size 0 0 (files_of os) ≡ passed) where
   -- an arena whose first bytes are the host's
   host_in : (m : Mem) → ((i : ℕ) → i < length s.host.file → m i ≡ mem s.host.file i) → HostIn os (tab size m)
   host_in m same =
@@ -118,7 +116,7 @@ module _ (setting : Setting) (size : ℕ) (os : List Input) (s : Shape os) (v : 
       (λ i l. rw s.is (placed_host setting size s.host s.program s.libs (rw s.is at v) i l))
 
   bound_in :
-      plain_order setting.row (objects_in setting os) (files_of os) (order_in os) ≡ Passed → HostIn os (tab size (bound (objects_in setting os) (order_in os)))
+      plain_order setting.row (objects_in setting os) (files_of os) (order_in os) ≡ passed → HostIn os (tab size (bound (objects_in setting os) (order_in os)))
   bound_in w =
       host_in (bound (objects_in setting os) (order_in os))
       (λ i l. rw s.is (bound_host setting size s.host s.program s.libs (rw s.is at v) (rw s.is at w) i l))
@@ -126,11 +124,11 @@ module _ (setting : Setting) (size : ℕ) (os : List Input) (s : Shape os) (v : 
 -- a query that was answered
 answered :
     (size : ℕ) (v : Verdict) (x : Reply) (l : List ℕ) (r : Reply) (arena : List ℕ) → replied_of size v x l ≡ replied r arena
-    → ((n k : ℕ) → r ≢ replies.TheVariants.Refused n k)
-    → (v ≡ Passed) × (arena ≡ l)
+    → ((n k : ℕ) → r ≢ refused n k)
+    → (v ≡ passed) × (arena ≡ l)
 unfolding replied_of
-answered size Passed x l r arena e ne = (refl, cc)
-answered size (Refused n k) x l r arena e ne = absurd (ne n k cc)
+answered size passed x l r arena e ne = (refl, cc)
+answered size (Err m) x l r arena e ne = absurd (ne m.number m.object cc)
 
 pub host_kept : HostKept
 host_kept = record { bound = bind_host; asked = query_host }
@@ -147,9 +145,9 @@ host_kept = record { bound = bind_host; asked = query_host }
     query_host :
         (setting : Setting) (sheet bytes : List ℕ) (size requester : ℕ) (name : List ℕ) (r : Reply) (arena : List ℕ)
         → query_of setting sheet bytes size requester name ≡ replied r arena
-        → ((n k : ℕ) → r ≢ replies.TheVariants.Refused n k)
+        → ((n k : ℕ) → r ≢ refused n k)
         → HostIn (set_of sheet bytes) arena
     query_host setting sheet bytes size requester name r arena e ne =
         let a = answered size _ _ _ r arena (sym (query_one setting sheet bytes size requester name) ∙ e) ne in
-        let q = prepared sheet bytes setting size (sheet_prepared sheet bytes setting Passed size (first_passed (sheet_verdict setting Passed sheet bytes size) _ a.0).0) in
+        let q = prepared sheet bytes setting size (sheet_prepared sheet bytes setting passed size (first_passed (sheet_verdict setting passed sheet bytes size) _ a.0).0) in
         rw a.1 (placed_in setting size (set_of sheet bytes) (sheet_shape sheet bytes (length bytes) q.sheet_ok_lem) q.loads)

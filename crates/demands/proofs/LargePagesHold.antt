@@ -15,8 +15,7 @@ use Rattle.sheet.specs.Sheet.{Input, no_input, set_of}
 use Rattle.sheet.proofs.SheetLonger.{sheet_shape}
 use Rattle.binder.specs.Setting.{Setting}
 use Rattle.binder.specs.Instance.{File, object_at, next_offset, object_from}
-use Rattle.binder.specs.Verdict.{no_file}
-use Rattle.binder.specs.declared.Verdict.TheVariants.{Passed}
+use Rattle.binder.specs.Verdict.{passed, no_file}
 use Rattle.binder.specs.Steps.Prepared.{load_from}
 use Rattle.binder.specs.Bind.{files_of, objects_of}
 use Rattle.binder.proofs.FileLaws.{host_file, file_of, files_are}
@@ -52,7 +51,7 @@ next_of setting end file =
       near = next_near (object_align false file) setting.address end some;
     }
 
-module _ (setting : Setting) (size : ℕ) (h p : Input) (ls : List Input) (v : load_from setting size 0 0 (files_of (h ∷ (p ∷ ls))) ≡ Passed) where
+module _ (setting : Setting) (size : ℕ) (h p : Input) (ls : List Input) (v : load_from setting size 0 0 (files_of (h ∷ (p ∷ ls))) ≡ passed) where
   abbrev os : List Input
   os = h ∷ (p ∷ ls)
 
@@ -62,7 +61,7 @@ module _ (setting : Setting) (size : ℕ) (h p : Input) (ls : List Input) (v : l
   abbrev set : Objs
   set = objs_of (object_from setting) (host_file h) (file_of p) fs
 
-  loads : load_from setting size 0 0 (host_file h ∷ (file_of p ∷ fs)) ≡ Passed
+  loads : load_from setting size 0 0 (host_file h ∷ (file_of p ∷ fs)) ≡ passed
   loads = rw (files_are h p ls) at v
 
   many : count set ≡ length os
@@ -103,7 +102,7 @@ module _ (setting : Setting) (size : ℕ) (h p : Input) (ls : List Input) (v : l
 
 laid_out :
     (setting : Setting) (size : ℕ) (os : List Input) (h p : Input) (ls : List Input) → os ≡ h ∷ (p ∷ ls)
-    → load_from setting size 0 0 (files_of os) ≡ Passed
+    → load_from setting size 0 0 (files_of os) ≡ passed
     → LaidOut setting size os (objects_of setting (files_of os))
 laid_out setting size os h p ls e v = rw e (laid setting size h p ls (rw e at v))
 

@@ -1,4 +1,5 @@
 -- Demand 3 for what `query` answers: a longer set gives the same answer. Assumes nothing.
+use Rattle.std.proofs.Common.{Err}
 use mathlib.Core.Path.{◌≡◌, refl, sym, ap, ◌∙◌}
 use mathlib.Core.Logic.{◌≢◌}
 use mathlib.Core.List.{List, [], ◌∷◌, ◌++◌, map}
@@ -17,34 +18,33 @@ use Rattle.model.proofs.Scope.{resolve_kept}
 use Rattle.sheet.specs.Sheet.{Input, set_of}
 use Rattle.sheet.proofs.SheetLonger.{Longer, sheet_longer}
 use Rattle.binder.specs.declared.Policy.{Policy}
-use Rattle.binder.specs.declared.Reply.{Reply}
-use Rattle.binder.specs.declared.Reply.TheVariants.{Found}
 use Rattle.binder.specs.Setting.{Setting, setting_at}
 use Rattle.binder.specs.Instance.{File, object_from}
-use Rattle.binder.specs.declared.Verdict.{Verdict}
-use Rattle.binder.specs.declared.Verdict.TheVariants.{Passed, Refused}
-use Rattle.binder.specs.Bind.{files_of, objects_of, unless, prepare_verdict, replied, reply_of, replied_of, ask_set, query_of}
+use Rattle.binder.specs.Bind.{Reply, found, files_of, objects_of, unless, prepare_verdict, replied, reply_of, replied_of, ask_set, query_of}
 use Rattle.demands.proofs.PassedSet.{sheet_prepared}
 use Rattle.demands.specs.LongerSet.{PassesLoading, BoundBy, set_objects, LongerQuery}
 use Rattle.binder.proofs.LoadsSame.{loads_same}
-use Rattle.binder.proofs.OutcomeLaws.{first_passed, unless_passed, sheet_verdict, query_one, AllPassed, bound_passed}
+use Rattle.binder.proofs.OutcomeLaws.{first_passed, unless_passed, sheet_verdict, query_one, AllPassed, bound_passed, found_same}
 use Rattle.binder.proofs.TypesLaws.{verdict_as}
 use Rattle.binder.proofs.FileLaws.{host_file, file_of, files_are, files_longer}
 use Rattle.binder.proofs.SoundLaws.{count_is}
+use Rattle.binder.specs.Verdict.{Verdict, passed}
 
 -- a query that found a symbol was not refused
 found_passed :
-    (size : ℕ) (v : Verdict) (r : Reply) (l arena : List ℕ) (k i a : ℕ) → replied_of size v r l ≡ replied (Found k i a) arena
-    → (v ≡ Passed) × (r ≡ Found k i a)
+    (size : ℕ) (v : Verdict) (r : Reply) (l arena : List ℕ) (k i a : ℕ) → replied_of size v r l ≡ replied (found k i a) arena
+    → (v ≡ passed) × (r ≡ found k i a)
 unfolding replied_of
-found_passed size Passed r l arena k i a e = (refl, cc)
-found_passed size (Refused n j) r l arena k i a e = let z : ◌≡◌ {A = ℕ} 0 1 = cc in absurd (omega arith)
+found_passed size passed r l arena k i a e = (refl, cc)
+found_passed size (Err m) r l arena k i a e = let z : ◌≡◌ {A = ℕ} 0 1 = cc in absurd (omega arith)
 
 -- the lookup of which it is the reply
 found_answer :
-    (x : symbols.Resolved) (k i a : ℕ) → reply_of x ≡ Found k i a → (s : Definition) × (x ≡ answer k s a) × (s.index ≡ i)
+    (x : symbols.Resolved) (k i a : ℕ) → reply_of x ≡ found k i a → (s : Definition) × (x ≡ answer k s a) × (s.index ≡ i)
 found_answer absent k i a e = let z : ◌≡◌ {A = ℕ} 0 1 = cc in absurd (omega arith)
-found_answer (answer j s b) k i a e = (s, cc, cc)
+found_answer (answer j s b) k i a e =
+    let f = found_same j s.index b k i a e in
+    (s, rw (f.0, f.2), f.1)
 
 -- of any two sets of which the second is the first and one object more
 kept :
@@ -69,7 +69,7 @@ kept setting os os' l r small name k s a e pos =
 -- a bound set passed refusals 1 to 12
 prepared_so :
     (setting : Setting) (sheet bytes : List ℕ) (size words : ℕ) (arena report : List ℕ) → AllPassed setting sheet bytes size words arena report
-    → prepare_verdict setting Passed (set_of sheet bytes) size ≡ Passed
+    → prepare_verdict setting passed (set_of sheet bytes) size ≡ passed
 unfolding prepare_verdict unless
 prepared_so setting sheet bytes size words arena report p =
     rw (p.arena_ok_lem, p.no_duplicate) (loads_same setting size (files_of (set_of sheet bytes)) ∙ p.loads)
@@ -79,7 +79,7 @@ loaded :
     → BoundBy setting sheet bytes size policy words arena report → PassesLoading (setting_at setting.address) sheet bytes size
 loaded setting sheet bytes size policy words arena report e =
     let p = bound_passed setting sheet bytes size policy words arena report e in
-    (p.sheet_ok_lem, verdict_as setting Passed (set_of sheet bytes) size ∙ prepared_so setting sheet bytes size words arena report p)
+    (p.sheet_ok_lem, verdict_as setting passed (set_of sheet bytes) size ∙ prepared_so setting sheet bytes size words arena report p)
 
 -- what a set that is not refused replies
 pub asked :
@@ -91,15 +91,15 @@ asked setting sheet bytes size requester name v l = rw (v.0, v.1, lt-ltb request
 
 same :
     (setting : Setting) (sheet bytes : List ℕ) (size requester : ℕ) (name : List ℕ) (k i a : ℕ) (arena : List ℕ)
-    → query_of setting sheet bytes size requester name ≡ replied (Found k i a) arena → k ≢ 0
+    → query_of setting sheet bytes size requester name ≡ replied (found k i a) arena → k ≢ 0
     → (f n : ℕ) (added : List ℕ) (size' : ℕ) → PassesLoading setting (sheet ++ (f ∷ (n ∷ []))) (bytes ++ added) size'
     → query_of setting (sheet ++ (f ∷ (n ∷ []))) (bytes ++ added) size' requester name
-    ≡ replied (Found k i a) (tab size' (placed (set_objects setting (sheet ++ (f ∷ (n ∷ []))) (bytes ++ added))))
+    ≡ replied (found k i a) (tab size' (placed (set_objects setting (sheet ++ (f ∷ (n ∷ []))) (bytes ++ added))))
 same setting sheet bytes size requester name k i a arena e pos f n added size' v =
     let os : List Input = set_of sheet bytes in
     let p = found_passed size _ _ _ arena k i a (sym (query_one setting sheet bytes size requester name) ∙ e) in
-    let q = first_passed (sheet_verdict setting Passed sheet bytes size) (unless (ltb requester (length os)) 13 0) p.0 in
-    let ok = (sheet_prepared sheet bytes setting Passed size q.0).0 in
+    let q = first_passed (sheet_verdict setting passed sheet bytes size) (unless (ltb requester (length os)) 13 0) p.0 in
+    let ok = (sheet_prepared sheet bytes setting passed size q.0).0 in
     let l = ltb-true requester (length os) (unless_passed (ltb requester (length os)) 13 0 q.1) in
     let x = found_answer (resolve (set_objects setting sheet bytes) requester (by_name name)) k i a p.1 in
     let t = kept setting os (set_of (sheet ++ (f ∷ (n ∷ []))) (bytes ++ added)) (sheet_longer sheet bytes f n added ok) requester l name k x.0 a

@@ -12,7 +12,6 @@ use Rattle.sheet.specs.Sheet.{Input, set_of}
 use Rattle.binder.specs.Setting.{Setting}
 use Rattle.binder.specs.Instance.{File, object_from}
 use Rattle.binder.specs.Steps.PlainVerdict.{plain_order}
-use Rattle.binder.specs.declared.Verdict.TheVariants.{Passed}
 use Rattle.binder.specs.Steps.Prepared.{load_from}
 use Rattle.binder.specs.SetOrder.{set_order}
 use Rattle.binder.specs.Bind.{files_of, names_of, objects_of}
@@ -22,13 +21,14 @@ use Rattle.sheet.proofs.SheetLonger.{Longer, sheet_longer}
 use Rattle.binder.proofs.FileLaws.{host_file, file_of, files_are, files_longer}
 use Rattle.binder.proofs.SoundLaws.{set_sound, set_fits}
 use Rattle.binder.proofs.OrderIs.{names_length, order_is}
+use Rattle.binder.specs.Verdict.{passed}
 
 -- the two stages that a set passed, of its files and its libraries' names
 abbrev Loads : Setting → ℕ → List File → Type 0
-Loads setting size files = load_from setting size 0 0 files ≡ Passed
+Loads setting size files = load_from setting size 0 0 files ≡ passed
 
 abbrev Relocates : Setting → List File → List (List ℕ) → Type 0
-Relocates setting files names = plain_order setting.row (objects_of setting files) files (set_order files names) ≡ Passed
+Relocates setting files names = plain_order setting.row (objects_of setting files) files (set_order files names) ≡ passed
 
 -- what is claimed, of two sets in arenas of `size` and `size'` bytes
 abbrev Keeps : Setting → ℕ → List File → List (List ℕ) → ℕ → List File → List (List ℕ) → Type 0

@@ -20,9 +20,7 @@ use Rattle.object.specs.declared.relocate.Rela.{Rela}
 use Rattle.binder.specs.Instance.{File, file_image, file_record, relas_of}
 use Rattle.binder.specs.declared.crossing.Copy.{Copy}
 use Rattle.binder.specs.Copies.{object_copies}
-use Rattle.binder.specs.Verdict.{first, no_file, object_verdict, order_verdict}
-use Rattle.binder.specs.declared.Verdict.{Verdict}
-use Rattle.binder.specs.declared.Verdict.TheVariants.{Passed}
+use Rattle.binder.specs.Verdict.{Verdict, passed, first, no_file, object_verdict, order_verdict}
 use Rattle.binder.specs.Report.{report_word, is_undefined, is_passed, entry_report, object_words, order_words, has_undefined, first_undefined}
 use Rattle.binder.proofs.OutcomeLaws.{first_passed}
 use Rattle.binder.proofs.RelocatedIs.{times_end}
@@ -116,7 +114,7 @@ sums_same g (x ∷ xs) ys same =
 module _ (row : ℕ → Row) (S : Objs) (files : List File) where
   -- 14 to 18, 22, 25 and 28 of each object by itself
   unfoldable singly : List ℕ → Verdict
-  singly [] = Passed
+  singly [] = passed
   singly (k ∷ ks) = first (object_verdict row S [] k (get_or files k no_file)) (singly ks)
 
   -- so it is where only the last object of an order has copies
@@ -130,17 +128,17 @@ module _ (row : ℕ → Row) (S : Objs) (files : List File) where
       ap (λ (cs : List Copy). first v (order_verdict row S files cs (ks ++ (l ∷ [])))) (none k (times_head k ks))
       ∙ ap (λ (w : Verdict). first v w) (order_singly ks l (λ j h. none j (omega (arith, times_tail j k ks))))
 
-  singly_checked : (ks : List ℕ) → singly ks ≡ Passed → (k : ℕ) → 0 < times k ks → object_verdict row S [] k (get_or files k no_file) ≡ Passed
+  singly_checked : (ks : List ℕ) → singly ks ≡ passed → (k : ℕ) → 0 < times k ks → object_verdict row S [] k (get_or files k no_file) ≡ passed
   unfolding singly
   singly_checked [] v k h = absurd (omega arith)
   singly_checked (j ∷ js) v k h =
       let a = first_passed (object_verdict row S [] j (get_or files j no_file)) (singly js) v in
       ⊎_elim
-      (λ (t : eqb j k ≡ true). subst (λ (i : ℕ). object_verdict row S [] i (get_or files i no_file) ≡ Passed) (eqb-true j k t) a.0)
+      (λ (t : eqb j k ≡ true). subst (λ (i : ℕ). object_verdict row S [] i (get_or files i no_file) ≡ passed) (eqb-true j k t) a.0)
       (λ (t : eqb j k ≡ false). singly_checked js a.1 k (rw t at h))
       (decide (eqb j k))
 
-  all_checked : (ks : List ℕ) → ((k : ℕ) → 0 < times k ks → object_verdict row S [] k (get_or files k no_file) ≡ Passed) → singly ks ≡ Passed
+  all_checked : (ks : List ℕ) → ((k : ℕ) → 0 < times k ks → object_verdict row S [] k (get_or files k no_file) ≡ passed) → singly ks ≡ passed
   unfolding singly
   all_checked [] h = refl
   all_checked (k ∷ ks) h = rw (h k (times_head k ks)) (all_checked ks (λ j l. h j (omega (arith, times_tail j k ks))))
@@ -148,7 +146,7 @@ module _ (row : ℕ → Row) (S : Objs) (files : List File) where
   -- of two orders, where no library has copies
   pub verdicts_same :
       (n : ℕ) (xs ys : List ℕ) → OnceEach n xs → OnceEach n ys → ((k : ℕ) → 2 ≤ k → k < n → object_copies row S k (get_or files k no_file) ≡ [])
-      → order_verdict row S files [] xs ≡ Passed → order_verdict row S files [] ys ≡ Passed
+      → order_verdict row S files [] xs ≡ passed → order_verdict row S files [] ys ≡ passed
   verdicts_same n xs ys o o' none v =
       by_itself ys o'
       ∙ all_checked ys (λ k h. singly_checked xs (sym (by_itself xs o) ∙ v) k (omega (arith, once_times n xs ys o o' k)))

@@ -1,4 +1,5 @@
 -- The statements on `bind_ordered` hold. Assumes nothing.
+use Rattle.std.proofs.Common.{Err}
 use mathlib.Core.Path.{◌≡◌, refl, sym, ap, subst, ◌∙◌, fun_ext}
 use mathlib.Core.Bool.{Bool, true, false}
 use mathlib.Core.Logic.{◌⊎◌, inl, inr}
@@ -24,12 +25,10 @@ use Rattle.sheet.specs.Sheet.{Input, sheet_ok, set_of}
 use Rattle.sheet.proofs.SheetLonger.{Shape, sheet_shape}
 use Rattle.binder.specs.declared.Policy.{Policy}
 use Rattle.binder.specs.declared.Policy.TheVariants.{Strict, Lenient}
-use Rattle.binder.specs.declared.Verdict.{Verdict}
-use Rattle.binder.specs.declared.Verdict.TheVariants.{Passed, Refused}
 use Rattle.binder.specs.Setting.{Setting, setting_of}
 use Rattle.binder.specs.Instance.{File, object_from}
 use Rattle.binder.specs.Copies.{object_copies}
-use Rattle.binder.specs.Verdict.{first, no_file, order_verdict}
+use Rattle.binder.specs.Verdict.{Verdict, passed, first, no_file, order_verdict}
 use Rattle.binder.specs.Report.{object_words, order_words, first_undefined}
 use Rattle.binder.specs.SetOrder.{set_order}
 use Rattle.binder.specs.Steps.Prepared.{load_from}
@@ -79,9 +78,9 @@ order_cases =
 
 -- ---- one verdict
 
-first_none : (v : Verdict) → first v Passed ≡ v
-first_none Passed = refl
-first_none (Refused n k) = refl
+first_none : (v : Verdict) → first v passed ≡ v
+first_none passed = refl
+first_none (Err m) = refl
 
 pub ordered_one :
     (setting : Setting) (sheet bytes : List ℕ) (size : ℕ) (policy : Policy) (words : ℕ) (order : List ℕ)
@@ -149,7 +148,7 @@ module _ (row : ℕ → Row) (S : Objs) (files : List File) (policy : Policy) (w
   allowed Lenient e = refl
 
   -- 14 to 20, 22, 25 and 28
-  relocates_same : relocate_verdict row S files xs policy words ≡ Passed → relocate_verdict row S files ys policy words ≡ Passed
+  relocates_same : relocate_verdict row S files xs policy words ≡ passed → relocate_verdict row S files ys policy words ≡ passed
   unfolding relocate_verdict unless
   relocates_same v =
       let a = first_passed (order_verdict row S files [] xs) _ v in
@@ -160,19 +159,19 @@ module _ (row : ℕ → Row) (S : Objs) (files : List File) (policy : Policy) (w
 
 -- the bytes
 bytes_same :
-    (setting : Setting) → ((t : ℕ) → eqb t 5 ≡ false → Plain (setting.row t)) → (size : ℕ) (h p : File) (fs : List File) → load_from setting size 0 0 (h ∷ (p ∷ fs)) ≡ Passed
+    (setting : Setting) → ((t : ℕ) → eqb t 5 ≡ false → Plain (setting.row t)) → (size : ℕ) (h p : File) (fs : List File) → load_from setting size 0 0 (h ∷ (p ∷ fs)) ≡ passed
     → library_copies (h ∷ (p ∷ fs)) ≡ false
     → (xs ys : List ℕ) → OnceEach (count (objs_of (object_from setting) h p fs)) xs → OnceEach (count (objs_of (object_from setting) h p fs)) ys
-    → plain_order setting.row (objs_of (object_from setting) h p fs) (h ∷ (p ∷ fs)) xs ≡ Passed
+    → plain_order setting.row (objs_of (object_from setting) h p fs) (h ∷ (p ∷ fs)) xs ≡ passed
     → bound (objs_of (object_from setting) h p fs) xs ≡ bound (objs_of (object_from setting) h p fs) ys
 bytes_same setting plain size h p fs v none xs ys o o' w =
     fun_ext
     (order_free (objs_of (object_from setting) h p fs) xs ys (set_sound setting size h p fs v xs o w) (only_program setting plain size h p fs v none) o o')
 
 set_bytes :
-    (setting : Setting) → ((t : ℕ) → eqb t 5 ≡ false → Plain (setting.row t)) → (size : ℕ) (os : List Input) → Shape os → load_from setting size 0 0 (files_of os) ≡ Passed → library_copies (files_of os) ≡ false
+    (setting : Setting) → ((t : ℕ) → eqb t 5 ≡ false → Plain (setting.row t)) → (size : ℕ) (os : List Input) → Shape os → load_from setting size 0 0 (files_of os) ≡ passed → library_copies (files_of os) ≡ false
     → (xs ys : List ℕ) → OnceEach (length (names_of os) + 2) xs → OnceEach (length (names_of os) + 2) ys
-    → plain_order setting.row (objects_in setting os) (files_of os) xs ≡ Passed
+    → plain_order setting.row (objects_in setting os) (files_of os) xs ≡ passed
     → bound (objects_in setting os) xs ≡ bound (objects_in setting os) ys
 unfolding objects_of
 set_bytes setting plain size os s v none xs ys o o' w =
@@ -215,24 +214,24 @@ module _ (setting : Setting) (plain : (t : ℕ) → eqb t 5 ≡ false → Plain 
 
   -- no library has copies
   no_copies :
-      sheet_verdict setting (types_verdict setting) sheet bytes size ≡ Passed → (k : ℕ) → 2 ≤ k → k < length (names_of os) + 2
+      sheet_verdict setting (types_verdict setting) sheet bytes size ≡ passed → (k : ℕ) → 2 ≤ k → k < length (names_of os) + 2
       → object_copies setting.row S k (get_or (files_of os) k no_file) ≡ []
   no_copies v k l h =
       let c = counts sheet bytes (sheet_prepared sheet bytes setting (types_verdict setting) size v).0 in
       library_none setting.row plain S (files_of os) none k l (omega (arith, files_length os, c.all))
 
   loaded_same :
-      sheet_verdict setting (types_verdict setting) sheet bytes size ≡ Passed → (w w' : Verdict) → relocate_verdict setting.row S (files_of os) order policy words ≡ w
+      sheet_verdict setting (types_verdict setting) sheet bytes size ≡ passed → (w w' : Verdict) → relocate_verdict setting.row S (files_of os) order policy words ≡ w
       → relocate_verdict setting.row S (files_of os) own policy words ≡ w'
       → SameBinding (outcome_of size words w (tab size (bound S order)) (order_words setting.row S (files_of os) order))
       (outcome_of size words w' (tab size (bound S own)) (order_words setting.row S (files_of os) own))
   unfolding outcome_of relocate_verdict
-  loaded_same v (Refused n k) (Refused n' k') e e' = record { bound = refl; arena = refl; words = λ j. refl }
-  loaded_same v Passed (Refused n k) e e' =
-      refused_not n k (sym e' ∙ relocates_same setting.row S (files_of os) policy words (length (names_of os) + 2) order own once once_own (pos order once) (no_copies v) e)
-  loaded_same v (Refused n k) Passed e e' =
-      refused_not n k (sym e ∙ relocates_same setting.row S (files_of os) policy words (length (names_of os) + 2) own order once_own once (pos own once_own) (no_copies v) e')
-  loaded_same v Passed Passed e e' =
+  loaded_same v (Err m) (Err d) e e' = record { bound = refl; arena = refl; words = λ j. refl }
+  loaded_same v passed (Err m) e e' =
+      refused_not m.number m.object (sym e' ∙ relocates_same setting.row S (files_of os) policy words (length (names_of os) + 2) order own once once_own (pos order once) (no_copies v) e)
+  loaded_same v (Err m) passed e e' =
+      refused_not m.number m.object (sym e ∙ relocates_same setting.row S (files_of os) policy words (length (names_of os) + 2) own order once_own once (pos own once_own) (no_copies v) e')
+  loaded_same v passed passed e e' =
       let p = prepared sheet bytes setting size (sheet_prepared sheet bytes setting (types_verdict setting) size v) in
       let c = counts sheet bytes p.sheet_ok_lem in
       let small : (xs : List ℕ) → OnceEach (length (names_of os) + 2) xs → (j : ℕ) → 0 < times j xs → j < 2 ^ 28 =
@@ -250,8 +249,8 @@ module _ (setting : Setting) (plain : (t : ℕ) → eqb t 5 ≡ false → Plain 
 
   set_same : (v : Verdict) → sheet_verdict setting (types_verdict setting) sheet bytes size ≡ v → SameBinding (bind_in setting v (files_of os) order size policy words) (bind_in setting v (files_of os) own size policy words)
   unfolding bind_in outcome_of
-  set_same (Refused n k) e = record { bound = refl; arena = refl; words = λ j. refl }
-  set_same Passed e = loaded_same e _ _ refl refl
+  set_same (Err m) e = record { bound = refl; arena = refl; words = λ j. refl }
+  set_same passed e = loaded_same e _ _ refl refl
 
 pub orders_free : OrderFree
 orders_free address types sheet bytes size policy words order none is =
@@ -286,8 +285,8 @@ abbrev Ordered : ℕ → ℕ → ℕ → Type 0
 Ordered count n k = Right BindNumber count n k ⊎ ((n ≡ 35) × (k ≡ 0))
 
 weaker : (count : ℕ) (v : Verdict) → Meets (Right BindNumber count) v → Meets (Ordered count) v
-weaker count Passed m = tt
-weaker count (Refused n k) m = inl m
+weaker count passed m = tt
+weaker count (Err d) m = inl m
 
 ordered_right :
     (setting : Setting) (sheet bytes : List ℕ) (size : ℕ) (policy : Policy) (words : ℕ) (order : List ℕ)

@@ -1,4 +1,5 @@
 -- The files of the pair of sheets, read: spans, images, records, and that no refusal meets them. Assumes nothing.
+use Rattle.std.specs.Prelude.{None, Some}
 use mathlib.Core.Path.{◌≡◌, refl, sym, ap, ◌∙◌}
 use mathlib.Core.Bool.{Bool, true, false}
 use mathlib.Core.Logic.{inl, inr, ◌⊎◌}
@@ -8,6 +9,7 @@ use native.Mathlib.Omega.{arith}
 use borrow.Author.Tests.{le-leb}
 use lib.Dec.{eqb}
 use lib.ListN.{length, replicate, length-append, length-replicate}
+use Rattle.std.specs.Prelude.{Some}
 use Rattle.words.specs.Choice.{pick, every, some, below}
 use Rattle.words.specs.Memory.{Mem, tab, mem, write, from, In}
 use Rattle.words.specs.Words.{byte_of, le_at}
@@ -54,9 +56,7 @@ use Rattle.object.specs.Record.{
 }
 use Rattle.object.specs.Loaded.{object_record, object_refusal}
 use Rattle.object.specs.declared.program_header.Segment.{Segment}
-use Rattle.object.specs.declared.program_header.Dynamic.TheVariants.{At}
 use Rattle.object.specs.declared.hash_tables.HashTable.TheVariants.{Without, SysV}
-use Rattle.object.specs.declared.hash_tables.SymbolCount.TheVariants.{Unknown, Known}
 use Rattle.object.proofs.RefusalLaws.{after_none}
 use Rattle.demands.specs.PairOfSheets.{word_bytes, host_file, program_file, library_file}
 
@@ -124,9 +124,9 @@ record Computed (host : Bool) (file : List ℕ) (segments : List Segment) (at n 
   segments_ok_lem : pick host (eqb (length file % page_size) 0) (segments_ok file (loads_of file)) ≡ true
   aligned : every align_ok segments ≡ true
   align_of_lem : align_of segments ≡ 0x1000
-  array : dynamic_of file ≡ At at
-  record_of : record_at (file ++ replicate n 0) segments (At at) ≡ r
-  tables_ok_lem : read_refusal host (file ++ replicate n 0) segments (At at) ≡ 0
+  array : dynamic_of file ≡ Some at
+  record_of : record_at (file ++ replicate n 0) segments (Some at) ≡ r
+  tables_ok_lem : read_refusal host (file ++ replicate n 0) segments (Some at) ≡ 0
 
 module _ (host : Bool) (file : List ℕ) (segments : List Segment) (at n span : ℕ) (r : Record) (c : Computed host file segments at n r)
     (long : object_span host file ≡ span) (fills : length file + n ≡ span) (same : (i : ℕ) → object_bytes host file i ≡ mem file i) where
@@ -163,7 +163,7 @@ host_record =
       strings = 0;
       symbols = 0;
       table = Without;
-      known = Unknown;
+      known = None;
       rela = 0;
       relas = 0;
       plt = 0;
@@ -190,7 +190,7 @@ program_record =
       strings = 0x180;
       symbols = 0x138;
       table = Without;
-      known = Known 3;
+      known = Some 3;
       rela = 0x188;
       relas = 2;
       plt = 0;
@@ -215,7 +215,7 @@ library_record =
       strings = 0x120;
       symbols = 0xF0;
       table = SysV 0x128 1 2;
-      known = Known 2;
+      known = Some 2;
       rela = 0;
       relas = 0;
       plt = 0;

@@ -11,7 +11,7 @@ use Rattle.words.specs.Choice.{pick, every, some, below}
 use Rattle.words.specs.Memory.{Mem, tab, mem, write, In}
 use Rattle.words.specs.Words.{byte_of, le_at}
 use Rattle.words.specs.Names.{until_zero, same_bytes}
-use Rattle.words.specs.Hash.{hash_by, elf_hash, gnu_hash}
+use Rattle.words.specs.Hash.{elf_hash, gnu_hash}
 use Rattle.words.proofs.Slices.{mem_tab}
 use Rattle.words.proofs.Words.{le_at_same}
 use Rattle.model.specs.Objects as objects
@@ -36,12 +36,9 @@ use Rattle.object.specs.Record.{Record, view_of, index_ok, checked_symbol}
 use Rattle.sheet.specs.Sheet.{Input, pair_ok, lib_words, total, sheet_ok, cut, libs_of, set_of, arena_ok, duplicate_from}
 use Rattle.sheet.specs.Sheet as sheets
 use Rattle.binder.specs.declared.Policy.TheVariants.{Lenient}
-use Rattle.binder.specs.declared.Answer.TheVariants.{Bound}
 use Rattle.binder.specs.Instance.{File, exported_of, places_of, named_words, relas_of, entry_by, object_at, multiple_from, next_offset, object_from}
 use Rattle.binder.specs.Copies.{crosses_one, copy_by, entries_copies, object_copies}
-use Rattle.binder.specs.Verdict.{verdict, refusal_by, words_verdict, entries_verdict, object_verdict, order_verdict}
-use Rattle.binder.specs.declared.Verdict.{Verdict}
-use Rattle.binder.specs.declared.Verdict.TheVariants.{Passed}
+use Rattle.binder.specs.Verdict.{Verdict, passed, verdict, refusal_by, words_verdict, entries_verdict, object_verdict, order_verdict}
 use Rattle.binder.specs.Steps.Prepared.{load_from}
 use Rattle.binder.specs.Report.{report_word, is_absent, undefined_by, entry_report, object_words, order_words}
 use Rattle.binder.specs.SetOrder.{needed_objects, set_order}
@@ -164,8 +161,8 @@ load_next_lem :
     (size k off span : ℕ) (host : Bool) (bs image : List ℕ) (r : Record) (fs : List File) → Reads host bs span image r
     → next_offset host 0x1000 0x10000000 off ≡ off
     → span ≤ size - off
-    → load_from setting size (k + 1) (off + span) fs ≡ Passed
-    → load_from setting size k off (file host bs ∷ fs) ≡ Passed
+    → load_from setting size (k + 1) (off + span) fs ≡ passed
+    → load_from setting size k off (file host bs ∷ fs) ≡ passed
 unfolding load_from verdict
 load_next_lem size k off span host bs image r fs reads next fits rest =
     rw (reads.align_is, next, reads.loads (size - off) fits, reads.span_is) rest
@@ -176,17 +173,17 @@ unfolding next_offset
 next_page true off e = refl
 next_page false off e = omega (arith, e)
 
-load_end : (size k off : ℕ) → load_from setting size k off [] ≡ Passed
+load_end : (size k off : ℕ) → load_from setting size k off [] ≡ passed
 unfolding load_from
 load_end size k off = refl
 
-S_loads : load_from setting 0x4000 0 0 files ≡ Passed
+S_loads : load_from setting 0x4000 0 0 files ≡ passed
 S_loads =
     load_next_lem 0x4000 0 0 0x1000 true host_file host_image host_record _ host_reads (next_page true 0 refl) (omega arith)
     (load_next_lem 0x4000 1 0x1000 0x2000 false program_file program_image program_record _ program_reads (next_page false 0x1000 refl) (omega arith)
     (load_next_lem 0x4000 2 0x3000 0x1000 false (library_file 97) (library_image 97) library_record _ a_reads (next_page false 0x3000 refl) (omega arith) (load_end 0x4000 3 0x4000)))
 
-T_loads : load_from setting 0x5000 0 0 longer_files ≡ Passed
+T_loads : load_from setting 0x5000 0 0 longer_files ≡ passed
 T_loads =
     load_next_lem 0x5000 0 0 0x1000 true host_file host_image host_record _ host_reads (next_page true 0 refl) (omega arith)
     (load_next_lem 0x5000 1 0x1000 0x2000 false program_file program_image program_record _ program_reads (next_page false 0x1000 refl) (omega arith)
@@ -221,7 +218,7 @@ T_order = order_two _ (rw a_reads.record_is) (rw b_reads.record_is)
 
 -- ---- refusals 14 to 18, and 28: none reads another object
 
-program_verdict : (A : Objs) → object_verdict setting.row A [] 1 (file false program_file) ≡ Passed
+program_verdict : (A : Objs) → object_verdict setting.row A [] 1 (file false program_file) ≡ passed
 unfolding object_verdict words_verdict entries_verdict crosses_one copy_by verdict refusal_by word_bytes every some tab mem byte_of le_at until_zero named_words
     relr_words relrs_from relas_of relas_from rela_at row_in row_under applied_row supplied_types may_apply checked_symbol index_ok symbol_ok is_table table_bytes
     table_name in_writable require below
@@ -229,7 +226,7 @@ program_verdict A = rw (program_reads.image_is, program_reads.record_is)
 
 library_verdict :
     (A : Objs) (k c : ℕ) → Reads false (library_file c) 0x1000 (library_image c) library_record
-    → object_verdict setting.row A [] k (file false (library_file c)) ≡ Passed
+    → object_verdict setting.row A [] k (file false (library_file c)) ≡ passed
 unfolding object_verdict words_verdict entries_verdict named_words relr_words relrs_from relas_of relas_from
 library_verdict A k c reads = rw (reads.image_is, reads.record_is)
 
@@ -240,11 +237,11 @@ library_copies_lem :
 unfolding entries_copies relas_of relas_from
 library_copies_lem A k c reads = rw (reads.image_is, reads.record_is)
 
-S_entries : order_verdict setting.row S files [] (2 ∷ 1 ∷ []) ≡ Passed
+S_entries : order_verdict setting.row S files [] (2 ∷ 1 ∷ []) ≡ passed
 unfolding order_verdict
 S_entries = rw (library_verdict S 2 97 a_reads, library_copies_lem S 2 97 a_reads, program_verdict S)
 
-T_entries : order_verdict setting.row T longer_files [] (2 ∷ 3 ∷ 1 ∷ []) ≡ Passed
+T_entries : order_verdict setting.row T longer_files [] (2 ∷ 3 ∷ 1 ∷ []) ≡ passed
 unfolding order_verdict
 T_entries =
     rw (library_verdict T 2 97 a_reads, library_copies_lem T 2 97 a_reads, library_verdict T 3 98 b_reads, library_copies_lem T 3 98 b_reads, program_verdict T)
@@ -261,7 +258,7 @@ record Lookups : Type 0 where
   b_in_T : resolve T 1 (by_name (98 ∷ [])) ≡ answer 3 found 0x10004018
 
 look : Lookups
-unfolding resolve scan scope_answer protected_of symbols.address word_bytes tab mem byte_of le_at until_zero same_bytes hash_by elf_hash gnu_hash walk walk_from
+unfolding resolve scan scope_answer protected_of symbols.address word_bytes tab mem byte_of le_at until_zero same_bytes elf_hash gnu_hash walk walk_from
     may_hold is_hit is_exported_hit first_in find_by definition hashes.answer_of symbol_from is_exported
 look = record { a_in_S = refl; a_in_T = refl; b_in_S = refl; b_in_T = refl }
 
@@ -290,21 +287,21 @@ T_words = rw (library_words T 2 97 a_reads, library_words T 3 98 b_reads, progra
 
 -- ---- bound
 
-types_passed : types_verdict setting ≡ Passed
+types_passed : types_verdict setting ≡ passed
 unfolding unless
 types_passed = rw supplied_ok
 
 prepared_typed :
     (sheet bytes : List ℕ) (size : ℕ) → PassesLoading setting sheet bytes size
-    → prepare_verdict setting (types_verdict setting) (set_of sheet bytes) size ≡ Passed
+    → prepare_verdict setting (types_verdict setting) (set_of sheet bytes) size ≡ passed
 prepared_typed sheet bytes size v = ap (λ (t : Verdict). prepare_verdict setting t (set_of sheet bytes) size) types_passed ∙ v.1
 
 -- a set whose stages are known
 bind_passed :
     (sheet bytes : List ℕ) (size : ℕ) (os : List Input) (order ws : List ℕ) (A : Objs) → set_of sheet bytes ≡ os
     → PassesLoading setting sheet bytes size → objects_of setting (files_of os) ≡ A → set_order (files_of os) (names_of os) ≡ order
-    → order_verdict setting.row A (files_of os) [] order ≡ Passed → order_words setting.row A (files_of os) order ≡ ws → leb (length ws) 16 ≡ true
-    → bind_of setting sheet bytes size Lenient 16 ≡ outcome Bound (tab size (bound A order)) (ws ++ replicate (16 - length ws) 0)
+    → order_verdict setting.row A (files_of os) [] order ≡ passed → order_words setting.row A (files_of os) order ≡ ws → leb (length ws) 16 ≡ true
+    → bind_of setting sheet bytes size Lenient 16 ≡ outcome passed (tab size (bound A order)) (ws ++ replicate (16 - length ws) 0)
 unfolding bind_of bind_set bind_in relocate_verdict unless outcome_of
 bind_passed sheet bytes size os order ws A s v o r e w l = rw (v.0, prepared_typed sheet bytes size v, s, o, r, e, w, l)
 

@@ -13,9 +13,7 @@ use Rattle.sheet.specs.Sheet.{Input, sheet_ok, set_of, arena_ok, duplicate_of}
 use Rattle.sheet.proofs.SheetLonger.{sheet_shape}
 use Rattle.binder.specs.Setting.{Setting}
 use Rattle.binder.specs.Instance.{File}
-use Rattle.binder.specs.Verdict.{no_file, load_verdict}
-use Rattle.binder.specs.declared.Verdict.{Verdict}
-use Rattle.binder.specs.declared.Verdict.TheVariants.{Passed}
+use Rattle.binder.specs.Verdict.{Verdict, passed, no_file, load_verdict}
 use Rattle.binder.specs.Steps.Prepared.{load_from}
 use Rattle.binder.specs.SetOrder.{needed_objects, set_order}
 use Rattle.binder.specs.Bind.{files_of, names_of, objects_of, unless, prepare_verdict}
@@ -30,7 +28,7 @@ module _ (sheet bytes : List ℕ) where
 
   pub record Loads (setting : Setting) (size : ℕ) : Type 0 where
     pub sheet_ok_lem : sheet_ok sheet (length bytes) ≡ true
-    pub loads : load_from setting size 0 0 (files_of os) ≡ Passed
+    pub loads : load_from setting size 0 0 (files_of os) ≡ passed
 
   pub prepared : (setting : Setting) (size : ℕ) → PassesLoading setting sheet bytes size → Loads setting size
   unfolding prepare_verdict
@@ -41,7 +39,7 @@ module _ (sheet bytes : List ℕ) where
 
   -- of the one verdict
   pub sheet_prepared :
-      (setting : Setting) (types : Verdict) (size : ℕ) → sheet_verdict setting types sheet bytes size ≡ Passed → PassesLoading setting sheet bytes size
+      (setting : Setting) (types : Verdict) (size : ℕ) → sheet_verdict setting types sheet bytes size ≡ passed → PassesLoading setting sheet bytes size
   unfolding prepare_verdict
   sheet_prepared setting types size v =
       let a = first_passed (unless (sheet_ok sheet (length bytes)) 1 0) _ v in

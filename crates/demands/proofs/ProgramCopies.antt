@@ -18,8 +18,7 @@ use Rattle.binder.specs.Setting.{Setting}
 use Rattle.binder.specs.Instance.{File, file_image, file_record, relas_of, wanted_by, entry_by, entry_of, object_at, object_from}
 use Rattle.binder.specs.declared.crossing.Copy.{Copy}
 use Rattle.binder.specs.Copies.{copy_by, entries_copies, object_copies}
-use Rattle.binder.specs.Verdict.{no_file}
-use Rattle.binder.specs.declared.Verdict.TheVariants.{Passed}
+use Rattle.binder.specs.Verdict.{passed, no_file}
 use Rattle.binder.specs.OwnOrder.{is_copy, has_copy, library_copies}
 use Rattle.binder.specs.Steps.Prepared.{load_from}
 use Rattle.binder.proofs.Lies.{count_is, object_lies}
@@ -104,7 +103,7 @@ none_at (f ∷ fs) zero z h = (neither (has_copy f) (some has_copy fs) z).0
 none_at (f ∷ fs) (suc j) z h = none_at fs j (neither (has_copy f) (some has_copy fs) z).1 (omega arith)
 
 pub only_program :
-    (setting : Setting) → ((t : ℕ) → eqb t 5 ≡ false → Plain (setting.row t)) → (size : ℕ) (h p : File) (fs : List File) → load_from setting size 0 0 (h ∷ (p ∷ fs)) ≡ Passed → library_copies (h ∷ (p ∷ fs)) ≡ false
+    (setting : Setting) → ((t : ℕ) → eqb t 5 ≡ false → Plain (setting.row t)) → (size : ℕ) (h p : File) (fs : List File) → load_from setting size 0 0 (h ∷ (p ∷ fs)) ≡ passed → library_copies (h ∷ (p ∷ fs)) ≡ false
     → OnlyProgramCopies (objs_of (object_from setting) h p fs)
 unfolding library_copies has_copy object_at
 only_program setting plain size h p fs v none zero lo hi e m = absurd (omega arith)

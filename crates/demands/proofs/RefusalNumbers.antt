@@ -1,4 +1,5 @@
 -- Which numbers and which objects refusals have. Assumes nothing.
+use Rattle.std.specs.Prelude.{Err, Ok}
 use mathlib.Core.Path.{◌≡◌, refl, sym, ◌∙◌, subst}
 use mathlib.Core.Bool.{Bool, true, false}
 use mathlib.Core.Logic.{◌⊎◌, inl, inr, ⊎_elim, ◌≢◌}
@@ -9,6 +10,7 @@ use native.Mathlib.Decide.{dec_le}
 use borrow.Author.Tests.{eqb-true, eqb-false}
 use lib.Dec.{eqb}
 use lib.ListN.{length, get_or, take, drop, length-drop}
+use Rattle.std.specs.Prelude.{Option, None, Some}
 use Rattle.words.specs.Choice.{pick, every}
 use Rattle.words.specs.Choice as choice
 use Rattle.model.specs.Order.{has}
@@ -17,6 +19,7 @@ use Rattle.model.specs.Scope.{resolve, resolve_copy}
 use Rattle.model.specs.Relocation.{address_or0}
 use Rattle.model.specs.Symbols.{Resolved, absent, answer}
 use Rattle.model.proofs.OrderLaws.{decide, clash, has_head, has_cons}
+use Rattle.words.specs.declared.refusal.Refusal.TheVariants as refusals
 use Rattle.object.specs.Refusal.{require, after}
 use Rattle.object.specs.Header.{header_refusal}
 use Rattle.object.specs.ProgramHeader.{loads_of, dynamic_of}
@@ -31,19 +34,14 @@ use Rattle.object.specs.Entries.{Word, place, nowhere}
 use Rattle.object.specs.DynamicArray.{ends_inside}
 use Rattle.object.specs.DynamicFields.{Fields, fields_of}
 use Rattle.object.specs.declared.program_header.Segment.{Segment}
-use Rattle.object.specs.declared.program_header.Dynamic.{Dynamic}
-use Rattle.object.specs.declared.program_header.Dynamic.TheVariants.{Missing, At}
 use Rattle.object.specs.declared.symbol.Symbol.{Symbol}
 use Rattle.object.specs.declared.relocate.Rela.{Rela}
 use Rattle.object.specs.RelocationTypes.{Calculation, Row, no_search, in_scope, ignored, passed_over, turned_away, marked_refuse, copies, writes}
-use Rattle.object.specs.declared.entry_symbol.CheckedSymbol as checked
 use Rattle.sheet.specs.Sheet.{Input, no_input, named, duplicate_from, duplicate_of}
 use Rattle.binder.specs.Instance.{File, file_image, file_record, named_words, relas_of, wanted_by}
 use Rattle.binder.specs.declared.crossing.Copy.{Copy}
 use Rattle.binder.specs.Copies.{crosses_one, entry_copy, object_copies}
-use Rattle.binder.specs.Verdict.{cross_refusal, first, verdict, no_file, load_verdict, word_refusal, copy_ok, copy_refusal, field_refusal, symbol_then, refusal_by, entry_refusal, words_verdict, entries_verdict, object_verdict, order_verdict}
-use Rattle.binder.specs.declared.Verdict.{Verdict}
-use Rattle.binder.specs.declared.Verdict.TheVariants.{Passed, Refused}
+use Rattle.binder.specs.Verdict.{Verdict, passed, refused, cross_refusal, first, verdict, no_file, load_verdict, word_refusal, copy_ok, copy_refusal, field_refusal, symbol_then, refusal_by, entry_refusal, words_verdict, entries_verdict, object_verdict, order_verdict}
 use Rattle.binder.specs.Report.{has_undefined, first_undefined}
 use Rattle.binder.specs.Bind.{unless}
 
@@ -126,10 +124,10 @@ fields_range ended f =
     (required_range 4 12 _ 11 _ (omega arith) (omega arith)
     (required_range 4 12 _ 11 _ (omega arith) (omega arith) (last_range 4 12 _ 11 (omega arith) (omega arith))))))
 
-read_range : (host : Bool) (image : List ℕ) (segments : List Segment) (d : Dynamic) → Range 4 12 (read_refusal host image segments d)
+read_range : (host : Bool) (image : List ℕ) (segments : List Segment) (d : Option ℕ) → Range 4 12 (read_refusal host image segments d)
 unfolding read_refusal
-read_range host image segments Missing = λ z. omega arith
-read_range host image segments (At at) =
+read_range host image segments None = λ z. omega arith
+read_range host image segments (Some at) =
     after_range 4 12 (fields_refusal (ends_inside image at) (fields_of image at)) _ (fields_range (ends_inside image at) (fields_of image at))
     (required_range 4 12 _ 11 _ (omega arith) (omega arith) (last_range 4 12 _ 12 (omega arith) (omega arith)))
 
@@ -186,7 +184,7 @@ unfolding checked_symbol
 symbol_range image r i rest h =
     go (index_ok r.known i) (symbol_ok (is_table_of r) image r.symbols r.strings i)
   where
-    go : (s t : Bool) → EntryRange (symbol_then (pick s (pick t (checked.TheVariants.Checked (symbol_at image r.symbols i)) (checked.TheVariants.Refused 15)) (checked.TheVariants.Refused 14)) rest)
+    go : (s t : Bool) → EntryRange (symbol_then (pick s (pick t (Ok (symbol_at image r.symbols i)) (Err refusals.SymbolBytes)) (Err refusals.SymbolIndex)) rest)
     go true true = h (symbol_at image r.symbols i)
     go true false = λ z. omega arith
     go false t = λ z. omega arith
@@ -215,18 +213,18 @@ HostFirst (f ∷ fs) = f.host ≡ true
 -- ---- verdicts: what holds of the number and the object, where there is a refusal
 
 abbrev pub Meets : (ℕ → ℕ → Type 0) → Verdict → Type 0
-Meets P Passed = Unit {0}
-Meets P (Refused n k) = P n k
+Meets P passed = Unit {0}
+Meets P (Err m) = P m.number m.object
 
 module _ (P : ℕ → ℕ → Type 0) where
   pub first_meets : (v w : Verdict) → Meets P v → Meets P w → Meets P (first v w)
-  first_meets Passed w a b = b
-  first_meets (Refused n k) w a b = a
+  first_meets passed w a b = b
+  first_meets (Err m) w a b = a
 
   -- the second is looked at where the first passed
-  pub first_then : (v w : Verdict) → Meets P v → (v ≡ Passed → Meets P w) → Meets P (first v w)
-  first_then Passed w a b = b refl
-  first_then (Refused n k) w a b = a
+  pub first_then : (v w : Verdict) → Meets P v → (v ≡ passed → Meets P w) → Meets P (first v w)
+  first_then passed w a b = b refl
+  first_then (Err m) w a b = a
 
   pub unless_meets : (t : Bool) (n k : ℕ) → (t ≡ false → P n k) → Meets P (unless t n k)
   unfolding unless
@@ -238,7 +236,7 @@ module _ (P : ℕ → ℕ → Type 0) where
   unfolding verdict
   verdict_meets N n k r h = go (eqb n 0) refl
     where
-      go : (t : Bool) → eqb n 0 ≡ t → Meets P (pick t Passed (Refused n k))
+      go : (t : Bool) → eqb n 0 ≡ t → Meets P (pick t passed (refused n k))
       go true e = tt
       go false e =
           let ne = eqb-false n 0 e in

@@ -1,4 +1,5 @@
 -- Demand 1's statements on refusals hold. Assumes nothing.
+use Rattle.std.proofs.Common.{Err}
 use mathlib.Core.Path.{◌≡◌, refl, sym, ap, ◌∙◌}
 use mathlib.Core.Bool.{true, false, true≢false}
 use mathlib.Core.Logic.{◌⊎◌, inl, inr, ⊎_elim, ◌≢◌}
@@ -18,15 +19,9 @@ use Rattle.model.proofs.OrderLaws.{clash}
 use Rattle.sheet.specs.Sheet.{Input, sheet_ok, set_of, arena_ok, duplicate_of}
 use Rattle.binder.specs.declared.Policy.{Policy}
 use Rattle.binder.specs.declared.Policy.TheVariants.{Strict, Lenient}
-use Rattle.binder.specs.declared.Answer as answers
-use Rattle.binder.specs.declared.Answer.{Answer}
-use Rattle.binder.specs.declared.Reply as replies
-use Rattle.binder.specs.declared.Reply.{Reply}
 use Rattle.binder.specs.Setting.{Setting}
 use Rattle.binder.specs.Instance.{File}
-use Rattle.binder.specs.Verdict.{first, order_verdict}
-use Rattle.binder.specs.declared.Verdict.{Verdict}
-use Rattle.binder.specs.declared.Verdict.TheVariants.{Passed, Refused}
+use Rattle.binder.specs.Verdict.{Verdict, passed, refused, first, order_verdict}
 use Rattle.binder.specs.Report.{order_words, first_undefined}
 use Rattle.binder.specs.Bind.{
   files_of,
@@ -42,6 +37,7 @@ use Rattle.binder.specs.Bind.{
   replied,
   reply_of,
   replied_of,
+  Reply,
 }
 use Rattle.object.specs.RelocationTypes.{Row}
 use Rattle.binder.proofs.OutcomeLaws.{first_passed, unless_passed, objects_in, order_in, sheet_verdict, bind_one, query_one}
@@ -191,10 +187,10 @@ module _ (setting : Setting) (sheet bytes : List ℕ) (size : ℕ) where
   query_right :
       (requester : ℕ)
       → Meets (Right QueryNumber (length os))
-      (first (sheet_verdict setting Passed sheet bytes size) (unless (ltb requester (length os)) 13 0))
+      (first (sheet_verdict setting passed sheet bytes size) (unless (ltb requester (length os)) 13 0))
   query_right requester =
-      first_then (Right QueryNumber (length os)) (sheet_verdict setting Passed sheet bytes size) _
-      (prepare_right QueryNumber (λ n l h. inl (l, omega arith)) (inr refl) Passed tt)
+      first_then (Right QueryNumber (length os)) (sheet_verdict setting passed sheet bytes size) _
+      (prepare_right QueryNumber (λ n l h. inl (l, omega arith)) (inr refl) passed tt)
       (λ v. unless_meets (Right QueryNumber (length os)) (ltb requester (length os)) 13 0
       (λ _. (inl (omega arith, omega arith), without (length os) 13 refl (λ e. omega arith) (λ l h i. omega arith))))
 
@@ -202,13 +198,13 @@ module _ (setting : Setting) (sheet bytes : List ℕ) (size : ℕ) where
 
 pub refused_outcome :
     (P : ℕ → ℕ → Type 0) (size words : ℕ) (v : Verdict) (a r : List ℕ) (n k : ℕ) (arena report : List ℕ) → Meets P v
-    → outcome_of size words v a r ≡ outcome (answers.TheVariants.Refused n k) arena report
+    → outcome_of size words v a r ≡ outcome (refused n k) arena report
     → P n k × (arena ≡ replicate size 0) × (report ≡ replicate words 0)
 unfolding outcome_of
-refused_outcome P size words Passed a r n k arena report m e = let z : ◌≡◌ {A = ℕ} 0 1 = cc in absurd (omega arith)
-refused_outcome P size words (Refused i j) a r n k arena report m e =
-    let number : i ≡ n = cc in
-    let object : j ≡ k = cc in
+refused_outcome P size words passed a r n k arena report m e = let z : ◌≡◌ {A = ℕ} 0 1 = cc in absurd (omega arith)
+refused_outcome P size words (Err d) a r n k arena report m e =
+    let number : d.number ≡ n = cc in
+    let object : d.object ≡ k = cc in
     (rw (number, object) at m, cc, cc)
 
 pub bind_refusals : BindRefusals
@@ -220,18 +216,18 @@ bind_refusals setting sheet bytes size policy words n k arena report e =
 
 refused_reply :
     (P : ℕ → ℕ → Type 0) (size : ℕ) (v : Verdict) (r : Reply) (l : List ℕ) (n k : ℕ) (arena : List ℕ) → Meets P v
-    → ((i j : ℕ) → r ≢ replies.TheVariants.Refused i j)
-    → replied_of size v r l ≡ replied (replies.TheVariants.Refused n k) arena
+    → ((i j : ℕ) → r ≢ refused i j)
+    → replied_of size v r l ≡ replied (refused n k) arena
     → P n k × (arena ≡ replicate size 0)
 unfolding replied_of
-refused_reply P size Passed r l n k arena m ne e = absurd (ne n k cc)
-refused_reply P size (Refused i j) r l n k arena m ne e =
-    let number : i ≡ n = cc in
-    let object : j ≡ k = cc in
+refused_reply P size passed r l n k arena m ne e = absurd (ne n k cc)
+refused_reply P size (Err d) r l n k arena m ne e =
+    let number : d.number ≡ n = cc in
+    let object : d.object ≡ k = cc in
     (rw (number, object) at m, cc)
 
 -- a lookup is no refusal
-no_refusal : (x : symbols.Resolved) (n k : ℕ) → reply_of x ≢ replies.TheVariants.Refused n k
+no_refusal : (x : symbols.Resolved) (n k : ℕ) → reply_of x ≢ refused n k
 no_refusal absent n k e = let z : ◌≡◌ {A = ℕ} 0 1 = cc in absurd (omega arith)
 no_refusal (answer j s a) n k e = let z : ◌≡◌ {A = ℕ} 0 1 = cc in absurd (omega arith)
 
@@ -247,19 +243,19 @@ query_refusals setting sheet bytes size requester name n k arena e =
 
 bind_answered :
     (size words : ℕ) (v : Verdict) (a r : List ℕ)
-    → ((arena report : List ℕ) × (outcome_of size words v a r ≡ outcome answers.TheVariants.Bound arena report))
-    ⊎ ((n k : ℕ) × (outcome_of size words v a r ≡ outcome (answers.TheVariants.Refused n k) (replicate size 0) (replicate words 0)))
+    → ((arena report : List ℕ) × (outcome_of size words v a r ≡ outcome passed arena report))
+    ⊎ ((n k : ℕ) × (outcome_of size words v a r ≡ outcome (refused n k) (replicate size 0) (replicate words 0)))
 unfolding outcome_of
-bind_answered size words Passed a r = inl (a, r ++ replicate (words - length r) 0, refl)
-bind_answered size words (Refused n k) a r = inr (n, k, refl)
+bind_answered size words passed a r = inl (a, r ++ replicate (words - length r) 0, refl)
+bind_answered size words (Err m) a r = inr (m.number, m.object, refl)
 
 query_answered :
     (size : ℕ) (v : Verdict) (x : Reply) (l : List ℕ)
     → ((arena : List ℕ) × (replied_of size v x l ≡ replied x arena))
-    ⊎ ((n k : ℕ) × (replied_of size v x l ≡ replied (replies.TheVariants.Refused n k) (replicate size 0)))
+    ⊎ ((n k : ℕ) × (replied_of size v x l ≡ replied (refused n k) (replicate size 0)))
 unfolding replied_of
-query_answered size Passed x l = inl (l, refl)
-query_answered size (Refused n k) x l = inr (n, k, refl)
+query_answered size passed x l = inl (l, refl)
+query_answered size (Err m) x l = inr (m.number, m.object, refl)
 
 pub answered : Answered
 unfolding bind_in
@@ -275,15 +271,15 @@ words_fit : (words : ℕ) (ws : List ℕ) → length ws ≤ words → length (ws
 words_fit words ws l = simp (length-append, length-replicate) (omega arith)
 
 pub bind_lengths :
-    (size words : ℕ) (v : Verdict) (a r : List ℕ) (x : Answer) (arena report : List ℕ) → length a ≡ size → (v ≡ Passed → length r ≤ words)
+    (size words : ℕ) (v : Verdict) (a r : List ℕ) (x : Verdict) (arena report : List ℕ) → length a ≡ size → (v ≡ passed → length r ≤ words)
     → outcome_of size words v a r ≡ outcome x arena report
     → (length arena ≡ size) × (length report ≡ words)
 unfolding outcome_of
-bind_lengths size words Passed a r x arena report la lr e =
+bind_lengths size words passed a r x arena report la lr e =
     let arena_is : arena ≡ a = cc in
     let report_is : report ≡ r ++ replicate (words - length r) 0 = cc in
     (ap length arena_is ∙ la, ap length report_is ∙ words_fit words r (lr refl))
-bind_lengths size words (Refused n k) a r x arena report la lr e =
+bind_lengths size words (Err m) a r x arena report la lr e =
     let arena_is : arena ≡ replicate size 0 = cc in
     let report_is : report ≡ replicate words 0 = cc in
     (ap length arena_is ∙ length-replicate size 0, ap length report_is ∙ length-replicate words 0)
@@ -292,13 +288,13 @@ query_length :
     (size : ℕ) (v : Verdict) (x : Reply) (l : List ℕ) (r : Reply) (arena : List ℕ) → length l ≡ size → replied_of size v x l ≡ replied r arena
     → length arena ≡ size
 unfolding replied_of
-query_length size Passed x l r arena n e = let is : arena ≡ l = cc in ap length is ∙ n
-query_length size (Refused i j) x l r arena n e = let is : arena ≡ replicate size 0 = cc in ap length is ∙ length-replicate size 0
+query_length size passed x l r arena n e = let is : arena ≡ l = cc in ap length is ∙ n
+query_length size (Err m) x l r arena n e = let is : arena ≡ replicate size 0 = cc in ap length is ∙ length-replicate size 0
 
 -- 20 was passed
 pub room :
     (row : ℕ → Row) (S : Objs) (files : List File) (order : List ℕ) (policy : Policy) (words : ℕ) (v : Verdict)
-    → first v (relocate_verdict row S files order policy words) ≡ Passed → length (order_words row S files order) ≤ words
+    → first v (relocate_verdict row S files order policy words) ≡ passed → length (order_words row S files order) ≤ words
 unfolding relocate_verdict
 room row S files order policy words v e =
     let a = first_passed v _ e in

@@ -1,4 +1,5 @@
 -- Demand 1's statements on `start_stop` hold. Assumes nothing.
+use Rattle.std.proofs.Common.{Ok, Err}
 use mathlib.Core.Path.{◌≡◌, refl, sym, ap, ◌∙◌}
 use mathlib.Core.Bool.{Bool, true, false}
 use mathlib.Core.Logic.{◌⊎◌, inl, inr, ⊎_elim}
@@ -14,17 +15,12 @@ use Rattle.words.proofs.Choice.{both_true, either_right}
 use Rattle.model.specs.Order.{has}
 use Rattle.sheet.specs.Sheet.{Input, set_of}
 use Rattle.binder.specs.declared.Policy.{Policy}
-use Rattle.binder.specs.declared.Answer as answers
-use Rattle.binder.specs.declared.Verdict.{Verdict}
-use Rattle.binder.specs.declared.Verdict.TheVariants.{Passed, Refused}
 use Rattle.binder.specs.Setting.{Setting}
-use Rattle.binder.specs.Verdict.{first}
+use Rattle.binder.specs.Verdict.{Verdict, passed, refused, first}
 use Rattle.binder.specs.SetOrder.{set_order}
 use Rattle.binder.specs.Bind as bind
 use Rattle.binder.specs.Bind.{files_of, names_of, objects_of, unless, Outcome, outcome, bind_of, outcome_of}
-use Rattle.binder.proofs.OutcomeLaws.{refused_not, first_passed, unless_passed, bound_passed}
-use Rattle.start_stop.specs.declared.Lists.{Lists}
-use Rattle.start_stop.specs.declared.Lists as lists
+use Rattle.binder.proofs.OutcomeLaws.{refused_not, first_passed, unless_passed, bound_passed, refused_same}
 use Rattle.start_stop.specs.StartStop as defs
 use Rattle.start_stop.specs.StartStop.{
   Calls,
@@ -40,47 +36,48 @@ use Rattle.start_stop.specs.StartStop.{
   list_by,
   then_list,
   start_stop_of,
+  Lists,
+  counted,
 }
 use Rattle.demands.specs.LongerSet.{BoundBy}
 use Rattle.demands.specs.StartStopCall.{StartStopRefused, StartStopRefusals, BindsFirst, StartStopLengths, CountedWords}
 use Rattle.demands.proofs.PassedSet.{counts, order_objects}
+use Rattle.start_stop.proofs.ListedIs.{counted_same}
 use Rattle.demands.proofs.RefusalsHold.{bind_refusals, lengths}
 
 -- ---- 26 and 27
 
 -- the first object of a list with a bad array
-arrays_met : (calls : ℕ → Calls) (order : List ℕ) (n k : ℕ) → arrays_verdict calls order ≡ Refused n k → (n ≡ 26) × (has k order ≡ true)
+arrays_met : (calls : ℕ → Calls) (order : List ℕ) (n k : ℕ) → arrays_verdict calls order ≡ refused n k → (n ≡ 26) × (has k order ≡ true)
 unfolding defs.arrays_verdict bind.unless
 arrays_met calls [] n k e = refused_not n k (sym e)
 arrays_met calls (j ∷ js) n k e = go (λ g. arrays_met calls js n k g) (arrays_ok j (calls j)) e
   where
     go :
-        (arrays_verdict calls js ≡ Refused n k → (n ≡ 26) × (has k js ≡ true)) → (t : Bool)
-        → first (pick t Passed (Refused 26 j)) (arrays_verdict calls js) ≡ Refused n k → (n ≡ 26) × (has k (j ∷ js) ≡ true)
+        (arrays_verdict calls js ≡ refused n k → (n ≡ 26) × (has k js ≡ true)) → (t : Bool)
+        → first (pick t passed (refused 26 j)) (arrays_verdict calls js) ≡ refused n k → (n ≡ 26) × (has k (j ∷ js) ≡ true)
     go rest true g = let r = rest g in (r.0, either_right (eqb k j) (has k js) r.1)
     go rest false g =
-        let number : 26 ≡ n = cc in
-        let object : k ≡ j = cc in
-        (sym number, rw (eq-eqb k j object))
+        let s = refused_same 26 j n k g in
+        (sym s.0, rw (eq-eqb k j (sym s.1)))
 
 lists_met :
-    (calls : ℕ → Calls) (order : List ℕ) (starts stops n k : ℕ) → lists_verdict calls order starts stops ≡ Refused n k
+    (calls : ℕ → Calls) (order : List ℕ) (starts stops n k : ℕ) → lists_verdict calls order starts stops ≡ refused n k
     → ((n ≡ 26) × (has k order ≡ true)) ⊎ ((n ≡ 27) × (k ≡ 0))
 unfolding defs.lists_verdict bind.unless
 lists_met calls order starts stops n k e = go (arrays_verdict calls order) refl (both (leb (length (start_list calls order)) starts) (leb (length (stop_list calls order)) stops)) e
   where
     go :
-        (v : Verdict) → arrays_verdict calls order ≡ v → (t : Bool) → first v (pick t Passed (Refused 27 0)) ≡ Refused n k
+        (v : Verdict) → arrays_verdict calls order ≡ v → (t : Bool) → first v (pick t passed (refused 27 0)) ≡ refused n k
         → ((n ≡ 26) × (has k order ≡ true)) ⊎ ((n ≡ 27) × (k ≡ 0))
-    go (Refused i j) q t g =
-        let a : i ≡ n = cc in
-        let b : j ≡ k = cc in
+    go (Err m) q t g =
+        let a : m.number ≡ n = cc in
+        let b : m.object ≡ k = cc in
         inl (arrays_met calls order n k (rw (a, b) at q))
-    go Passed q true g = refused_not n k (sym g)
-    go Passed q false g =
-        let a : 27 ≡ n = cc in
-        let b : 0 ≡ k = cc in
-        inr (sym a, sym b)
+    go passed q true g = refused_not n k (sym g)
+    go passed q false g =
+        let s = refused_same 27 0 n k g in
+        inr (sym s.0, sym s.1)
 
 -- ---- what is answered, by what `bind` answers
 
@@ -95,16 +92,16 @@ module _ (setting : Setting) (sheet bytes : List ℕ) (size : ℕ) (policy : Pol
   order = set_order (files_of os) (names_of os)
 
   after_refusal :
-      (n k : ℕ) (arena report : List ℕ) → bind_of setting sheet bytes size policy words ≡ outcome (answers.TheVariants.Refused n k) arena report
+      (n k : ℕ) (arena report : List ℕ) → bind_of setting sheet bytes size policy words ≡ outcome (refused n k) arena report
       → start_stop_of setting sheet bytes size policy words starts stops
-      ≡ listing (lists.TheVariants.Refused n k) (replicate size 0) (replicate words 0) (replicate starts 0) (replicate stops 0)
+      ≡ listing (refused n k) (replicate size 0) (replicate words 0) (replicate starts 0) (replicate stops 0)
   unfolding defs.start_stop_of defs.then_list
   after_refusal n k arena report e =
-      let z = lengths.bind setting sheet bytes size policy words (answers.TheVariants.Refused n k) arena report e in
+      let z = lengths.bind setting sheet bytes size policy words (refused n k) arena report e in
       rw (e, z.0, z.1)
 
   after_binding :
-      (arena report : List ℕ) → bind_of setting sheet bytes size policy words ≡ outcome answers.TheVariants.Bound arena report
+      (arena report : List ℕ) → bind_of setting sheet bytes size policy words ≡ outcome passed arena report
       → start_stop_of setting sheet bytes size policy words starts stops
       ≡ listing_of starts stops (lists_verdict (calls arena) order starts stops) arena report (start_list (calls arena) order) (stop_list (calls arena) order)
   unfolding defs.start_stop_of defs.then_list defs.list_by
@@ -121,54 +118,58 @@ module _ (setting : Setting) (sheet bytes : List ℕ) (size : ℕ) (policy : Pol
 
 outcome_of_lem :
     (o : Outcome)
-    → ((n k : ℕ) × (arena report : List ℕ) × (o ≡ outcome (answers.TheVariants.Refused n k) arena report))
-    ⊎ ((arena report : List ℕ) × (o ≡ outcome answers.TheVariants.Bound arena report))
-outcome_of_lem (outcome (answers.TheVariants.Refused n k) arena report) = inl (n, k, arena, report, refl)
-outcome_of_lem (outcome answers.TheVariants.Bound arena report) = inr (arena, report, refl)
+    → ((n k : ℕ) × (arena report : List ℕ) × (o ≡ outcome (refused n k) arena report))
+    ⊎ ((arena report : List ℕ) × (o ≡ outcome passed arena report))
+outcome_of_lem (outcome (Err m) arena report) = inl (m.number, m.object, arena, report, refl)
+outcome_of_lem (outcome passed arena report) = inr (arena, report, refl)
 
 listing_refused :
     (starts stops : ℕ) (v : Verdict) (a r s t : List ℕ) (n k : ℕ) (arena report start stop : List ℕ)
-    → listing_of starts stops v a r s t ≡ listing (lists.TheVariants.Refused n k) arena report start stop
-    → (v ≡ Refused n k) × (arena ≡ replicate (length a) 0) × (report ≡ replicate (length r) 0) × (start ≡ replicate starts 0) × (stop ≡ replicate stops 0)
+    → listing_of starts stops v a r s t ≡ listing (refused n k) arena report start stop
+    → (v ≡ refused n k) × (arena ≡ replicate (length a) 0) × (report ≡ replicate (length r) 0) × (start ≡ replicate starts 0) × (stop ≡ replicate stops 0)
 unfolding defs.listing_of
-listing_refused starts stops Passed a r s t n k arena report start stop e = let z : ◌≡◌ {A = ℕ} 0 1 = cc in absurd (omega arith)
-listing_refused starts stops (Refused i j) a r s t n k arena report start stop e =
-    let x : i ≡ n = cc in
-    let y : j ≡ k = cc in
+listing_refused starts stops passed a r s t n k arena report start stop e = let z : ◌≡◌ {A = ℕ} 0 1 = cc in absurd (omega arith)
+listing_refused starts stops (Err m) a r s t n k arena report start stop e =
+    let x : m.number ≡ n = cc in
+    let y : m.object ≡ k = cc in
     (rw (x, y), cc, cc, cc, cc)
 
 listing_listed :
     (starts stops : ℕ) (v : Verdict) (a r s t : List ℕ) (n m : ℕ) (arena report start stop : List ℕ)
-    → listing_of starts stops v a r s t ≡ listing (lists.TheVariants.Listed n m) arena report start stop
-    → (v ≡ Passed) × (arena ≡ a) × (report ≡ r) × (n ≡ length s) × (m ≡ length t) × (start ≡ padded starts s) × (stop ≡ padded stops t)
+    → listing_of starts stops v a r s t ≡ listing (counted n m) arena report start stop
+    → (v ≡ passed) × (arena ≡ a) × (report ≡ r) × (n ≡ length s) × (m ≡ length t) × (start ≡ padded starts s) × (stop ≡ padded stops t)
 unfolding defs.listing_of
-listing_listed starts stops Passed a r s t n m arena report start stop e = (refl, cc, cc, cc, cc, cc, cc)
-listing_listed starts stops (Refused i j) a r s t n m arena report start stop e = let z : ◌≡◌ {A = ℕ} 0 1 = cc in absurd (omega arith)
+listing_listed starts stops passed a r s t n m arena report start stop e =
+    let x : counted (length s) (length t) ≡ counted n m = cc in
+    let y = counted_same (length s) (length t) n m x in
+    (refl, cc, cc, sym y.0, sym y.1, cc, cc)
+listing_listed starts stops (Err d) a r s t n m arena report start stop e = let z : ◌≡◌ {A = ℕ} 0 1 = cc in absurd (omega arith)
 
 not_listed :
     {P : Type 0} {i j n m : ℕ} {a b c d arena report start stop : List ℕ}
-    → listing (lists.TheVariants.Refused i j) a b c d ≡ listing (lists.TheVariants.Listed n m) arena report start stop → P
+    → listing (refused i j) a b c d ≡ listing (counted n m) arena report start stop → P
 not_listed e = let z : ◌≡◌ {A = ℕ} 0 1 = cc in absurd (omega arith)
 
 pub start_stop_refusals : StartStopRefusals
 start_stop_refusals setting sheet bytes size policy words starts stops n k arena report start stop e =
     ⊎_elim
-    (λ (x : (i j : ℕ) × (a r : List ℕ) × (bind_of setting sheet bytes size policy words ≡ outcome (answers.TheVariants.Refused i j) a r)).
+    (λ (x : (i j : ℕ) × (a r : List ℕ) × (bind_of setting sheet bytes size policy words ≡ outcome (refused i j) a r)).
     by_bind x.0 x.1 x.2 x.3 x.4)
-    (λ (x : (a r : List ℕ) × (bind_of setting sheet bytes size policy words ≡ outcome answers.TheVariants.Bound a r)). by_lists x.0 x.1 x.2)
+    (λ (x : (a r : List ℕ) × (bind_of setting sheet bytes size policy words ≡ outcome passed a r)). by_lists x.0 x.1 x.2)
     (outcome_of_lem (bind_of setting sheet bytes size policy words))
   where
     by_bind :
-        (i j : ℕ) (a r : List ℕ) → bind_of setting sheet bytes size policy words ≡ outcome (answers.TheVariants.Refused i j) a r
+        (i j : ℕ) (a r : List ℕ) → bind_of setting sheet bytes size policy words ≡ outcome (refused i j) a r
         → StartStopRefused sheet bytes size words starts stops n k arena report start stop
     by_bind i j a r q =
         let g :
-        listing (lists.TheVariants.Refused i j) (replicate size 0) (replicate words 0) (replicate starts 0) (replicate stops 0)
-        ≡ listing (lists.TheVariants.Refused n k) arena report start stop =
+        listing (refused i j) (replicate size 0) (replicate words 0) (replicate starts 0) (replicate stops 0)
+        ≡ listing (refused n k) arena report start stop =
         sym (after_refusal setting sheet bytes size policy words starts stops i j a r q) ∙ e in
         let b = bind_refusals setting sheet bytes size policy words i j a r q in
-        let x : i ≡ n = cc in
-        let y : j ≡ k = cc in
+        let z : ◌≡◌ {A = Lists} (refused i j) (refused n k) = cc in
+        let x = (refused_same i j n k z).0 in
+        let y = (refused_same i j n k z).1 in
         record {
           number = inl (rw x at b.number, rw (x, y) at b.object);
           arena_zeros = cc;
@@ -178,11 +179,11 @@ start_stop_refusals setting sheet bytes size policy words starts stops n k arena
         }
 
     by_lists :
-        (a r : List ℕ) → bind_of setting sheet bytes size policy words ≡ outcome answers.TheVariants.Bound a r
+        (a r : List ℕ) → bind_of setting sheet bytes size policy words ≡ outcome passed a r
         → StartStopRefused sheet bytes size words starts stops n k arena report start stop
     by_lists a r q =
         let z = listing_refused starts stops _ a r _ _ n k arena report start stop (sym (after_binding setting sheet bytes size policy words starts stops a r q) ∙ e) in
-        let l = lengths.bind setting sheet bytes size policy words answers.TheVariants.Bound a r q in
+        let l = lengths.bind setting sheet bytes size policy words passed a r q in
         record {
           number =
               inr
@@ -203,9 +204,9 @@ binds_first =
           ∙ rw (b.arena_zeros, b.report_zeros);
       listed = λ setting sheet bytes size policy words starts stops n m arena report start stop e.
           ⊎_elim
-          (λ (x : (i j : ℕ) × (a r : List ℕ) × (bind_of setting sheet bytes size policy words ≡ outcome (answers.TheVariants.Refused i j) a r)).
+          (λ (x : (i j : ℕ) × (a r : List ℕ) × (bind_of setting sheet bytes size policy words ≡ outcome (refused i j) a r)).
           not_listed (sym (after_refusal setting sheet bytes size policy words starts stops x.0 x.1 x.2 x.3 x.4) ∙ e))
-          (λ (x : (a r : List ℕ) × (bind_of setting sheet bytes size policy words ≡ outcome answers.TheVariants.Bound a r)).
+          (λ (x : (a r : List ℕ) × (bind_of setting sheet bytes size policy words ≡ outcome passed a r)).
           let z = listing_listed starts stops _ x.0 x.1 _ _ n m arena report start stop
           (sym (after_binding setting sheet bytes size policy words starts stops x.0 x.1 x.2) ∙ e) in
           x.2 ∙ rw (z.1, z.2))
@@ -215,7 +216,7 @@ binds_first =
 -- what is listed, and that it fits
 module _
     (setting : Setting) (sheet bytes : List ℕ) (size : ℕ) (policy : Policy) (words starts stops n m : ℕ) (arena report start stop : List ℕ)
-    (e : start_stop_of setting sheet bytes size policy words starts stops ≡ listing (lists.TheVariants.Listed n m) arena report start stop)
+    (e : start_stop_of setting sheet bytes size policy words starts stops ≡ listing (counted n m) arena report start stop)
   where
     bound_it : BoundBy setting sheet bytes size policy words arena report
     bound_it = binds_first.listed setting sheet bytes size policy words starts stops n m arena report start stop e
@@ -264,17 +265,17 @@ start_stop_lengths setting sheet bytes size policy words starts stops r arena re
     go :
         (x : Lists) → start_stop_of setting sheet bytes size policy words starts stops ≡ listing x arena report start stop
         → (length arena ≡ size) × (length report ≡ words) × (length start ≡ starts) × (length stop ≡ stops)
-    go (lists.TheVariants.Refused n k) q =
-        let z = start_stop_refusals setting sheet bytes size policy words starts stops n k arena report start stop q in (
+    go (Err m) q =
+        let z = start_stop_refusals setting sheet bytes size policy words starts stops m.number m.object arena report start stop q in (
           ap length z.arena_zeros ∙ length-replicate size 0,
           ap length z.report_zeros ∙ length-replicate words 0,
           ap length z.start_zeros ∙ length-replicate starts 0,
           ap length z.stop_zeros ∙ length-replicate stops 0,
         )
-    go (lists.TheVariants.Listed n m) q =
-        let l = lengths.bind setting sheet bytes size policy words answers.TheVariants.Bound arena report
-        (bound_it setting sheet bytes size policy words starts stops n m arena report start stop q) in
-        let f = fitting setting sheet bytes size policy words starts stops n m arena report start stop q in (
+    go (Ok c) q =
+        let l = lengths.bind setting sheet bytes size policy words passed arena report
+        (bound_it setting sheet bytes size policy words starts stops c.start c.stop arena report start stop q) in
+        let f = fitting setting sheet bytes size policy words starts stops c.start c.stop arena report start stop q in (
           l.0,
           l.1,
           ap length f.start_is ∙ padded_length starts f.starting f.n_fits,

@@ -1,7 +1,7 @@
 -- Document 02, (g): the cases of what to call, and when, hold. Assumes nothing.
 use mathlib.Core.Path.{refl, ap}
+use Rattle.std.specs.Prelude.{Option, unwrap_or, ℕ}
 use Rattle.words.specs.Memory.{tab}
-use Rattle.object.specs.declared.dynamic_array.Field.{Field}
 use Rattle.binder.specs.Bind.{unless}
 use Rattle.start_stop.specs.StartStop.{
   function_of,
@@ -31,7 +31,7 @@ object_calls =
       no_pointer = λ f pointer. rw pointer;
       no_size = λ f pointer size. rw (pointer, size);
       relocated_words = λ o f arena init pointer size. rw (init, pointer, size);
-      placed_tags = λ S files arena k placed again. ap (λ (x : Field). x.value) placed;
+      placed_tags = λ S files arena k placed again. ap (λ (x : Option ℕ). unwrap_or x 0) placed;
     }
 
 pub pair_calls : PairCalls

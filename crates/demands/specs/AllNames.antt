@@ -1,35 +1,30 @@
 -- What document 02, (e), asks of `query_all`, as statements about `query_all_of`: "equal to as many single queries in that order", "New numbers: 23,
 -- after 13, .. (object 0); after any refusal the words are all 0", and demand 3's clause on names for this call. Assumes nothing.
-use Rattle.std.specs.Prelude.{Bool, true, false, List, [], ◌∷◌, ◌++◌, map, ◌⊎◌, ◌≢◌, ◌≡◌, ℕ, ◌<◌, ltb, length, get_or, replicate}
+use Rattle.std.specs.Prelude.{Bool, true, false, List, [], ◌∷◌, ◌++◌, map, ◌⊎◌, ◌≢◌, ◌≡◌, ℕ, ◌<◌, ltb, length, get_or, replicate, Ok, Err, Some, None}
 use Rattle.words.specs.Memory.{tab}
 use Rattle.model.specs.Relocation.{placed}
 use Rattle.sheet.specs.Sheet.{Input, set_of}
-use Rattle.binder.specs.declared.Reply.TheVariants.{Found, Absent, Refused}
-use Rattle.binder.specs.declared.ReplyAll.{ReplyAll}
-use Rattle.binder.specs.declared.ReplyAll as all
-use Rattle.binder.specs.declared.Verdict.TheVariants.{Passed}
 use Rattle.binder.specs.Setting.{Setting}
-use Rattle.binder.specs.Bind.{prepare_verdict, Replied, replied, query_of}
+use Rattle.binder.specs.Bind.{found, prepare_verdict, Replied, replied, query_of}
 use Rattle.binder.specs.QueryAll.{names_in, list_ok, RepliedAll, replied_all, refused_all, ask_all_set, query_all_of}
 use Rattle.demands.specs.LongerSet.{PassesLoading, set_objects}
 use Rattle.demands.specs.Refusals.{QueryNumber, ObjectOf}
+use Rattle.binder.specs.Verdict.{Verdict, passed, refused}
 
 -- ---- as many single queries
 
 -- the word of a single query: "the addresses, 0 for absent"
 abbrev pub word_of : Replied → ℕ
-word_of (replied (Found k i a) arena) = a
-word_of (replied Absent arena) = 0
-word_of (replied (Refused n k) arena) = 0
+word_of (replied (Ok (Some f)) arena) = f.address
+word_of (replied (Ok None) arena) = 0
+word_of (replied (Err r) arena) = 0
 
 -- what `query_all` answers, put together from single queries. `query` is what a single one leaves for some name: a refusal is its refusal; else a
 -- list that 23 meets is refused, and for any other the arena is its arena, with the words
 abbrev pub from_single : ℕ → ℕ → Bool → Replied → List ℕ → RepliedAll
-from_single size slots ok (replied (Refused n k) arena) words = replied_all (all.TheVariants.Refused n k) arena (replicate slots 0)
-from_single size slots true (replied (Found k i a) arena) words = replied_all all.TheVariants.Answered arena words
-from_single size slots true (replied Absent arena) words = replied_all all.TheVariants.Answered arena words
-from_single size slots false (replied (Found k i a) arena) words = refused_all size slots 23 0
-from_single size slots false (replied Absent arena) words = refused_all size slots 23 0
+from_single size slots ok (replied (Err r) arena) words = replied_all (Err r) arena (replicate slots 0)
+from_single size slots true (replied (Ok f) arena) words = replied_all passed arena words
+from_single size slots false (replied (Ok f) arena) words = refused_all size slots 23 0
 
 -- "The words become the addresses, 0 for absent, equal to as many single queries in that order", and the arena is theirs, whatever the name
 abbrev pub SingleQueries : Type 0
@@ -60,7 +55,7 @@ pub record AllRefused (sheet bytes : List ℕ) (size slots n k : ℕ) (arena wor
 abbrev pub AllRefusals : Type 0
 AllRefusals =
     (setting : Setting) (sheet bytes : List ℕ) (size requester : ℕ) (list : List ℕ) (slots n k : ℕ) (arena words : List ℕ)
-    → query_all_of setting sheet bytes size requester list slots ≡ replied_all (all.TheVariants.Refused n k) arena words
+    → query_all_of setting sheet bytes size requester list slots ≡ replied_all (refused n k) arena words
     → AllRefused sheet bytes size slots n k arena words
 
 -- ---- every call
@@ -68,7 +63,7 @@ AllRefusals =
 -- whatever the answer, arena and words have the lengths that they were handed in with
 abbrev pub AllLengths : Type 0
 AllLengths =
-    (setting : Setting) (sheet bytes : List ℕ) (size requester : ℕ) (list : List ℕ) (slots : ℕ) (r : ReplyAll) (arena words : List ℕ)
+    (setting : Setting) (sheet bytes : List ℕ) (size requester : ℕ) (list : List ℕ) (slots : ℕ) (r : Verdict) (arena words : List ℕ)
     → query_all_of setting sheet bytes size requester list slots ≡ replied_all r arena words
     → (length arena ≡ size) × (length words ≡ slots)
 
@@ -79,15 +74,15 @@ AllLengths =
 abbrev pub LongerAll : Type 0
 LongerAll =
     (setting : Setting) (sheet bytes : List ℕ) (size requester : ℕ) (list : List ℕ) (slots : ℕ) (arena words : List ℕ)
-    → query_all_of setting sheet bytes size requester list slots ≡ replied_all all.TheVariants.Answered arena words
+    → query_all_of setting sheet bytes size requester list slots ≡ replied_all passed arena words
     → (file_word name_word : ℕ) (added : List ℕ) (size' : ℕ)
     → PassesLoading setting (sheet ++ (file_word ∷ (name_word ∷ []))) (bytes ++ added) size'
     → (words' : List ℕ)
     × (query_all_of setting (sheet ++ (file_word ∷ (name_word ∷ []))) (bytes ++ added) size' requester list slots
-    ≡ replied_all all.TheVariants.Answered
+    ≡ replied_all passed
     (tab size' (placed (set_objects setting (sheet ++ (file_word ∷ (name_word ∷ []))) (bytes ++ added)))) words')
     × ((i : ℕ) → i < slots → (k s a : ℕ) (left : List ℕ)
-    → query_of setting sheet bytes size requester (get_or (names_in list) i []) ≡ replied (Found k s a) left → k ≢ 0
+    → query_of setting sheet bytes size requester (get_or (names_in list) i []) ≡ replied (found k s a) left → k ≢ 0
     → (get_or words i 0 ≡ a) × (get_or words' i 0 ≡ a))
 
 -- ---- cases
@@ -111,9 +106,9 @@ pub record AllCases : Type 0 where
   -- "23, after 13": whatever the list
   pub thirteen_first :
       (setting : Setting) (os : List Input) (size requester : ℕ) (list : List ℕ) (slots : ℕ)
-      → prepare_verdict setting Passed os size ≡ Passed → ltb requester (length os) ≡ false
+      → prepare_verdict setting passed os size ≡ passed → ltb requester (length os) ≡ false
       → ask_all_set setting os size requester list slots ≡ refused_all size slots 13 0
   pub twenty_three :
       (setting : Setting) (os : List Input) (size requester : ℕ) (list : List ℕ) (slots : ℕ)
-      → prepare_verdict setting Passed os size ≡ Passed → ltb requester (length os) ≡ true → list_ok list slots ≡ false
+      → prepare_verdict setting passed os size ≡ passed → ltb requester (length os) ≡ true → list_ok list slots ≡ false
       → ask_all_set setting os size requester list slots ≡ refused_all size slots 23 0

@@ -1,12 +1,11 @@
 -- Document 01, "Proved cases": one table, over the definitions that the contracts of `bind` and `query` rest on. Words in quotes are
 -- document 01's. Names are lists of bytes: "a" is 97, "b" 98. Assumes nothing.
-use Rattle.std.specs.Prelude.{◌≡◌, List, [], ◌∷◌, ℕ, ◌-◌, ◌^◌, eqb}
+use Rattle.std.specs.Prelude.{◌≡◌, List, [], ◌∷◌, ℕ, ◌-◌, ◌^◌, eqb, Some}
 use Rattle.words.specs.Choice.{pick}
 use Rattle.words.specs.Hash.{elf_hash, gnu_hash}
 use Rattle.model.specs.Objects.{fixed}
 use Rattle.model.specs.Order.{order_of}
 use Rattle.object.specs.declared.hash_tables.HashTable.{HashTable}
-use Rattle.object.specs.declared.hash_tables.SymbolCount.TheVariants.{Known}
 use Rattle.object.specs.RelocationTypes.{applied_row}
 use Rattle.object.specs.Entries.{relr_words, place, none}
 use Rattle.object.specs.SymbolCount.{count_of}
@@ -39,7 +38,7 @@ pub record Cases : Type 0 where
   pub order_none : (ns : ℕ → List ℕ) → order_of ns 0 ≡ 1 ∷ []
   -- "Strings 0x400, symbols 0x2B0: 14 symbols"; whatever the image and the hash table
   pub symbol_count :
-      (image : List ℕ) (t : HashTable) → count_of image (record { symbols = 0x2B0; strings = 0x400; table = t }) ≡ Known 14
+      (image : List ℕ) (t : HashTable) → count_of image (record { symbols = 0x2B0; strings = 0x400; table = t }) ≡ Some 14
   -- "Base 0x10004000, addend -8: 0x10003FF8": what an entry of type 8 writes, whatever its object, its place and its symbol field; -8 in
   -- 64 bits is 2^64 - 8
   pub relative :

@@ -5,9 +5,8 @@ use Rattle.words.specs.Memory.{In}
 use Rattle.sheet.specs.Sheet.{set_of}
 use Rattle.binder.specs.Setting.{Setting}
 use Rattle.binder.specs.declared.Policy.{Policy}
-use Rattle.binder.specs.declared.Answer as answers
 use Rattle.binder.specs.declared.crossing.Copy.{Copy}
-use Rattle.binder.specs.Verdict.{order_copies}
+use Rattle.binder.specs.Verdict.{passed, order_copies}
 use Rattle.binder.specs.SetOrder.{set_order}
 use Rattle.binder.specs.Bind.{files_of, names_of, outcome}
 use Rattle.binder.specs.OwnOrder.{bind_ordered_of}
@@ -43,5 +42,5 @@ pub record CopiesApart : Type 0 where
   -- in a builder's own order too
   pub ordered :
       (setting : Setting) (sheet bytes : List ℕ) (size : ℕ) (policy : Policy) (words : ℕ) (order arena report : List ℕ)
-      → bind_ordered_of setting sheet bytes size policy words order ≡ outcome answers.TheVariants.Bound arena report
+      → bind_ordered_of setting sheet bytes size policy words order ≡ outcome passed arena report
       → Apart (copies_in setting sheet bytes order)

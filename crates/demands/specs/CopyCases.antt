@@ -7,9 +7,8 @@ use Rattle.object.specs.RelocationTypes.{Row, passed_over}
 use Rattle.object.specs.Record.{Record}
 use Rattle.object.specs.declared.relocate.Rela.{Rela}
 use Rattle.binder.specs.declared.crossing.Copy.{Copy}
-use Rattle.binder.specs.declared.Verdict.TheVariants.{Refused}
 use Rattle.binder.specs.Copies.{crosses, copy_found, copy_by, entry_copy}
-use Rattle.binder.specs.Verdict.{entry_refusal, entries_verdict}
+use Rattle.binder.specs.Verdict.{refused, entry_refusal, entries_verdict}
 
 -- `size` bytes from `source` to `to`
 abbrev pub copy : ℕ → ℕ → ℕ → Copy
@@ -35,9 +34,9 @@ pub record CopyCases : Type 0 where
   pub refusal_18_first :
       (row : ℕ → Row) (S : Objs) (k : ℕ) (image : List ℕ) (r : Record) (earlier : List Copy) (e : Rela) (es : List Rela)
       → entry_refusal row S k image r e ≡ 18
-      → entries_verdict row S k image r earlier (e ∷ es) ≡ Refused 18 k
+      → entries_verdict row S k image r earlier (e ∷ es) ≡ refused 18 k
   -- "an entry that breaks this with an earlier one", of whichever object
   pub refusal_28 :
       (row : ℕ → Row) (S : Objs) (k : ℕ) (image : List ℕ) (r : Record) (e : Rela) (es : List Rela) → entry_refusal row S k image r e ≡ 0
       → entry_copy row S k image r e ≡ copy 0x2000 0x4008 8 ∷ []
-      → entries_verdict row S k image r (copy 0x2004 0x6000 8 ∷ []) (e ∷ es) ≡ Refused 28 k
+      → entries_verdict row S k image r (copy 0x2004 0x6000 8 ∷ []) (e ∷ es) ≡ refused 28 k

@@ -7,12 +7,10 @@ use Rattle.model.specs.Objects.{Objs}
 use Rattle.model.specs.Relocation.{placed}
 use Rattle.model.specs.Longer.{OnlyProgramCopies, Kept}
 use Rattle.binder.specs.declared.Policy.{Policy}
-use Rattle.binder.specs.declared.Answer.TheVariants.{Bound}
-use Rattle.binder.specs.declared.Reply.TheVariants.{Found}
 use Rattle.sheet.specs.Sheet.{sheet_ok, set_of}
 use Rattle.binder.specs.Setting.{Setting, setting_at}
-use Rattle.binder.specs.declared.Verdict.TheVariants.{Passed}
-use Rattle.binder.specs.Bind.{files_of, objects_of, prepare_verdict, bind_of, outcome, query_of, replied}
+use Rattle.binder.specs.Bind.{found, files_of, objects_of, prepare_verdict, bind_of, outcome, query_of, replied}
+use Rattle.binder.specs.Verdict.{passed}
 
 -- the objects of a sheet and its bytes, in a setting
 abbrev pub set_objects : Setting → List ℕ → List ℕ → Objs
@@ -20,7 +18,7 @@ set_objects setting sheet bytes = objects_of setting (files_of (set_of sheet byt
 
 -- "A set is bound where its call to bind meets no refusal": it leaves this arena and this report
 abbrev pub BoundBy : Setting → List ℕ → List ℕ → ℕ → Policy → ℕ → List ℕ → List ℕ → Type 0
-BoundBy setting sheet bytes size policy words arena report = bind_of setting sheet bytes size policy words ≡ outcome Bound arena report
+BoundBy setting sheet bytes size policy words arena report = bind_of setting sheet bytes size policy words ≡ outcome passed arena report
 
 -- demand 3: "For every bound set S whose only COPY entries are the program's, and whatever library is added at its end, where that longer
 -- set T is bound at the same arena address under the same policy": what T keeps of S, names in both scopes and bytes together. Document 02, (f):
@@ -41,7 +39,7 @@ LongerSet =
 -- the set meets none of refusals 1 to 12 and 21 in an arena of `size` bytes: only 13 is left to a query
 abbrev pub PassesLoading : Setting → List ℕ → List ℕ → ℕ → Type 0
 PassesLoading setting sheet bytes size =
-    (sheet_ok sheet (length bytes) ≡ true) × (prepare_verdict setting Passed (set_of sheet bytes) size ≡ Passed)
+    (sheet_ok sheet (length bytes) ≡ true) × (prepare_verdict setting passed (set_of sheet bytes) size ≡ passed)
 
 -- demand 3's clause on names, for what `query` answers; document 01: "An answer is what a lookup yields". S and T are asked in arenas of any
 -- sizes in which they meet none of refusals 1 to 12 and 21. They need not be bound; a set that is bound, under whatever words of
@@ -54,9 +52,9 @@ pub record LongerQuery : Type 0 where
   -- 0; a requester that is no object of S is refused
   pub same_answer :
       (setting : Setting) (sheet bytes : List ℕ) (size requester : ℕ) (name : List ℕ) (k i a : ℕ) (arena : List ℕ)
-      → query_of setting sheet bytes size requester name ≡ replied (Found k i a) arena → k ≢ 0
+      → query_of setting sheet bytes size requester name ≡ replied (found k i a) arena → k ≢ 0
       → (file_word name_word : ℕ) (added : List ℕ) (size' : ℕ)
       → PassesLoading setting (sheet ++ (file_word ∷ (name_word ∷ []))) (bytes ++ added) size'
       -- "has the same answer in T, the same object, symbol and address"
       → query_of setting (sheet ++ (file_word ∷ (name_word ∷ []))) (bytes ++ added) size' requester name
-      ≡ replied (Found k i a) (tab size' (placed (set_objects setting (sheet ++ (file_word ∷ (name_word ∷ []))) (bytes ++ added))))
+      ≡ replied (found k i a) (tab size' (placed (set_objects setting (sheet ++ (file_word ∷ (name_word ∷ []))) (bytes ++ added))))

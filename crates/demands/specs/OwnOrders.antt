@@ -1,13 +1,10 @@
 -- What is proved of `bind_ordered`, over sheets and bytes. Document 02, (l), "A builder's own order"; demand 1. Words in quotes are document
 -- 02's. That b precedes a where a needs b is claimed of document 01's order alone (OrderReport). Assumes nothing.
-use Rattle.std.specs.Prelude.{Bool, true, false, not, List, [], ◌∷◌, ◌⊎◌, ◌≡◌, ℕ, ◌/◌, ◌^◌, eqb, length, replicate}
+use Rattle.std.specs.Prelude.{Bool, true, false, not, List, [], ◌∷◌, ◌⊎◌, ◌≡◌, ℕ, ◌/◌, ◌^◌, eqb, length, replicate, Err}
 use Rattle.words.specs.Choice.{pick, both, some}
 use Rattle.model.specs.Order.{OnceEach}
 use Rattle.sheet.specs.Sheet.{sheet_ok, set_of}
 use Rattle.binder.specs.declared.Policy.{Policy}
-use Rattle.binder.specs.declared.Answer.{Answer}
-use Rattle.binder.specs.declared.Answer as answers
-use Rattle.binder.specs.declared.Verdict.TheVariants.{Passed, Refused}
 use Rattle.binder.specs.Setting.{Setting, setting_of}
 use Rattle.binder.specs.Report.{report_word}
 use Rattle.binder.specs.SetOrder.{set_order}
@@ -17,6 +14,7 @@ use Rattle.demands.specs.LongerSet.{set_objects}
 use Rattle.demands.specs.OrderReport.{numbers_of}
 use Rattle.demands.specs.FieldCases.{entry}
 use Rattle.demands.specs.Refusals.{BindNumber, ObjectOf}
+use Rattle.binder.specs.Verdict.{Verdict, passed, refused}
 
 -- ---- which orders are taken: cases of two libraries, and of none
 
@@ -50,22 +48,22 @@ pub record OrderRefused : Type 0 where
   pub loading :
       (setting : Setting) (sheet bytes : List ℕ) (size : ℕ) (policy : Policy) (words : ℕ) (order : List ℕ) (n k : ℕ)
       → sheet_ok sheet (length bytes) ≡ true
-      → prepare_verdict setting (types_verdict setting) (set_of sheet bytes) size ≡ Refused n k
+      → prepare_verdict setting (types_verdict setting) (set_of sheet bytes) size ≡ refused n k
       → bind_ordered_of setting sheet bytes size policy words order ≡ refused_bind size words n k
   -- then 35, whatever the entries
   pub not_taken :
       (setting : Setting) (sheet bytes : List ℕ) (size : ℕ) (policy : Policy) (words : ℕ) (order : List ℕ)
       → sheet_ok sheet (length bytes) ≡ true
-      → prepare_verdict setting (types_verdict setting) (set_of sheet bytes) size ≡ Passed
+      → prepare_verdict setting (types_verdict setting) (set_of sheet bytes) size ≡ passed
       → may_take (files_of (set_of sheet bytes)) (names_of (set_of sheet bytes)) order ≡ false
       → bind_ordered_of setting sheet bytes size policy words order ≡ refused_bind size words 35 0
   -- then 14 to 20, 22, 25 and 28, in that order
   pub entries :
       (setting : Setting) (sheet bytes : List ℕ) (size : ℕ) (policy : Policy) (words : ℕ) (order : List ℕ) (n k : ℕ)
       → sheet_ok sheet (length bytes) ≡ true
-      → prepare_verdict setting (types_verdict setting) (set_of sheet bytes) size ≡ Passed
+      → prepare_verdict setting (types_verdict setting) (set_of sheet bytes) size ≡ passed
       → may_take (files_of (set_of sheet bytes)) (names_of (set_of sheet bytes)) order ≡ true
-      → relocate_verdict setting.row (set_objects setting sheet bytes) (files_of (set_of sheet bytes)) order policy words ≡ Refused n k
+      → relocate_verdict setting.row (set_objects setting sheet bytes) (files_of (set_of sheet bytes)) order policy words ≡ refused n k
       → bind_ordered_of setting sheet bytes size policy words order ≡ refused_bind size words n k
 
 -- ---- "every such order leaves the same arena"
@@ -76,9 +74,9 @@ arena_of (outcome answer arena report) = arena
 abbrev pub report_of : Outcome → List ℕ
 report_of (outcome answer arena report) = report
 
-abbrev pub binds_it : Answer → Bool
-binds_it answers.TheVariants.Bound = true
-binds_it (answers.TheVariants.Refused n k) = false
+abbrev pub binds_it : Verdict → Bool
+binds_it passed = true
+binds_it (Err r) = false
 
 abbrev pub is_bound : Outcome → Bool
 is_bound (outcome answer arena report) = binds_it answer
@@ -115,7 +113,7 @@ DocumentOrder =
 abbrev pub OrderUsed : Type 0
 OrderUsed =
     (setting : Setting) (sheet bytes : List ℕ) (size : ℕ) (policy : Policy) (words : ℕ) (order arena report : List ℕ)
-    → bind_ordered_of setting sheet bytes size policy words order ≡ outcome answers.TheVariants.Bound arena report
+    → bind_ordered_of setting sheet bytes size policy words order ≡ outcome passed arena report
     → (numbers_of 5 report ≡ order) × OnceEach (length (set_of sheet bytes)) order
 
 -- ---- demand 1: "a bound arena with its report, or one numbered refusal with an object number; a refusal leaves zeros in arena and report"
@@ -129,9 +127,9 @@ pub record OrderedRefused (sheet bytes : List ℕ) (size words n k : ℕ) (arena
 pub record OrderedAnswers : Type 0 where
   pub refused :
       (setting : Setting) (sheet bytes : List ℕ) (size : ℕ) (policy : Policy) (words : ℕ) (order : List ℕ) (n k : ℕ) (arena report : List ℕ)
-      → bind_ordered_of setting sheet bytes size policy words order ≡ outcome (answers.TheVariants.Refused n k) arena report
+      → bind_ordered_of setting sheet bytes size policy words order ≡ outcome (refused n k) arena report
       → OrderedRefused sheet bytes size words n k arena report
   pub lengths :
-      (setting : Setting) (sheet bytes : List ℕ) (size : ℕ) (policy : Policy) (words : ℕ) (order : List ℕ) (a : Answer) (arena report : List ℕ)
+      (setting : Setting) (sheet bytes : List ℕ) (size : ℕ) (policy : Policy) (words : ℕ) (order : List ℕ) (a : Verdict) (arena report : List ℕ)
       → bind_ordered_of setting sheet bytes size policy words order ≡ outcome a arena report
       → (length arena ≡ size) × (length report ≡ words)

@@ -1,15 +1,13 @@
 -- A set and a longer one, as sheets and bytes: both are bound, so `LongerSet` and `LongerQuery` speak of them, and what demand 3 excepts does
 -- happen. Document 01, "A set and a longer one". The files are written as 64-bit words, the lowest byte first; System V gABI, "ELF Header",
 -- "Program Header", "Dynamic Section", "Symbol Table", "Hash Table", "Relocation". Assumes nothing.
-use Rattle.std.specs.Prelude.{List, [], ◌∷◌, ◌++◌, ◌≡◌, ℕ, ◌+◌, ◌*◌, ◌-◌, ◌^◌, replicate}
+use Rattle.std.specs.Prelude.{List, [], ◌∷◌, ◌++◌, ◌≡◌, ℕ, ◌+◌, ◌*◌, ◌-◌, ◌^◌, replicate, Ok, None}
 use Rattle.words.specs.Memory.{mem, tab, In}
 use Rattle.words.specs.Words.{byte_of, le_at}
 use Rattle.model.specs.Longer.{OnlyProgramCopies, Excepted, Kept}
 use Rattle.binder.specs.declared.Policy.TheVariants.{Lenient}
-use Rattle.binder.specs.declared.Reply.{Reply}
-use Rattle.binder.specs.declared.Reply.TheVariants.{Found, Absent}
 use Rattle.binder.specs.Setting.{Setting, supplied_at}
-use Rattle.binder.specs.Bind.{query_of, replied}
+use Rattle.binder.specs.Bind.{Reply, found, query_of, replied}
 use Rattle.demands.specs.LongerSet.{set_objects, BoundBy}
 
 -- ---- words
@@ -113,10 +111,10 @@ pub record PairOfSheets : Type 0 where
       BoundBy setting longer_sheet longer_bytes 0x5000 Lenient 16 arena' (0x50000002 ∷ 0x50000003 ∷ 0x50000001 ∷ replicate 13 0)
   pub only : OnlyProgramCopies (set_objects setting sheet bytes)
   -- a keeps its answer, from library 2; b, which S has nowhere, is library 3's in T
-  pub a_asked : Replies sheet bytes 0x4000 97 (Found 2 1 0x10003018)
-  pub a_asked_longer : Replies longer_sheet longer_bytes 0x5000 97 (Found 2 1 0x10003018)
-  pub b_asked : Replies sheet bytes 0x4000 98 Absent
-  pub b_asked_longer : Replies longer_sheet longer_bytes 0x5000 98 (Found 3 1 0x10004018)
+  pub a_asked : Replies sheet bytes 0x4000 97 (found 2 1 0x10003018)
+  pub a_asked_longer : Replies longer_sheet longer_bytes 0x5000 97 (found 2 1 0x10003018)
+  pub b_asked : Replies sheet bytes 0x4000 98 (Ok None)
+  pub b_asked_longer : Replies longer_sheet longer_bytes 0x5000 98 (found 3 1 0x10004018)
   -- the program's word for a is equal in both arenas; its word for b is not, and is excepted
   pub a_word : le_at 8 (mem arena) 0x2000 ≡ 0x10003018
   pub a_word_longer : le_at 8 (mem arena') 0x2000 ≡ 0x10003018

@@ -1,11 +1,12 @@
 -- Document 01, "Refused, in checking order", and document 02, (a) and (c): cases of refusals 4 to 11, 13, 14, 18, 19 and 21 and of the search, each
 -- for every file, record or set of which the facts before the arrow hold. Words in quotes are the documents'. Each stands for one way to read them
 -- wrongly. Assumes nothing.
-use Rattle.std.specs.Prelude.{Bool, true, false, List, [], ◌∷◌, ◌≢◌, ◌≡◌, ℕ, ◌%◌, min, eqb, leb, length}
+use Rattle.std.specs.Prelude.{Bool, true, false, List, [], ◌∷◌, ◌≢◌, ◌≡◌, ℕ, ◌%◌, min, eqb, leb, length, Some, None, is_some, Err}
 use Rattle.words.specs.Page.{page_size}
 use Rattle.model.specs.Symbols.{Definition, answer}
 use Rattle.model.specs.Objects.{Objs}
 use Rattle.sheet.specs.Sheet.{Input}
+use Rattle.words.specs.declared.refusal.Refusal.TheVariants as refusals
 use Rattle.object.specs.Header.{file_type, machine, header_count, table_end, is_shared_object, is_x86, header_refusal}
 use Rattle.object.specs.ProgramHeader.{dynamic_of}
 use Rattle.object.specs.Segments.{flags_ok}
@@ -19,26 +20,16 @@ use Rattle.object.specs.Symbol.{symbol_at, is_exported}
 use Rattle.object.specs.HashTable.{is_last, is_hit, is_exported_hit, first_in}
 use Rattle.object.specs.TableBytes.{in_writable}
 use Rattle.object.specs.declared.program_header.Segment.{Segment}
-use Rattle.object.specs.declared.program_header.Dynamic.TheVariants.{Missing}
-use Rattle.object.specs.declared.dynamic_array.Field.{Field}
 use Rattle.object.specs.declared.hash_tables.HashTable.{HashTable}
 use Rattle.object.specs.declared.hash_tables.HashTable.TheVariants.{Gnu}
-use Rattle.object.specs.declared.hash_tables.Found.TheVariants.{Hit}
-use Rattle.object.specs.declared.hash_tables.SymbolCount.TheVariants.{Known}
-use Rattle.object.specs.declared.entry_symbol.CheckedSymbol.TheVariants.{Refused}
 use Rattle.binder.specs.declared.Policy.TheVariants.{Strict, Lenient}
-use Rattle.binder.specs.declared.Verdict.TheVariants as verdicts
 use Rattle.binder.specs.Setting.{Setting}
-use Rattle.binder.specs.Verdict.{copy_refusal}
+use Rattle.binder.specs.Verdict.{passed, copy_refusal}
 use Rattle.binder.specs.Bind.{allows, prepare_verdict, refused_query, ask_set}
 
 -- a PT_LOAD of 16 bytes at 0 with these flags, p_memsz and p_align
 abbrev pub load_with : ℕ → ℕ → ℕ → Segment
 load_with flags memsz align = record { flags = flags; offset = 0; vaddr = 0; filesz = 16; memsz = memsz; align = align }
-
--- an entry of the dynamic array that is there
-abbrev pub given : ℕ → Field
-given v = record { given = true; value = v }
 
 -- 4 to 8 and 21 of a file, whatever room is left
 pub record FileCases : Type 0 where
@@ -81,26 +72,26 @@ pub record FileCases : Type 0 where
 pub record RecordCases : Type 0 where
   -- "No PT_DYNAMIC, or its entries through the first of tag 0 not wholly inside the span"
   pub no_dynamic :
-      (host : Bool) (room : ℕ) (file : List ℕ) → place_refusal host room file ≡ 0 → dynamic_of file ≡ Missing → object_refusal host room file ≡ 9
+      (host : Bool) (room : ℕ) (file : List ℕ) → place_refusal host room file ≡ 0 → dynamic_of file ≡ None → object_refusal host room file ≡ 9
   pub not_ended : (f : Fields) → fields_refusal false f ≡ 9
   -- "No string or no symbol table": each by itself
-  pub no_strings : (f : Fields) → (f DT.STRTAB).given ≡ false → fields_refusal true f ≡ 10
-  pub no_symbols : (f : Fields) → (f DT.STRTAB).given ≡ true → (f DT.SYMTAB).given ≡ false → fields_refusal true f ≡ 10
+  pub no_strings : (f : Fields) → is_some (f DT.STRTAB) ≡ false → fields_refusal true f ≡ 10
+  pub no_symbols : (f : Fields) → is_some (f DT.STRTAB) ≡ true → is_some (f DT.SYMTAB) ≡ false → fields_refusal true f ≡ 10
   -- "DT_PLTREL not 7"
   pub pltrel_17 :
-      (f : Fields) → (f DT.STRTAB).given ≡ true → (f DT.SYMTAB).given ≡ true → f DT.SYMENT ≡ given 24 → f DT.RELAENT ≡ given 24
-      → f DT.PLTREL ≡ given 17 → fields_refusal true f ≡ 11
+      (f : Fields) → is_some (f DT.STRTAB) ≡ true → is_some (f DT.SYMTAB) ≡ true → f DT.SYMENT ≡ Some 24 → f DT.RELAENT ≡ Some 24
+      → f DT.PLTREL ≡ Some 17 → fields_refusal true f ≡ 11
   pub pltrel_7 :
-      (f : Fields) → (f DT.STRTAB).given ≡ true → (f DT.SYMTAB).given ≡ true → f DT.SYMENT ≡ given 24 → f DT.RELAENT ≡ given 24
-      → f DT.PLTREL ≡ given 7 → fields_refusal true f ≡ 0
+      (f : Fields) → is_some (f DT.STRTAB) ≡ true → is_some (f DT.SYMTAB) ≡ true → f DT.SYMENT ≡ Some 24 → f DT.RELAENT ≡ Some 24
+      → f DT.PLTREL ≡ Some 7 → fields_refusal true f ≡ 0
   -- "Symbol index at or above a known count": the count itself
-  pub index_at_count : (image : List ℕ) (r : Record) → r.known ≡ Known 14 → checked_symbol image r 14 ≡ Refused 14
+  pub index_at_count : (image : List ℕ) (r : Record) → r.known ≡ Some 14 → checked_symbol image r 14 ≡ Err refusals.SymbolIndex
 
 -- 13, 18 and 19 of a set
 pub record SetCases : Type 0 where
   -- "A query's requester is no object of the set": the first number that is none
   pub requester_past_last :
-      (setting : Setting) (os : List Input) (size : ℕ) (name : List ℕ) → prepare_verdict setting verdicts.Passed os size ≡ verdicts.Passed
+      (setting : Setting) (os : List Input) (size : ℕ) (name : List ℕ) → prepare_verdict setting passed os size ≡ passed
       → ask_set setting os size (length os) name ≡ refused_query size 13 0
   -- "from an absolute symbol"; 17 comes before it
   pub absolute_copy :
@@ -124,7 +115,7 @@ pub record SearchCases : Type 0 where
       (image : List ℕ) (symbols strings : ℕ) (t : HashTable) (name : List ℕ) (g s : ℕ)
       → is_hit image symbols strings t name g s ≡ true → is_exported (symbol_at image symbols s) ≡ true
       → is_exported_hit image symbols strings t name g s ≡ true
-  pub goes_on : (p : ℕ → Bool) (s t : ℕ) → p s ≡ false → p t ≡ true → first_in p (s ∷ (t ∷ [])) ≡ Hit t
+  pub goes_on : (p : ℕ → Bool) (s t : ℕ) → p s ≡ false → p t ≡ true → first_in p (s ∷ (t ∷ [])) ≡ Some t
   -- "that chain": a GNU chain ends with the first word whose lowest bit is set
   pub chain_end : (at n symoffset b shift : ℕ) → is_last (Gnu at n symoffset b shift) 0x2B607 ≡ true
   pub chain_goes_on : (at n symoffset b shift : ℕ) → is_last (Gnu at n symoffset b shift) 0x2B606 ≡ false

@@ -9,13 +9,10 @@ use Rattle.model.specs.Order.{has}
 use Rattle.model.specs.Scope.{resolve}
 use Rattle.sheet.specs.Sheet.{Input, no_input, set_of}
 use Rattle.binder.specs.declared.Policy.{Policy}
-use Rattle.binder.specs.declared.Answer as answers
-use Rattle.binder.specs.declared.Answer.{Answer}
-use Rattle.binder.specs.declared.Reply as replies
-use Rattle.binder.specs.declared.Reply.{Reply}
 use Rattle.binder.specs.Setting.{Setting}
-use Rattle.binder.specs.Bind.{bind_of, outcome, query_of, replied, reply_of}
+use Rattle.binder.specs.Bind.{Reply, bind_of, outcome, query_of, replied, reply_of}
 use Rattle.demands.specs.LongerSet.{BoundBy, set_objects}
+use Rattle.binder.specs.Verdict.{Verdict, refused}
 
 -- ---- refusals
 
@@ -47,7 +44,7 @@ pub record BindRefused (sheet bytes : List ℕ) (size words n k : ℕ) (arena re
 abbrev pub BindRefusals : Type 0
 BindRefusals =
     (setting : Setting) (sheet bytes : List ℕ) (size : ℕ) (policy : Policy) (words n k : ℕ) (arena report : List ℕ)
-    → bind_of setting sheet bytes size policy words ≡ outcome (answers.TheVariants.Refused n k) arena report
+    → bind_of setting sheet bytes size policy words ≡ outcome (refused n k) arena report
     → BindRefused sheet bytes size words n k arena report
 
 -- a query "meets only refusals 1 to 13", and 21
@@ -63,7 +60,7 @@ pub record QueryRefused (sheet bytes : List ℕ) (size n k : ℕ) (arena : List 
 abbrev pub QueryRefusals : Type 0
 QueryRefusals =
     (setting : Setting) (sheet bytes : List ℕ) (size requester : ℕ) (name : List ℕ) (n k : ℕ) (arena : List ℕ)
-    → query_of setting sheet bytes size requester name ≡ replied (replies.TheVariants.Refused n k) arena
+    → query_of setting sheet bytes size requester name ≡ replied (refused n k) arena
     → QueryRefused sheet bytes size n k arena
 
 -- ---- every call
@@ -75,13 +72,13 @@ pub record Answered : Type 0 where
       → ((arena report : List ℕ) × BoundBy setting sheet bytes size policy words arena report)
       ⊎ ((n k : ℕ)
       × (bind_of setting sheet bytes size policy words
-      ≡ outcome (answers.TheVariants.Refused n k) (replicate size 0) (replicate words 0)))
+      ≡ outcome (refused n k) (replicate size 0) (replicate words 0)))
   pub query :
       (setting : Setting) (sheet bytes : List ℕ) (size requester : ℕ) (name : List ℕ)
       → ((arena : List ℕ)
       × (query_of setting sheet bytes size requester name
       ≡ replied (reply_of (resolve (set_objects setting sheet bytes) requester (by_name name))) arena))
-      ⊎ ((n k : ℕ) × (query_of setting sheet bytes size requester name ≡ replied (replies.TheVariants.Refused n k) (replicate size 0)))
+      ⊎ ((n k : ℕ) × (query_of setting sheet bytes size requester name ≡ replied (refused n k) (replicate size 0)))
 
 -- ---- the host's part of the arena
 
@@ -102,7 +99,7 @@ pub record HostKept : Type 0 where
   pub asked :
       (setting : Setting) (sheet bytes : List ℕ) (size requester : ℕ) (name : List ℕ) (r : Reply) (arena : List ℕ)
       → query_of setting sheet bytes size requester name ≡ replied r arena
-      → ((n k : ℕ) → r ≢ replies.TheVariants.Refused n k)
+      → ((n k : ℕ) → r ≢ refused n k)
       → HostIn (set_of sheet bytes) arena
 
 -- ---- lengths
@@ -110,7 +107,7 @@ pub record HostKept : Type 0 where
 -- whatever the answer, the arena has as many bytes, and the report as many words, as were handed in
 pub record Lengths : Type 0 where
   pub bind :
-      (setting : Setting) (sheet bytes : List ℕ) (size : ℕ) (policy : Policy) (words : ℕ) (a : Answer) (arena report : List ℕ)
+      (setting : Setting) (sheet bytes : List ℕ) (size : ℕ) (policy : Policy) (words : ℕ) (a : Verdict) (arena report : List ℕ)
       → bind_of setting sheet bytes size policy words ≡ outcome a arena report
       → (length arena ≡ size) × (length report ≡ words)
   pub query :

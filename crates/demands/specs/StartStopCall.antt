@@ -4,14 +4,12 @@
 use Rattle.std.specs.Prelude.{List, ◌++◌, ◌⊎◌, ◌≡◌, ℕ, ◌-◌, ◌≤◌, ◌<◌, length, take, replicate}
 use Rattle.sheet.specs.Sheet.{set_of}
 use Rattle.binder.specs.declared.Policy.{Policy}
-use Rattle.binder.specs.declared.Answer as answers
 use Rattle.binder.specs.Setting.{Setting}
 use Rattle.binder.specs.Bind.{bind_of, outcome}
-use Rattle.start_stop.specs.declared.Lists.{Lists}
-use Rattle.start_stop.specs.declared.Lists as lists
-use Rattle.start_stop.specs.StartStop.{listing, start_stop_of}
+use Rattle.start_stop.specs.StartStop.{Lists, counted, listing, start_stop_of}
 use Rattle.demands.specs.LongerSet.{BoundBy}
 use Rattle.demands.specs.Refusals.{ObjectOf, BindNumber}
+use Rattle.binder.specs.Verdict.{refused}
 
 -- the number and the object of a refusal, in a set of `count` objects: those of `bind`, 26 with an object other than the host, 27 with object 0
 abbrev pub StartStopNumber : ℕ → ℕ → ℕ → Type 0
@@ -28,19 +26,19 @@ pub record StartStopRefused (sheet bytes : List ℕ) (size words starts stops n 
 abbrev pub StartStopRefusals : Type 0
 StartStopRefusals =
     (setting : Setting) (sheet bytes : List ℕ) (size : ℕ) (policy : Policy) (words starts stops n k : ℕ) (arena report start stop : List ℕ)
-    → start_stop_of setting sheet bytes size policy words starts stops ≡ listing (lists.TheVariants.Refused n k) arena report start stop
+    → start_stop_of setting sheet bytes size policy words starts stops ≡ listing (refused n k) arena report start stop
     → StartStopRefused sheet bytes size words starts stops n k arena report start stop
 
 -- "binds first": what `bind` refuses is refused by the same number and object, and what is listed is what `bind` leaves
 pub record BindsFirst : Type 0 where
   pub refused :
       (setting : Setting) (sheet bytes : List ℕ) (size : ℕ) (policy : Policy) (words starts stops n k : ℕ) (arena report : List ℕ)
-      → bind_of setting sheet bytes size policy words ≡ outcome (answers.TheVariants.Refused n k) arena report
+      → bind_of setting sheet bytes size policy words ≡ outcome (refused n k) arena report
       → start_stop_of setting sheet bytes size policy words starts stops
-      ≡ listing (lists.TheVariants.Refused n k) arena report (replicate starts 0) (replicate stops 0)
+      ≡ listing (refused n k) arena report (replicate starts 0) (replicate stops 0)
   pub listed :
       (setting : Setting) (sheet bytes : List ℕ) (size : ℕ) (policy : Policy) (words starts stops n m : ℕ) (arena report start stop : List ℕ)
-      → start_stop_of setting sheet bytes size policy words starts stops ≡ listing (lists.TheVariants.Listed n m) arena report start stop
+      → start_stop_of setting sheet bytes size policy words starts stops ≡ listing (counted n m) arena report start stop
       → BoundBy setting sheet bytes size policy words arena report
 
 -- whatever the answer, every slice is as long as it was
@@ -54,5 +52,5 @@ StartStopLengths =
 abbrev pub CountedWords : Type 0
 CountedWords =
     (setting : Setting) (sheet bytes : List ℕ) (size : ℕ) (policy : Policy) (words starts stops n m : ℕ) (arena report start stop : List ℕ)
-    → start_stop_of setting sheet bytes size policy words starts stops ≡ listing (lists.TheVariants.Listed n m) arena report start stop
+    → start_stop_of setting sheet bytes size policy words starts stops ≡ listing (counted n m) arena report start stop
     → (n ≤ starts) × (m ≤ stops) × (start ≡ take n start ++ replicate (starts - n) 0) × (stop ≡ take m stop ++ replicate (stops - m) 0)

@@ -1,18 +1,16 @@
 -- Document 02, (g), "What to call, and when": cases of what an object gives, of both lists of a set and of refusals 26 and 27, each for all
 -- bytes, tags or sets of which the facts before the arrow hold. Words in quotes are document 02's. Each stands for one way to read the
 -- request wrongly. Assumes nothing.
-use Rattle.std.specs.Prelude.{true, false, List, [], ◌∷◌, ◌≡◌, ℕ, ◌-◌, ◌^◌, eqb, leb, length, get_or}
+use Rattle.std.specs.Prelude.{true, false, List, [], ◌∷◌, ◌≡◌, ℕ, ◌-◌, ◌^◌, eqb, leb, length, get_or, None, Some}
 use Rattle.words.specs.Choice.{pick}
 use Rattle.words.specs.Memory.{Mem, mem, tab, from}
 use Rattle.words.specs.Words.{le_at, sum64}
 use Rattle.model.specs.Objects.{Obj, Objs, obj}
-use Rattle.object.specs.DynamicArray.{no_field, field}
 use Rattle.object.specs.DynamicTags as DT
 use Rattle.object.specs.DynamicFields.{Fields}
 use Rattle.object.specs.ProgramHeader.{dynamic_of}
-use Rattle.binder.specs.declared.Verdict.TheVariants.{Passed, Refused}
 use Rattle.binder.specs.Instance.{File}
-use Rattle.binder.specs.Verdict.{no_file}
+use Rattle.binder.specs.Verdict.{passed, refused, no_file}
 use Rattle.start_stop.specs.StartStop.{
   fields_at,
   placed_fields,
@@ -74,20 +72,20 @@ pub record ObjectCalls : Type 0 where
   pub stops : (base : ℕ) (m : Mem) → stops_of (full_calls base m) ≡ le_at 8 m 32 ∷ (le_at 8 m 24 ∷ (sum64 base 0x2000 ∷ []))
   -- "An array's count is its byte size divided by 8, 0 where size or pointer is missing"
   pub size_23 :
-      (f : Fields) → f DT.FINI_ARRAY ≡ field 24 → f DT.FINI_ARRAYSZ ≡ field 23
+      (f : Fields) → f DT.FINI_ARRAY ≡ Some 24 → f DT.FINI_ARRAYSZ ≡ Some 23
       → array_of f DT.FINI_ARRAY DT.FINI_ARRAYSZ ≡ words_at 24 2
-  pub no_pointer : (f : Fields) → f DT.FINI_ARRAY ≡ no_field → array_of f DT.FINI_ARRAY DT.FINI_ARRAYSZ ≡ words_at 0 0
+  pub no_pointer : (f : Fields) → f DT.FINI_ARRAY ≡ None → array_of f DT.FINI_ARRAY DT.FINI_ARRAYSZ ≡ words_at 0 0
   pub no_size :
-      (f : Fields) → f DT.FINI_ARRAY ≡ field 24 → f DT.FINI_ARRAYSZ ≡ no_field
+      (f : Fields) → f DT.FINI_ARRAY ≡ Some 24 → f DT.FINI_ARRAYSZ ≡ None
       → array_of f DT.FINI_ARRAY DT.FINI_ARRAYSZ ≡ words_at 24 0
   -- "Array words are read after relocation": from the arena, not from the placed bytes
   pub relocated_words :
-      (o : Obj) (f : Fields) (arena : List ℕ) → f DT.INIT ≡ no_field → f DT.INIT_ARRAY ≡ field 16 → f DT.INIT_ARRAYSZ ≡ field 8
+      (o : Obj) (f : Fields) (arena : List ℕ) → f DT.INIT ≡ None → f DT.INIT_ARRAY ≡ Some 16 → f DT.INIT_ARRAYSZ ≡ Some 8
       → starts_of (calls_of o f arena) ≡ le_at 8 (from o.offset (mem arena)) 16 ∷ []
   -- tags are those of the placed file, also where relocation wrote over them
   pub placed_tags :
       (S : Objs) (files : List File) (arena : List ℕ) (k : ℕ)
-      → placed_fields (get_or files k no_file) DT.INIT ≡ field 0x1000 → arena_fields S files arena k DT.INIT ≡ field 0x3000
+      → placed_fields (get_or files k no_file) DT.INIT ≡ Some 0x1000 → arena_fields S files arena k DT.INIT ≡ Some 0x3000
       → (calls_in S files arena k).init ≡ 0x1000
 
 -- of the pair
@@ -103,9 +101,9 @@ pub record PairCalls : Type 0 where
       → stop_list (pair_of p l) pair_order
       ≡ le_at 8 p 32 ∷ (le_at 8 p 24 ∷ (0x10002000 ∷ (le_at 8 l 32 ∷ (le_at 8 l 24 ∷ (0x20002000 ∷ [])))))
   -- "27, a list slice too short (object 0)": 7 words start, 6 stop
-  pub slices_fit : (p l : Mem) → lists_verdict (pair_of p l) pair_order 7 6 ≡ Passed
-  pub start_short : (p l : Mem) → lists_verdict (pair_of p l) pair_order 6 6 ≡ Refused 27 0
-  pub stop_short : (p l : Mem) → lists_verdict (pair_of p l) pair_order 7 5 ≡ Refused 27 0
+  pub slices_fit : (p l : Mem) → lists_verdict (pair_of p l) pair_order 7 6 ≡ passed
+  pub start_short : (p l : Mem) → lists_verdict (pair_of p l) pair_order 6 6 ≡ refused 27 0
+  pub stop_short : (p l : Mem) → lists_verdict (pair_of p l) pair_order 7 5 ≡ refused 27 0
 
 -- 26, and 27 after it
 pub record ArrayRefusals : Type 0 where
@@ -119,11 +117,11 @@ pub record ArrayRefusals : Type 0 where
       → arrays_ok 1 c ≡ false
   -- "first such object in binding order"
   pub first_in_order :
-      (calls : ℕ → Calls) → arrays_ok 2 (calls 2) ≡ false → arrays_ok 1 (calls 1) ≡ false → arrays_verdict calls pair_order ≡ Refused 26 2
+      (calls : ℕ → Calls) → arrays_ok 2 (calls 2) ≡ false → arrays_ok 1 (calls 1) ≡ false → arrays_verdict calls pair_order ≡ refused 26 2
   -- 26 before 27
   pub refusal_26_first :
-      (calls : ℕ → Calls) (order : List ℕ) (starts stops k : ℕ) → arrays_verdict calls order ≡ Refused 26 k
-      → leb (length (start_list calls order)) starts ≡ false → lists_verdict calls order starts stops ≡ Refused 26 k
+      (calls : ℕ → Calls) (order : List ℕ) (starts stops k : ℕ) → arrays_verdict calls order ≡ refused 26 k
+      → leb (length (start_list calls order)) starts ≡ false → lists_verdict calls order starts stops ≡ refused 26 k
 
 pub record StartStopCases : Type 0 where
   pub of_objects : ObjectCalls

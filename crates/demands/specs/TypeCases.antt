@@ -9,9 +9,9 @@ use Rattle.object.specs.Record.{Record}
 use Rattle.object.specs.declared.relocate.Rela.{Rela}
 use Rattle.sheet.specs.Sheet.{Input, arena_ok}
 use Rattle.binder.specs.declared.Policy.{Policy}
-use Rattle.binder.specs.declared.Verdict.TheVariants.{Refused}
 use Rattle.binder.specs.Setting.{setting_of}
 use Rattle.binder.specs.Instance.{entry_of}
+use Rattle.binder.specs.Verdict as verdicts
 use Rattle.binder.specs.Verdict.{entry_refusal}
 use Rattle.binder.specs.Report.{is_undefined, is_passed}
 use Rattle.binder.specs.Bind.{prepare_verdict, types_verdict, bind_of}
@@ -66,10 +66,10 @@ pub record TypeCases : Type 0 where
   -- "24, after 2", and before 3
   pub after_2 :
       (address : ℕ) (types : List ℕ) (os : List Input) (size : ℕ) → arena_ok size address ≡ false
-      → prepare_verdict (setting_of address types) (types_verdict (setting_of address types)) os size ≡ Refused 2 0
+      → prepare_verdict (setting_of address types) (types_verdict (setting_of address types)) os size ≡ verdicts.refused 2 0
   pub before_3 :
       (address : ℕ) (types : List ℕ) (os : List Input) (size : ℕ) → arena_ok size address ≡ true → types_ok types ≡ false
-      → prepare_verdict (setting_of address types) (types_verdict (setting_of address types)) os size ≡ Refused 24 0
+      → prepare_verdict (setting_of address types) (types_verdict (setting_of address types)) os size ≡ verdicts.refused 24 0
 
 -- answer, arena and report of every call, refused ones too
 abbrev pub SuppliedTypes : Type 0

@@ -1,4 +1,5 @@
 -- No refusal of `bind`, `bind_ordered`, `query`, `query_all` or `start_stop` has the number 0. Assumes nothing.
+use Rattle.std.proofs.Common.{Err}
 use mathlib.Core.Path.{◌≡◌, refl, sym, ◌∙◌}
 use mathlib.Core.Bool.{Bool, true, false}
 use mathlib.Core.List.{List, [], ◌∷◌, ◌++◌}
@@ -17,47 +18,40 @@ use Rattle.object.specs.Loaded.{object_refusal}
 use Rattle.object.specs.declared.relocate.Rela.{Rela}
 use Rattle.sheet.specs.Sheet.{Input, sheet_ok, arena_ok, set_of, duplicate_of}
 use Rattle.binder.specs.declared.Policy.{Policy}
-use Rattle.binder.specs.declared.Answer as answers
-use Rattle.binder.specs.declared.Reply as replies
 use Rattle.binder.specs.Setting.{Setting}
 use Rattle.binder.specs.Instance.{File, file_image, file_record, named_words, relas_of}
 use Rattle.binder.specs.Verdict as verdicts
 use Rattle.binder.specs.declared.crossing.Copy.{Copy}
 use Rattle.binder.specs.Copies.{entry_copy, object_copies}
-use Rattle.binder.specs.Verdict.{cross_refusal, first, verdict, no_file, load_verdict, word_refusal, words_verdict, entry_refusal, entries_verdict, object_verdict, order_verdict}
-use Rattle.binder.specs.declared.Verdict.{Verdict}
-use Rattle.binder.specs.declared.Verdict.TheVariants.{Passed, Refused}
+use Rattle.binder.specs.Verdict.{Verdict, passed, refused, cross_refusal, first, verdict, no_file, load_verdict, word_refusal, words_verdict, entry_refusal, entries_verdict, object_verdict, order_verdict}
 use Rattle.object.specs.RelocationTypes.{Row}
 use Rattle.binder.specs.Report.{order_words, first_undefined}
 use Rattle.binder.specs.Bind as binding
 use Rattle.binder.specs.Bind.{files_of, names_of, objects_of, unless, prepare_verdict, types_verdict, allows, relocate_verdict, Outcome, outcome, refused_bind, outcome_of, bind_of, replied, replied_of, reply_of}
-use Rattle.binder.specs.declared.ReplyAll as all_replies
 use Rattle.binder.specs.QueryAll as all
 use Rattle.binder.specs.QueryAll.{list_ok, replied_all, replied_all_of}
 use Rattle.binder.specs.OwnOrder as ordering
 use Rattle.binder.specs.OwnOrder.{may_take, bind_ordered_set, bind_ordered_of}
-use Rattle.binder.proofs.OutcomeLaws.{refused_not, sheet_verdict, bind_one, query_one}
+use Rattle.binder.proofs.OutcomeLaws.{refused_not, refused_same, sheet_verdict, bind_one, query_one}
 use Rattle.binder.proofs.QueryAllIs.{query_all_one}
-use Rattle.start_stop.specs.declared.Lists as lists
 use Rattle.start_stop.specs.StartStop as functions
 use Rattle.start_stop.specs.StartStop.{Calls, arrays_ok, arrays_verdict, lists_verdict, listing, listing_of, then_list}
 use Rattle.export.specs.Calls.{ZeroTells}
 
 abbrev Numbered : Verdict → Type 0
-Numbered v = (n k : ℕ) → v ≡ Refused n k → 0 < n
+Numbered v = (n k : ℕ) → v ≡ refused n k → 0 < n
 
-passing : Numbered Passed
+passing : Numbered passed
 passing n k e = refused_not n k (sym e)
 
 either_one : (v w : Verdict) → Numbered v → Numbered w → Numbered (first v w)
-either_one Passed w p q = q
-either_one (Refused n k) w p q = p
+either_one passed w p q = q
+either_one (Err m) w p q = p
 
-picked : (t : Bool) (n k : ℕ) → (t ≡ false → 0 < n) → Numbered (pick t Passed (Refused n k))
+picked : (t : Bool) (n k : ℕ) → (t ≡ false → 0 < n) → Numbered (pick t passed (refused n k))
 picked true n k h m j e = passing m j e
 picked false n k h m j e =
-    let same : n ≡ m = cc in
-    omega (arith, h refl, same)
+    omega (arith, h refl, (refused_same n k m j e).0)
 
 of_number : (n k : ℕ) → Numbered (verdict n k)
 unfolding verdicts.verdict
@@ -137,14 +131,14 @@ of_prepare setting types sheet bytes size typed =
 
 of_outcome :
     (size words : ℕ) (v : Verdict) (a r arena report : List ℕ) (n k : ℕ) → Numbered v
-    → outcome_of size words v a r ≡ outcome (answers.TheVariants.Refused n k) arena report → 0 < n
+    → outcome_of size words v a r ≡ outcome (refused n k) arena report → 0 < n
 unfolding binding.outcome_of
-of_outcome size words Passed a r arena report n k h e = let z : ◌≡◌ {A = ℕ} 0 1 = cc in absurd (omega arith)
-of_outcome size words (Refused m j) a r arena report n k h e = h n k cc
+of_outcome size words passed a r arena report n k h e = let z : ◌≡◌ {A = ℕ} 0 1 = cc in absurd (omega arith)
+of_outcome size words (Err d) a r arena report n k h e = h n k cc
 
 of_ordered :
     (setting : Setting) (sheet bytes : List ℕ) (size : ℕ) (policy : Policy) (words : ℕ) (order : List ℕ) (n k : ℕ) (arena report : List ℕ)
-    → bind_ordered_of setting sheet bytes size policy words order ≡ outcome (answers.TheVariants.Refused n k) arena report → 0 < n
+    → bind_ordered_of setting sheet bytes size policy words order ≡ outcome (refused n k) arena report → 0 < n
 unfolding ordering.bind_ordered_of ordering.bind_ordered_set binding.bind_in
 of_ordered setting sheet bytes size policy words order n k arena report e = go (sheet_ok sheet (length bytes)) e
   where
@@ -153,7 +147,7 @@ of_ordered setting sheet bytes size policy words order n k arena report e = go (
 
     go :
         (t : Bool)
-        → pick t (bind_ordered_set setting os size policy words order) (refused_bind size words 1 0) ≡ outcome (answers.TheVariants.Refused n k) arena report
+        → pick t (bind_ordered_set setting os size policy words order) (refused_bind size words 1 0) ≡ outcome (refused n k) arena report
         → 0 < n
     go true q =
         let taken : Bool = may_take (files_of os) (names_of os) order in
@@ -163,29 +157,29 @@ of_ordered setting sheet bytes size policy words order n k arena report e = go (
         (of_set setting (types_verdict setting) os size (of_test setting.typed 24 0 (omega arith))) (of_test taken 35 0 (omega arith)))
         (of_relocate _ _ _ _ policy words))
         q
-    go false q = let one : 1 ≡ n = cc in omega arith
+    go false q = let one : ◌≡◌ {A = Verdict} (refused 1 0) (refused n k) = cc in omega (arith, (refused_same 1 0 n k one).0)
 
-not_refused : {P : Type 0} (s : symbols.Resolved) (a arena : List ℕ) (n k : ℕ) → replied (reply_of s) a ≡ replied (replies.TheVariants.Refused n k) arena → P
+not_refused : {P : Type 0} (s : symbols.Resolved) (a arena : List ℕ) (n k : ℕ) → replied (reply_of s) a ≡ replied (refused n k) arena → P
 not_refused symbols.absent a arena n k e = let z : ◌≡◌ {A = ℕ} 0 1 = cc in absurd (omega arith)
 not_refused (symbols.answer d s v) a arena n k e = let z : ◌≡◌ {A = ℕ} 0 1 = cc in absurd (omega arith)
 
 of_replied :
     (size : ℕ) (v : Verdict) (s : symbols.Resolved) (a arena : List ℕ) (n k : ℕ) → Numbered v
-    → replied_of size v (reply_of s) a ≡ replied (replies.TheVariants.Refused n k) arena → 0 < n
+    → replied_of size v (reply_of s) a ≡ replied (refused n k) arena → 0 < n
 unfolding binding.replied_of
-of_replied size Passed s a arena n k h e = not_refused s a arena n k e
-of_replied size (Refused m j) s a arena n k h e = h n k cc
+of_replied size passed s a arena n k h e = not_refused s a arena n k e
+of_replied size (Err d) s a arena n k h e = h n k cc
 
 of_replied_all :
     (size slots : ℕ) (v : Verdict) (a ws arena words : List ℕ) (n k : ℕ) → Numbered v
-    → replied_all_of size slots v a ws ≡ replied_all (all_replies.TheVariants.Refused n k) arena words → 0 < n
+    → replied_all_of size slots v a ws ≡ replied_all (refused n k) arena words → 0 < n
 unfolding all.replied_all_of
-of_replied_all size slots Passed a ws arena words n k h e = let z : ◌≡◌ {A = ℕ} 0 1 = cc in absurd (omega arith)
-of_replied_all size slots (Refused m j) a ws arena words n k h e = h n k cc
+of_replied_all size slots passed a ws arena words n k h e = let z : ◌≡◌ {A = ℕ} 0 1 = cc in absurd (omega arith)
+of_replied_all size slots (Err d) a ws arena words n k h e = h n k cc
 
 bind_tells :
     (setting : Setting) (sheet bytes : List ℕ) (size : ℕ) (policy : Policy) (words n k : ℕ) (arena report : List ℕ)
-    → bind_of setting sheet bytes size policy words ≡ outcome (answers.TheVariants.Refused n k) arena report → 0 < n
+    → bind_of setting sheet bytes size policy words ≡ outcome (refused n k) arena report → 0 < n
 unfolding binding.bind_in
 bind_tells setting sheet bytes size policy words n k arena report e =
     of_outcome size words _ _ _ arena report n k
@@ -208,20 +202,20 @@ of_lists calls order starts stops =
 
 of_listing :
     (starts stops : ℕ) (v : Verdict) (a r s t arena report start stop : List ℕ) (n k : ℕ) → Numbered v
-    → listing_of starts stops v a r s t ≡ listing (lists.TheVariants.Refused n k) arena report start stop → 0 < n
+    → listing_of starts stops v a r s t ≡ listing (refused n k) arena report start stop → 0 < n
 unfolding functions.listing_of
-of_listing starts stops Passed a r s t arena report start stop n k h e = let z : ◌≡◌ {A = ℕ} 0 1 = cc in absurd (omega arith)
-of_listing starts stops (Refused m j) a r s t arena report start stop n k h e = h n k cc
+of_listing starts stops passed a r s t arena report start stop n k h e = let z : ◌≡◌ {A = ℕ} 0 1 = cc in absurd (omega arith)
+of_listing starts stops (Err d) a r s t arena report start stop n k h e = h n k cc
 
 of_then :
     (setting : Setting) (sheet bytes : List ℕ) (size : ℕ) (policy : Policy) (words starts stops n k : ℕ) (arena report start stop : List ℕ) (o : Outcome)
     → bind_of setting sheet bytes size policy words ≡ o
-    → then_list setting (set_of sheet bytes) starts stops o ≡ listing (lists.TheVariants.Refused n k) arena report start stop → 0 < n
+    → then_list setting (set_of sheet bytes) starts stops o ≡ listing (refused n k) arena report start stop → 0 < n
 unfolding functions.then_list functions.list_by
-of_then setting sheet bytes size policy words starts stops n k arena report start stop (outcome (answers.TheVariants.Refused m j) a r) q e =
-    let same : m ≡ n = cc in
-    omega (arith, bind_tells setting sheet bytes size policy words m j a r q, same)
-of_then setting sheet bytes size policy words starts stops n k arena report start stop (outcome answers.TheVariants.Bound a r) q e =
+of_then setting sheet bytes size policy words starts stops n k arena report start stop (outcome (Err d) a r) q e =
+    let same : d.number ≡ n = cc in
+    omega (arith, bind_tells setting sheet bytes size policy words d.number d.object a r q, same)
+of_then setting sheet bytes size policy words starts stops n k arena report start stop (outcome passed a r) q e =
     of_listing starts stops _ a r _ _ arena report start stop n k (of_lists _ _ starts stops) e
 
 pub zero_tells : ZeroTells
@@ -231,14 +225,14 @@ zero_tells = (
   of_ordered,
   λ setting sheet bytes size requester name n k arena e.
       of_replied size _ (resolve (objects_of setting (files_of (set_of sheet bytes))) requester (symbols.by_name name)) _ arena n k
-      (either_one (sheet_verdict setting Passed sheet bytes size) (unless (ltb requester (length (set_of sheet bytes))) 13 0)
-      (of_prepare setting Passed sheet bytes size passing)
+      (either_one (sheet_verdict setting passed sheet bytes size) (unless (ltb requester (length (set_of sheet bytes))) 13 0)
+      (of_prepare setting passed sheet bytes size passing)
       (of_test (ltb requester (length (set_of sheet bytes))) 13 0 (omega arith))) (sym (query_one setting sheet bytes size requester name) ∙ e),
   λ setting sheet bytes size requester list slots n k arena words e.
       let asking = unless (ltb requester (length (set_of sheet bytes))) 13 0 in
       let listed = unless (list_ok list slots) 23 0 in
       of_replied_all size slots _ _ _ arena words n k
-      (either_one (sheet_verdict setting Passed sheet bytes size) (first asking listed) (of_prepare setting Passed sheet bytes size passing)
+      (either_one (sheet_verdict setting passed sheet bytes size) (first asking listed) (of_prepare setting passed sheet bytes size passing)
       (either_one asking listed (of_test (ltb requester (length (set_of sheet bytes))) 13 0 (omega arith)) (of_test (list_ok list slots) 23 0 (omega arith))))
       (sym (query_all_one setting sheet bytes size requester list slots) ∙ e),
   λ setting sheet bytes size policy words starts stops n k arena report start stop e.

@@ -9,87 +9,55 @@ ghost use Rattle.binder.specs.Bind.{bind_of, query_of};
 ghost use Rattle.binder.specs.QueryAll.{query_all_of};
 ghost use Rattle.binder.specs.OwnOrder.{bind_ordered_of};
 ghost use Rattle.start_stop.specs.StartStop.{start_stop_of};
-ghost use Rattle.export.specs.Calls.{packed, policy_of, answer_number, reply_number, reply_words, fitted, called, called_of, asked, asked_of, reply_all_number, asked_all_of, lists_number, lists_counts, called_lists, called_lists_of};
+ghost use Rattle.export.specs.Calls.{packed, policy_of, answer_number, reply_words, fitted, called, called_of, asked, asked_of, asked_all_of, lists_counts, called_lists, called_lists_of};
 
-use binder::{Answer, Policy, Reply, ReplyAll};
-use start_stop::Lists;
+use binder::{Found, Policy, Refused};
+use start_stop::Counts;
 
 // A refusal as one number: the low half is its number, the high half its object.
 fn pack(number: u32, object: u32) -> u64
     ensures { result ≡ packed number object }
 {
-    number as u64 + object as u64 * 4294967296
+    u64::from(number) + u64::from(object) * 4294967296
 }
 
-// 0 is lenient, any other number strict.
+// 0 is lenient, any other number strict. No From<u32>: what a number means here is the C interface's rule.
 fn policy_of(strict: u32) -> Policy
     ensures { result ≡ policy_of strict }
 {
     if strict == 0 {
-        return Policy::Lenient;
-    }
-    Policy::Strict
-}
-
-fn answer_number(a: Answer) -> u64
-    ensures { result ≡ answer_number a }
-{
-    match a {
-        Answer::Bound => 0,
-        Answer::Refused { number, object } => pack(number, object),
+        Policy::Lenient
+    } else {
+        Policy::Strict
     }
 }
 
-// The word at `i`; 0 past the end.
-fn word_at(words: &[u64], i: usize) -> u64
-    ensures { result ≡ mem words.now i }
+// 0 for an answer.
+fn answer_number<T: Copy>(answer: Result<T, Refused>) -> u64
+    ensures { result ≡ answer_number answer }
 {
-    if i < words.len() {
-        return words[i];
+    match answer {
+        Ok(_) => 0,
+        Err(r) => pack(r.number, r.object),
     }
-    0
 }
 
 // The words, then zeros. What does not fit is dropped.
-fn store_words(answer: &mut [u64], words: &[u64])
+fn store(answer: &mut [u64], words: &[u64])
     ensures { answer.new ≡ fitted (length answer.old) words.now }
 {
-    let mut i = 0;
-    while i < answer.len() {
-        answer[i] = word_at(words, i);
-        i += 1;
-    }
+    let n = words.len().min(answer.len());
+    answer.fill(0);
+    answer[..n].copy_from_slice(&words[..n]);
 }
 
-fn store(answer: &mut [u64], found: u64, object: u64, symbol: u64, address: u64)
-    ensures { answer.new ≡ fitted (length answer.old) (found ∷ object ∷ symbol ∷ address ∷ []) }
-{
-    let words = [found, object, symbol, address];
-    store_words(answer, &words);
-}
-
-// The words of a reply, and its refusal.
-fn store_reply(answer: &mut [u64], reply: Reply) -> u64
-    ensures value { result ≡ reply_number reply }
-    ensures answer_after { answer.new ≡ fitted (length answer.old) (reply_words reply) }
+// The words of a reply.
+fn store_reply(answer: &mut [u64], reply: Result<Option<Found>, Refused>)
+    ensures { answer.new ≡ fitted (length answer.old) (reply_words reply) }
 {
     match reply {
-        Reply::Found {
-            object,
-            symbol,
-            address,
-        } => {
-            store(answer, 1, object as u64, symbol as u64, address);
-            0
-        }
-        Reply::Absent => {
-            store(answer, 0, 0, 0, 0);
-            0
-        }
-        Reply::Refused { number, object } => {
-            store(answer, 0, 0, 0, 0);
-            pack(number, object)
-        }
+        Ok(Some(f)) => store(answer, &[1, f.object as u64, f.symbol as u64, f.address]),
+        _ => store(answer, &[0, 0, 0, 0]),
     }
 }
 
@@ -150,16 +118,8 @@ pub fn lugwormpin_query(
     ensures { asked result arena.new answer.new ≡ asked_of (length answer.old) (query_of (setting_at address) sheet.now bytes.now (length arena.old) requester name.now) }
 {
     let reply = binder::query::query(sheet, bytes, arena, address, requester, name);
-    store_reply(answer, reply)
-}
-
-fn reply_all_number(a: ReplyAll) -> u64
-    ensures { result ≡ reply_all_number a }
-{
-    match a {
-        ReplyAll::Answered => 0,
-        ReplyAll::Refused { number, object } => pack(number, object),
-    }
+    store_reply(answer, reply);
+    answer_number(reply)
 }
 
 // The addresses of the names of a list, each of which has a zero byte after it, for the object `requester`: 0 where they are answered, else
@@ -178,30 +138,16 @@ pub fn lugwormpin_query_all(
     let reply = binder::query_all::query_all(
         sheet, bytes, arena, address, requester, names, addresses,
     );
-    reply_all_number(reply)
+    answer_number(reply)
 }
 
-fn store_pair(counts: &mut [u64], start: u64, stop: u64)
-    ensures { counts.new ≡ fitted (length counts.old) (start ∷ stop ∷ []) }
-{
-    let words = [start, stop];
-    store_words(counts, &words);
-}
-
-// The counts of the lists, and the refusal.
-fn store_counts(counts: &mut [u64], lists: Lists) -> u64
-    ensures value { result ≡ lists_number lists }
-    ensures counts_after { counts.new ≡ fitted (length counts.old) (lists_counts lists) }
+// The counts of the lists; zeros after a refusal.
+fn store_counts(counts: &mut [u64], lists: Result<Counts, Refused>)
+    ensures { counts.new ≡ fitted (length counts.old) (lists_counts lists) }
 {
     match lists {
-        Lists::Listed { start, stop } => {
-            store_pair(counts, start as u64, stop as u64);
-            0
-        }
-        Lists::Refused { number, object } => {
-            store_pair(counts, 0, 0);
-            pack(number, object)
-        }
+        Ok(c) => store(counts, &[c.start as u64, c.stop as u64]),
+        Err(_) => store(counts, &[0, 0]),
     }
 }
 
@@ -224,5 +170,6 @@ pub fn lugwormpin_start_stop(
     let l = start_stop::start_stop::start_stop(
         sheet, bytes, arena, address, policy, types, report, start, stop,
     );
-    store_counts(counts, l)
+    store_counts(counts, l);
+    answer_number(l)
 }

@@ -1,4 +1,4 @@
--- Alignments: the powers of two up to 2^21 are the divisors of 2^21; the largest alignment of a table, from `i` on. Assumes nothing.
+-- Alignments: the powers of two up to 2^21 are the divisors of 2^21; the largest alignment. Assumes nothing.
 use mathlib.Core.Path.{◌≡◌, refl, sym, ap, ◌∙◌}
 use mathlib.Core.Bool.{Bool, true, false}
 use mathlib.Core.Logic.{◌⊎◌, inl, inr, ⊎_elim}
@@ -9,13 +9,12 @@ use native.Mathlib.Decide.{dec_le}
 use native.Mathlib.Nat.{two-pow-succ, mul-add, add-mul, mul-one, div-add-mod, mod-eq_of_lt, mul-mod_right}
 use borrow.Author.Tests.{eq-eqb, ne_eqb, eqb-true, le-leb, leb-true}
 use lib.Dec.{eqb, leb}
-use lib.ListN.{length, take, drop, get_or}
+use Rattle.std.specs.Prelude.{fold}
 use lib.Pow.{pow-lt}
 use Rattle.words.specs.Choice.{both, either, every}
 use Rattle.words.proofs.Choice.{both_true, either_true}
 use Rattle.object.specs.Alignment.{power_up_to, power_of_two, align_ok, align_of}
 use Rattle.object.specs.declared.program_header.Segment.{Segment}
-use Rattle.object.proofs.ListTests.{one_left, none_left}
 
 -- ---- powers of two
 
@@ -173,11 +172,11 @@ align_largest (s ∷ ss) e =
     let t = both_true (align_ok s) (every align_ok ss) e in
     omega (arith, align_small s t.0, align_largest ss t.1)
 
-module _ (l : List Segment) (n i : ℕ) (d : Segment) (h : i < n) (k : i < length l) where
-  pub align_turn : align_of (drop i (take n l)) ≡ max (get_or l i d).align (align_of (drop (i + 1) (take n l)))
-  unfolding align_of
-  align_turn = ap align_of (one_left l n i d h k)
-
-pub align_end : (l : List Segment) (n i : ℕ) → n ≤ i → align_of (drop i (take n l)) ≡ 4096
+-- the same as the fold of the code
+fold_from : (ss : List Segment) (a : ℕ) → 4096 ≤ a → fold (λ (a : ℕ) (s : Segment). max s.align a) a ss ≡ max a (align_of ss)
 unfolding align_of
-align_end l n i h = ap align_of (none_left l n i h)
+fold_from [] a h = omega arith
+fold_from (s ∷ ss) a h = omega (arith, fold_from ss (max s.align a) (omega arith))
+
+pub align_fold : (ss : List Segment) → fold (λ (a : ℕ) (s : Segment). max s.align a) 4096 ss ≡ align_of ss
+align_fold ss = fold_from ss 4096 (omega arith) ∙ omega (arith, align_least ss)

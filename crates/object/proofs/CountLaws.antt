@@ -1,4 +1,5 @@
 -- The largest bucket word and the last symbol of a walk, turn by turn. No contract cites this file. Assumes nothing.
+use Rattle.std.specs.Prelude.{Some}
 use mathlib.Core.Path.{◌≡◌, refl, sym, ap, ◌∙◌, subst}
 use mathlib.Core.Logic.{⊎_elim}
 use mathlib.Core.Bool.{true, false}
@@ -14,7 +15,6 @@ use lib.ListN.{length}
 use Rattle.object.specs.declared.hash_tables.HashTable.{HashTable}
 use Rattle.object.specs.declared.hash_tables.HashTable.TheVariants.{Without, SysV, Gnu}
 use Rattle.object.specs.HashTable.{bucket_count, bucket_at, chain_at, is_last, next_symbol, walk}
-use Rattle.object.specs.declared.hash_tables.SymbolCount.TheVariants.{Known}
 use Rattle.object.specs.SymbolCount.{highest, last_reached, count_of}
 use Rattle.object.proofs.Ranges.{split}
 
@@ -77,6 +77,6 @@ module _ (m : List ℕ) (t : HashTable) (s d : ℕ) where
   last_out (suc n) l = absurd (not-suc-le-zero l)
 
 -- document 01, "Proved cases": strings 0x400, symbols 0x2B0: 14 symbols
-pub count_case : (image : List ℕ) (t : HashTable) → count_of image (record { symbols = 0x2b0; strings = 0x400; table = t }) ≡ Known 14
+pub count_case : (image : List ℕ) (t : HashTable) → count_of image (record { symbols = 0x2b0; strings = 0x400; table = t }) ≡ Some 14
 unfolding count_of
 count_case image t = refl

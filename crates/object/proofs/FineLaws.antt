@@ -1,4 +1,5 @@
 -- Symbols, names and chain words that need no further test of refusals 12, 14 and 15. No contract cites this file. Assumes nothing.
+use Rattle.std.specs.Prelude.{Ok}
 use mathlib.Core.Path.{◌≡◌, refl, ◌∙◌}
 use mathlib.Core.Bool.{Bool, true}
 use mathlib.Core.List.{List}
@@ -6,14 +7,12 @@ use Prim.Native.Nat.{ℕ, ◌+◌, ◌-◌, ◌*◌, ◌/◌, ◌≤◌, ◌<◌
 use native.Mathlib.Nat.{add-zero}
 use native.Mathlib.Omega.{arith}
 use borrow.Author.Tests.{lt-ltb}
-use lib.ListN.{length, take}
+use lib.ListN.{length}
 use Rattle.words.specs.Memory.{mem}
 use Rattle.words.specs.Words.{le_at}
-use Rattle.object.specs.declared.entry_symbol.CheckedSymbol.TheVariants.{Checked}
 use Rattle.object.specs.declared.hash_tables.HashTable.TheVariants.{SysV, Gnu}
 use Rattle.object.specs.declared.hash_tables.View.{View}
 use Rattle.object.specs.declared.table_bytes.Bounds.{Bounds}
-use Rattle.object.specs.declared.check.Shortcuts.{Shortcuts}
 use Rattle.object.specs.TableBytes.{is_table, table_bytes}
 use Rattle.object.specs.Steps.LastZero.{RunOf}
 use Rattle.object.specs.Symbol.{symbol_from, symbol_at}
@@ -74,7 +73,7 @@ fine_tables image r most fits ends f le known = record {
 -- a symbol that needs no test, with a name that needs none, is not refused
 pub fine_checked : (image : List ℕ) (r : Record) (fits ends : ℕ) → FineOf image r fits ends
     → (index : ℕ) → index < fits → (symbol_at image r.symbols index).name < ends
-    → checked_symbol image r index ≡ Checked (symbol_at image r.symbols index)
+    → checked_symbol image r index ≡ Ok (symbol_at image r.symbols index)
 unfolding checked_symbol symbol_ok symbol_from
 fine_checked image r fits ends f index h k =
     rw (f.index index h, f.symbols index h, rw add-zero at (f.names (symbol_at image r.symbols index).name k))
@@ -92,11 +91,11 @@ fine_same image image' r fits ends f len agree = record {
 -- ---- what the check of a hash table goes by
 
 -- a symbol that all of it reaches passes
-pub at_once : (b : Bounds) (m : List ℕ) (v : View) (q : Shortcuts) (s : ℕ) → ShortcutsOk b m v q
-    → (s - q.low < q.chained) × (s < q.fits) × (le_at 4 (mem m) (v.symbols + 24 * s) < q.ends) → step_in b m v s ≡ true
-at_once b m v q s o (l, f, e) =
-    rw (o.chained s (rw o.low at l))
-    (tables_pass m (is_table b.span (take b.count b.segments)) v.symbols v.strings b.span q.fits q.ends o.tables s
+pub at_once : (b : Bounds) (m : List ℕ) (v : View) (fits ends chained low s : ℕ) → ShortcutsOk b m v fits ends chained low
+    → s - low < chained → s < fits → le_at 4 (mem m) (v.symbols + 24 * s) < ends → step_in b m v s ≡ true
+at_once b m v fits ends chained low s o l f e =
+    rw (o.chain s (rw o.start at l))
+    (tables_pass m (is_table b.span b.segments.now) v.symbols v.strings b.span fits ends o.tables s
     (le_at 4 (mem m) (v.symbols + 24 * s)) f refl e)
 
 module _ (is_t : ℕ → Bool) (at n : ℕ) where

@@ -1,13 +1,15 @@
--- Tests of every element, and of some element, of the first `n` elements of an array, by a loop: what is left to test from `i` on.
+-- Tests of every element, and of some element, of a list: in the words of std's iterators, and by a loop, what is left to test from `i` on.
 -- Assumes nothing.
-use mathlib.Core.Path.{◌≡◌, sym, ap, ◌∙◌}
+use mathlib.Core.Path.{◌≡◌, refl, ap, ◌∙◌}
 use mathlib.Core.Bool.{Bool, true, false}
 use mathlib.Core.List.{List, [], ◌∷◌}
 use Prim.Native.Nat.{ℕ, zero, suc, ◌+◌, ◌≤◌, ◌<◌}
 use native.Mathlib.Omega.{arith}
 use native.Mathlib.Numerals.{add-one}
-use lib.ListN.{length, take, drop, get_or, length-take, drop_of_length-le}
-use lib.Seq.{drop-cons, get_or-take}
+use lib.ListN.{length, drop, get_or, drop_of_length-le}
+use lib.Seq.{drop-cons}
+use Rattle.std.specs.Prelude.{◌&&◌, ◌||◌}
+use Rattle.std.specs.List.{list_all, list_any}
 use Rattle.words.specs.Choice.{both, either, every, some}
 use Rattle.words.proofs.Choice.{both_true}
 
@@ -19,37 +21,47 @@ every_at p [] i d e h = absurd (omega arith)
 every_at p (x ∷ xs) zero d e h = (both_true (p x) (every p xs) e).0
 every_at p (x ∷ xs) (suc i) d e h = every_at p xs i d (both_true (p x) (every p xs) e).1 (omega arith)
 
-module _ {A : Type 0} (l : List A) (n i : ℕ) where
-  -- nothing is left
-  pub none_left : n ≤ i → drop i (take n l) ≡ []
-  none_left h = drop_of_length-le (take n l) {i = i} (simp length-take (omega arith))
+-- the same tests in the words of std's iterators
+pub every_all : {A : Type 0} (p : A → Bool) (xs : List A) → every p xs ≡ list_all p xs
+unfolding every
+every_all p [] = refl
+every_all p (x ∷ xs) = go (p x) (every_all p xs)
+  where
+    go : (b : Bool) → every p xs ≡ list_all p xs → both b (every p xs) ≡ (b && list_all p xs)
+    go true e = e
+    go false e = refl
 
-  module _ (d : A) (h : i < n) (k : i < length l) where
-    pub within : i < length (take n l)
-    within = simp length-take (omega arith)
+pub some_any : {A : Type 0} (p : A → Bool) (xs : List A) → some p xs ≡ list_any p xs
+unfolding some
+some_any p [] = refl
+some_any p (x ∷ xs) = go (p x) (some_any p xs)
+  where
+    go : (b : Bool) → some p xs ≡ list_any p xs → either b (some p xs) ≡ (b || list_any p xs)
+    go true e = refl
+    go false e = e
 
-    -- the element at `i` is the first of what is left
-    pub one_left : drop i (take n l) ≡ get_or l i d ∷ drop (i + 1) (take n l)
-    one_left = rw (add-one i) (drop-cons (take n l) i d within) ∙ ap (λ (x : A). x ∷ drop (i + 1) (take n l)) (get_or-take n l i d h)
+-- what is left of a list from `i` on: its first element is tested, then the others
+pub every_step : {A : Type 0} (l : List A) (i : ℕ) (d : A) → i < length l
+    → (p : A → Bool) (t : Bool) → p (get_or l i d) ≡ t → every p (drop i l) ≡ both t (every p (drop (i + 1) l))
+unfolding every
+every_step l i d h p t e =
+    let f : drop i l ≡ get_or l i d ∷ drop (i + 1) l = rw (add-one i) (drop-cons l i d h) in
+    ap (every p) f ∙ ap (λ (b : Bool). both b (every p (drop (i + 1) l))) e
 
-    pub every_turn :
-        (p : A → Bool) (t : Bool) → p (get_or l i d) ≡ t → every p (drop i (take n l)) ≡ both t (every p (drop (i + 1) (take n l)))
-    unfolding every
-    every_turn p t e = ap (every p) one_left ∙ ap (λ (b : Bool). both b (every p (drop (i + 1) (take n l)))) e
+pub some_step : {A : Type 0} (l : List A) (i : ℕ) (d : A) → i < length l
+    → (p : A → Bool) (t : Bool) → p (get_or l i d) ≡ t → some p (drop i l) ≡ either t (some p (drop (i + 1) l))
+unfolding some
+some_step l i d h p t e =
+    let f : drop i l ≡ get_or l i d ∷ drop (i + 1) l = rw (add-one i) (drop-cons l i d h) in
+    ap (some p) f ∙ ap (λ (b : Bool). either b (some p (drop (i + 1) l))) e
 
-    pub some_turn :
-        (p : A → Bool) (t : Bool) → p (get_or l i d) ≡ t → some p (drop i (take n l)) ≡ either t (some p (drop (i + 1) (take n l)))
-    unfolding some
-    some_turn p t e = ap (some p) one_left ∙ ap (λ (b : Bool). either b (some p (drop (i + 1) (take n l)))) e
+pub every_none : {A : Type 0} (p : A → Bool) (l : List A) (i : ℕ) → length l ≤ i → every p (drop i l) ≡ true
+unfolding every
+every_none p l i h = rw (drop_of_length-le l {i = i} h)
 
-    -- a test of every element of the table is one of the element at `i`
-    pub every_here : (p : A → Bool) → every p (take n l) ≡ true → p (get_or l i d) ≡ true
-    every_here p e = ap p (sym (get_or-take n l i d h)) ∙ every_at p (take n l) i d e within
-
-  pub every_end : (p : A → Bool) → n ≤ i → every p (drop i (take n l)) ≡ true
-  unfolding every
-  every_end p h = ap (every p) (none_left h)
-
-  pub some_end : (p : A → Bool) → n ≤ i → some p (drop i (take n l)) ≡ false
-  unfolding some
-  some_end p h = ap (some p) (none_left h)
+pub every_drop : {A : Type 0} (p : A → Bool) (l : List A) (i : ℕ) → every p l ≡ true → every p (drop i l) ≡ true
+unfolding every
+every_drop p [] zero e = e
+every_drop p [] (suc i) e = e
+every_drop p (x ∷ l) zero e = e
+every_drop p (x ∷ l) (suc i) e = every_drop p l i (both_true (p x) (every p l) e).1

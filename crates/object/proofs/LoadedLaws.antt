@@ -7,18 +7,18 @@ use native.Mathlib.Omega.{arith}
 use borrow.Author.Tests.{leb-true}
 use lib.Dec.{leb}
 use lib.ListN.{length, take}
+use Rattle.std.specs.Prelude.{Option, None, Some, Result, Ok, Err, OnOk}
 use Rattle.words.specs.Memory.{patch}
 use Rattle.words.proofs.Slices.{length_tab, take_patch, length_patch}
 use Rattle.object.specs.ProgramHeader.{dynamic_of}
-use Rattle.object.specs.Steps.LoadTable.{segments_in}
-use Rattle.object.specs.Placed.{segments_of, object_span, object_bytes, object_image, file_refusal, place_refusal, PlacedBy}
-use Rattle.object.specs.Record.{record_in, record_at, held_by, no_record, read_refusal, ReadBy}
+use Rattle.object.specs.Placed.{segments_of, object_span, object_bytes, object_image, file_refusal, place_refusal, placed_part, Checked}
+use Rattle.object.specs.Record.{record_in, record_at, read_refusal, ReadBy}
 use Rattle.object.specs.Loaded.{object_record, object_refusal, LoadedBy}
-use Rattle.object.specs.declared.program_header.Dynamic.{Dynamic}
-use Rattle.object.specs.declared.program_header.Dynamic.TheVariants.{Missing, At}
 use Rattle.object.specs.declared.object_data.Placed.{Placed}
-use Rattle.object.specs.declared.dynamic_fields.Read.{Read}
-use Rattle.object.proofs.RefusalLaws.{required, after_met, after_none, after_zero}
+use Rattle.object.specs.declared.dynamic_fields.ObjectData.{ObjectData}
+use Rattle.words.specs.Refusal.{number_of}
+use Rattle.words.specs.declared.refusal.Refusal.{Refusal}
+use Rattle.object.proofs.RefusalLaws.{required, after_met, after_none, after_zero, number_some}
 use Rattle.object.proofs.PlaceLaws.{part_placed, place_file, place_eight}
 
 module _ (host : Bool) (file : List ℕ) where
@@ -60,58 +60,60 @@ module _ (host : Bool) (file : List ℕ) where
   unfolding object_record record_at record_in
   record_span = go (dynamic_of file)
     where
-      go : (d : Dynamic) → (record_at (object_image host file) (segments_of host file) d).span ≡ object_span host file
-      go Missing = length_tab (object_span host file) (object_bytes host file)
-      go (At at) = length_tab (object_span host file) (object_bytes host file)
+      go : (d : Option ℕ) → (record_at (object_image host file) (segments_of host file) d).span ≡ object_span host file
+      go None = length_tab (object_span host file) (object_bytes host file)
+      go (Some at) = length_tab (object_span host file) (object_bytes host file)
 
 -- an object that is loaded was placed
 pub loaded_part :
-    (host : Bool) (file entry exit : List ℕ) (r : Read) → LoadedBy host file entry exit r → r.refusal ≡ 0
+    (host : Bool) (file entry exit : List ℕ) → exit ≡ placed_part host file entry → object_refusal host (length entry) file ≡ 0
     → exit ≡ patch entry 0 (object_span host file) (object_bytes host file)
 unfolding object_refusal
-loaded_part host file entry exit r h z =
-    h.part ∙ part_placed host file entry (after_zero (place_refusal host (length entry) file) _ (sym h.refusal ∙ z)).0
+loaded_part host file entry exit e z = e ∙ part_placed host file entry (after_zero (place_refusal host (length entry) file) _ z).0
 
 -- ---- loading: placing, then reading
 
-module _ (host : Bool) (file entry exit : List ℕ) (p : Placed) (h : PlacedBy host file entry exit p) where
-  pub load_refused : (p.refusal ≡ 0 → ⊥) → (r : Read) → r.refusal ≡ p.refusal → held_by r.object ≡ no_record → LoadedBy host file entry exit r
+module _ (host : Bool) (file entry exit : List ℕ) where
+  -- placing is refused
+  pub load_refused :
+      (e : Refusal) → number_of e ≡ place_refusal host (length entry) file → exit ≡ placed_part host file entry
+      → LoadedBy host file entry exit (Err e)
   unfolding object_refusal
-  load_refused ne r e o =
-      let n : place_refusal host (length entry) file ≡ 0 → ⊥ = λ z. ne (h.refusal ∙ z) in
+  load_refused e h x =
       record {
-        refusal = e ∙ (h.refusal ∙ sym (after_met (place_refusal host (length entry) file) _ n));
-        object = λ z. absurd (ne (sym e ∙ z));
-        none = λ _. o;
-        part = h.part;
-        fits = λ z. absurd (ne (sym e ∙ z));
+        refusal = h ∙ sym (after_met (place_refusal host (length entry) file) _ (λ z. number_some e (h ∙ z)));
+        object = tt;
+        part = x;
+        fits = tt;
       }
 
-  module _ (z : p.refusal ≡ 0) where
+  module _ (p : Placed) (c : Checked host file p) (z : place_refusal host (length entry) file ≡ 0) (x : exit ≡ placed_part host file entry) where
     room : object_span host file ≤ length entry
-    room = place_fits host file (length entry) (sym h.refusal ∙ z)
+    room = place_fits host file (length entry) z
 
     placed : exit ≡ patch entry 0 (object_span host file) (object_bytes host file)
-    placed = h.part ∙ part_placed host file entry (sym h.refusal ∙ z)
+    placed = x ∙ part_placed host file entry z
 
     pub load_fits : p.span ≤ length exit
-    load_fits = omega (arith, room, h.span z, ap length placed, length_patch entry 0 (object_span host file) (object_bytes host file))
+    load_fits = omega (arith, room, c.span, ap length placed, length_patch entry 0 (object_span host file) (object_bytes host file))
 
     pub load_read :
-        (r : Read) (d : Dynamic) → d ≡ dynamic_of file → ReadBy host (take p.span exit) (segments_in p.loads) d r
+        (r : Result ObjectData Refusal) (d : Option ℕ) → d ≡ dynamic_of file → ReadBy host (take p.span exit) p.loads.items d r
         → LoadedBy host file entry exit r
     unfolding object_refusal object_record
     load_read r d ed read =
-        let image : take p.span exit ≡ object_image host file =
-        rw (h.span z) (image_placed host file entry exit room placed) in
-        let told = rw (image, h.segments z, ed) at read in
+        let image : take p.span exit ≡ object_image host file = rw c.span (image_placed host file entry exit room placed) in
+        let told = rw (image, c.segments, ed) at read in
         record {
           refusal =
               told.refusal
               ∙ sym (after_none (place_refusal host (length entry) file)
-              (read_refusal host (object_image host file) (segments_of host file) (dynamic_of file)) (sym h.refusal ∙ z));
+              (read_refusal host (object_image host file) (segments_of host file) (dynamic_of file)) z);
           object = told.object;
-          none = told.none;
-          part = h.part;
-          fits = λ _. room;
+          part = x;
+          fits = fits r;
         }
+      where
+        fits : (r : Result ObjectData Refusal) → OnOk r (object_span host file ≤ length entry)
+        fits (Ok o) = room
+        fits (Err e) = tt

@@ -1,5 +1,6 @@
 -- The invariance law (`view_same`): if a hash table is not refused in an image, a lookup gives the same in every image of the same length
 -- that has the same table bytes. No contract cites this file. Assumes nothing.
+use Rattle.std.specs.Prelude.{Option, Some, None}
 use mathlib.Core.Path.{◌≡◌, refl, sym, ap, ◌∙◌}
 use mathlib.Core.Bool.{Bool, true, false, not}
 use mathlib.Core.List.{List, [], ◌∷◌}
@@ -22,9 +23,6 @@ use Rattle.words.proofs.NameLaws.{name_more, name_stop, name_none}
 use Rattle.object.specs.declared.hash_tables.HashTable.{HashTable}
 use Rattle.object.specs.declared.hash_tables.HashTable.TheVariants.{Without, SysV, Gnu}
 use Rattle.object.specs.declared.hash_tables.View.{View}
-use Rattle.object.specs.declared.hash_tables.Found.{Found}
-use Rattle.object.specs.declared.hash_tables.Found.TheVariants.{Hit, Miss}
-use Rattle.object.specs.declared.hash_tables.SymbolCount.TheVariants.{Unknown, Known}
 use Rattle.object.specs.TableBytes.{table_bytes, table_name, Agree}
 use Rattle.object.specs.Symbol.{symbol_from, symbol_at, symbol_name}
 use Rattle.object.specs.HashTable.{sysv_at, gnu_at, bucket_count, bucket_at, chain_at, is_last, next_symbol, fuel, walk, walk_from, reached, may_hold, bucket_of, is_hit, is_exported_hit, first_in, find_by, lookup_by, lookup_in, answer_of, answer_by, answer_in}
@@ -86,14 +84,14 @@ first_cong p q ok same (s ∷ l) e =
     rw (same s h.0, first_cong p q ok same l h.1)
 
 -- what is found is in the list
-pub first_ok : (p ok : ℕ → Bool) (l : List ℕ) (s : ℕ) → every ok l ≡ true → first_in p l ≡ Hit s → ok s ≡ true
+pub first_ok : (p ok : ℕ → Bool) (l : List ℕ) (s : ℕ) → every ok l ≡ true → first_in p l ≡ Some s → ok s ≡ true
 unfolding every first_in
 first_ok p ok [] s e f = let z : ◌≡◌ {A = ℕ} 0 1 = cc in absurd (omega arith)
 first_ok p ok (x ∷ l) s e f =
     let h = both_true (ok x) (every ok l) e in
     go (p x) f h.0 (λ f'. first_ok p ok l s h.1 f')
   where
-    go : (b : Bool) → pick b (Hit x) (first_in p l) ≡ Hit s → ok x ≡ true → (first_in p l ≡ Hit s → ok s ≡ true) → ok s ≡ true
+    go : (b : Bool) → pick b (Some x) (first_in p l) ≡ Some s → ok x ≡ true → (first_in p l ≡ Some s → ok s ≡ true) → ok s ≡ true
     go true f o ih = let q : x ≡ s = cc in rw q at o
     go false f o ih = ih f
 
@@ -295,12 +293,12 @@ module _ (is_t : ℕ → Bool) (m m' : List ℕ) (agree : Agree is_t m m') where
         rw (may_same t numbers bytes g)
         (go (may_hold m t g) (λ h. bucket_same name g (bucket_of t g e) (bucket_in t numbers g e h)))
       where
-        go : (b : Bool) {x y : Found} → (b ≡ true → x ≡ y) → pick b x Miss ≡ pick b y Miss
+        go : (b : Bool) {x y : Option ℕ} → (b ≡ true → x ≡ y) → pick b x None ≡ pick b y None
         go true h = h refl
         go false h = refl
 
     -- a hit passes the check
-    pub found_ok : (name : List ℕ) (g e s : ℕ) → find_by m symbols strings t name g e ≡ Hit s → symbol_ok is_t m symbols strings s ≡ true
+    pub found_ok : (name : List ℕ) (g e s : ℕ) → find_by m symbols strings t name g e ≡ Some s → symbol_ok is_t m symbols strings s ≡ true
     unfolding find_by
     found_ok name g e s f =
         go (may_hold m t g) f
@@ -308,16 +306,16 @@ module _ (is_t : ℕ → Bool) (m m' : List ℕ) (agree : Agree is_t m m') where
         (step_parts s (first_ok (is_exported_hit m symbols strings t name g) (step_ok is_t m symbols strings t) (reached m t (bucket_of t g e)) s
         (passes (bucket_of t g e) (bucket_in t numbers g e h)) f')).1)
       where
-        go : (b : Bool) {x : Found} {A : Type 0} → pick b x Miss ≡ Hit s → (b ≡ true → x ≡ Hit s → A) → A
+        go : (b : Bool) {x : Option ℕ} {A : Type 0} → pick b x None ≡ Some s → (b ≡ true → x ≡ Some s → A) → A
         go true f h = h refl f
         go false f h = let z : ◌≡◌ {A = ℕ} 0 1 = cc in absurd (omega arith)
 
     -- the object's answer
-    answer_of_lem : (f : Found) → ((s : ℕ) → f ≡ Hit s → symbol_ok is_t m symbols strings s ≡ true)
+    answer_of_lem : (f : Option ℕ) → ((s : ℕ) → f ≡ Some s → symbol_ok is_t m symbols strings s ≡ true)
         → answer_of m' symbols f ≡ answer_of m symbols f
     unfolding answer_of
-    answer_of_lem Miss o = refl
-    answer_of_lem (Hit s) o = rw (symbol_same symbols strings s (o s refl))
+    answer_of_lem None o = refl
+    answer_of_lem (Some s) o = rw (symbol_same symbols strings s (o s refl))
 
     pub answer_same : (name : List ℕ) (g e : ℕ)
         → answer_of m' symbols (find_by m' symbols strings t name g e) ≡ answer_of m symbols (find_by m symbols strings t name g e)
@@ -331,10 +329,10 @@ module _ (is_t : ℕ → Bool) (m m' : List ℕ) (agree : Agree is_t m m') where
     past_same w e = rw (fuel_same t len) (go (eqb w 0) e)
       where
         go : (z : Bool) → every (step_ok is_t m symbols strings t) (pick z [] (walk m t (fuel m t) w)) ≡ true
-            → pick z Unknown (Known (last_reached (walk m' t (fuel m t) w) w + 1)) ≡ pick z Unknown (Known (last_reached (walk m t (fuel m t) w) w + 1))
+            → pick z None (Some (last_reached (walk m' t (fuel m t) w) w + 1)) ≡ pick z None (Some (last_reached (walk m t (fuel m t) w) w + 1))
         go true e = refl
         go false e =
-            ap (λ (l : List ℕ). Known (last_reached l w + 1))
+            ap (λ (l : List ℕ). Some (last_reached l w + 1))
             (walk_same t (step_ok is_t m symbols strings t) (λ s o. chain_word_lem t bytes s (step_parts s o).0) (fuel m t) w e)
 
     highest_same : (n : ℕ) → n ≤ bucket_count t → highest m' t n ≡ highest m t n

@@ -1,21 +1,23 @@
 -- The laws of `below`, of table bytes and of writable segments. No contract cites this file. Assumes nothing.
-use mathlib.Core.Path.{◌≡◌, refl, ◌∙◌}
+use mathlib.Core.Path.{◌≡◌, refl, sym, ◌∙◌}
 use mathlib.Core.Bool.{Bool, true, false, not}
 use mathlib.Core.List.{List, [], ◌∷◌}
 use mathlib.Core.Logic.{◌⊎◌, inl, inr, ⊎_elim}
-use Prim.Native.Nat.{ℕ, zero, suc, ◌+◌, ◌-◌, ◌/◌, ◌%◌, ◌≤◌, ◌<◌}
+use Prim.Native.Nat.{ℕ, zero, suc, ◌+◌, ◌-◌, ◌/◌, ◌%◌, ◌≤◌, ◌<◌, min}
 use native.Mathlib.Nat.{eq-or-lt_of_le, le_of_suc-le-suc, not-suc-le-zero}
 use native.Mathlib.Numerals.{add-one}
 use native.Mathlib.Omega.{arith}
-use borrow.Author.Tests.{eq-eqb, le-leb, lt-ltb, le-ltb, eqb-true, leb-true, ltb-true, ltb-false}
+use borrow.Author.Tests.{eq-eqb, le-leb, lt-ltb, le-ltb, eqb-true, leb-true, leb-false, ltb-true, ltb-false}
 use lib.Dec.{eqb, leb, ltb}
-use lib.ListN.{length, get_or, take, drop, drop_of_length-le}
+use lib.ListN.{length, get_or, drop}
+use Rattle.std.specs.Prelude.{◌&&◌}
+use Rattle.std.specs.List.{list_all, list_any}
 use Rattle.words.specs.Choice.{both, either, every, some, below}
 use Rattle.words.proofs.Choice.{both_true, both_false, either_right}
 use Rattle.object.specs.declared.program_header.Segment.{Segment}
 use Rattle.object.specs.TableBytes.{is_writable, holds_range, is_table, table_bytes, in_writable}
 use Rattle.object.specs.Steps.WritableRange.{WritableRange}
-use Rattle.object.proofs.ListTests.{one_left, some_turn}
+use Rattle.object.proofs.ListTests.{some_step, some_any}
 
 pub split : (a b : ℕ) → (a < b) ⊎ (b ≤ a)
 split a b = go (ltb a b) refl
@@ -87,6 +89,30 @@ seg_out s i never =
     go true true false a b c = refl
     go true true true a b c = let h = c refl in absurd (never (a refl) (b refl) (omega arith))
 
+-- the bytes from `at`, which is not before a writable segment, or is
+module _ (s : Segment) (at n : ℕ) (f : s.flags / 2 % 2 ≡ 1) where
+  pub spares_above : 0 < n → s.vaddr ≤ at → leb s.memsz (at - s.vaddr) ≡ below (λ k. spares s (at + k)) n
+  spares_above pos l = go (leb s.memsz (at - s.vaddr)) refl
+    where
+      go : (t : Bool) → leb s.memsz (at - s.vaddr) ≡ t → t ≡ below (λ k. spares s (at + k)) n
+      go true e =
+          let h = leb-true s.memsz (at - s.vaddr) e in
+          sym (below_all (λ k. spares s (at + k)) n (λ k i. seg_out s (at + k) (λ f l u. omega arith)))
+      go false e =
+          let h = leb-false s.memsz (at - s.vaddr) e in
+          sym (below_no (λ k. spares s (at + k)) n 0 pos (seg_in s (at + 0) f (omega arith) (omega arith)))
+
+  pub spares_below : 0 < s.memsz → at < s.vaddr → leb n (s.vaddr - at) ≡ below (λ k. spares s (at + k)) n
+  spares_below some l = go (leb n (s.vaddr - at)) refl
+    where
+      go : (t : Bool) → leb n (s.vaddr - at) ≡ t → t ≡ below (λ k. spares s (at + k)) n
+      go true e =
+          let h = leb-true n (s.vaddr - at) e in
+          sym (below_all (λ k. spares s (at + k)) n (λ k i. seg_out s (at + k) (λ f l u. omega arith)))
+      go false e =
+          let h = leb-false n (s.vaddr - at) e in
+          sym (below_no (λ k. spares s (at + k)) n (s.vaddr - at) (omega arith) (seg_in s (at + (s.vaddr - at)) f (omega arith) (omega arith)))
+
 -- ---- table bytes
 
 module _ (span : ℕ) (l : List Segment) (at n : ℕ) where
@@ -104,27 +130,44 @@ module _ (span : ℕ) (l : List Segment) (at n : ℕ) where
   span_in fits =
       parts ∙ rw (below_all (λ k. ltb (at + k) span) n (λ k h. lt-ltb (at + k) span (omega arith)))
 
-module _ (at n c : ℕ) (l : List Segment) (i : ℕ) where
-  pub rest_end : length (take c l) ≤ i → below (λ k. every (λ s. spares s (at + k)) (drop i (take c l))) n ≡ true
-  unfolding every
-  rest_end h = rw (drop_of_length-le (take c l) h) (below_all (λ k. true) n (λ k h'. refl))
+-- every byte is spared by every segment: every segment spares every byte
+pub each_spares : (at n : ℕ) (l : List Segment) → below (λ k. every (λ s. spares s (at + k)) l) n ≡ list_all (λ s. below (λ k. spares s (at + k)) n) l
+unfolding every
+each_spares at n [] = below_all (λ k. true) n (λ k h. refl)
+each_spares at n (s ∷ ss) =
+    below_both (λ k. spares s (at + k)) (λ k. every (λ s. spares s (at + k)) ss) n
+    ∙ go (below (λ k. spares s (at + k)) n) (each_spares at n ss)
+  where
+    go : (b : Bool) → below (λ k. every (λ s. spares s (at + k)) ss) n ≡ list_all (λ s. below (λ k. spares s (at + k)) n) ss
+        → both b (below (λ k. every (λ s. spares s (at + k)) ss) n) ≡ (b && list_all (λ s. below (λ k. spares s (at + k)) n) ss)
+    go true e = e
+    go false e = refl
 
-  module _ (d : Segment) (h : i < c) (h' : i < length l) where
-    first : below (λ k. every (λ s. spares s (at + k)) (drop i (take c l))) n
-        ≡ both (below (λ k. spares (get_or l i d) (at + k)) n) (below (λ k. every (λ s. spares s (at + k)) (drop (i + 1) (take c l))) n)
-    unfolding every
-    first =
-        rw (one_left l c i d h h')
-        (below_both (λ k. spares (get_or l i d) (at + k)) (λ k. every (λ s. spares s (at + k)) (drop (i + 1) (take c l))) n)
+pub table_all : (span : ℕ) (l : List Segment) (at n : ℕ) → at + n ≤ span
+    → table_bytes (is_table span l) at n ≡ list_all (λ s. below (λ k. spares s (at + k)) n) l
+table_all span l at n fits = span_in span l at n fits ∙ each_spares at n l
 
-    pub rest_no : below (λ k. spares (get_or l i d) (at + k)) n ≡ false
-        → below (λ k. every (λ s. spares s (at + k)) (drop i (take c l))) n ≡ false
-    rest_no e = first ∙ rw e
+pub writable_any : (l : List Segment) (at n : ℕ) → in_writable l at n ≡ list_any (λ s. both (is_writable s) (holds_range s at n)) l
+unfolding in_writable
+writable_any l at n = some_any (λ s. both (is_writable s) (holds_range s at n)) l
 
-    pub rest_on : below (λ k. spares (get_or l i d) (at + k)) n ≡ true
-        → below (λ k. every (λ s. spares s (at + k)) (drop i (take c l))) n
-        ≡ below (λ k. every (λ s. spares s (at + k)) (drop (i + 1) (take c l))) n
-    rest_on e = first ∙ rw e
+-- no bytes are table bytes, wherever they are
+pub table_none : (is_t : ℕ → Bool) (at : ℕ) → table_bytes is_t at 0 ≡ true
+unfolding table_bytes below
+table_none is_t at = refl
+
+-- nor past the span
+table_past : (span : ℕ) (l : List Segment) (at at' n : ℕ) → span ≤ at → span ≤ at'
+    → table_bytes (is_table span l) at n ≡ table_bytes (is_table span l) at' n
+table_past span l at at' zero h h' = table_none (is_table span l) at ∙ sym (table_none (is_table span l) at')
+table_past span l at at' (suc n) h h' = span_out span l at (suc n) (omega arith) (omega arith) ∙ sym (span_out span l at' (suc n) (omega arith) (omega arith))
+
+pub table_cut : (span : ℕ) (l : List Segment) (at n cap : ℕ) → span ≤ cap → table_bytes (is_table span l) (min at cap) n ≡ table_bytes (is_table span l) at n
+table_cut span l at n cap h =
+    ⊎_elim
+    (λ (u : at < cap). let e : min at cap ≡ at = omega arith in rw e)
+    (λ (u : cap ≤ at). table_past span l (min at cap) at n (omega arith) (omega arith))
+    (split at cap)
 
 -- a table byte lies in the span
 pub table_inside : (span : ℕ) (l : List Segment) (i : ℕ) → is_table span l i ≡ true → i < span
@@ -167,12 +210,12 @@ range_none ss at n l u pos = absurd (omega arith)
 
 -- the places of a segment
 pub range_at :
-    (c : ℕ) (l : List Segment) (i : ℕ) (d : Segment) (at n high : ℕ) → i < c → i < length l
+    (l : List Segment) (i : ℕ) (d : Segment) (at n high : ℕ) → i < length l
     → both (is_writable (get_or l i d)) (holds_range (get_or l i d) at n) ≡ true → high ≤ (get_or l i d).vaddr + (get_or l i d).memsz
-    → WritableRange (take c l) (get_or l i d).vaddr high
+    → WritableRange l (get_or l i d).vaddr high
 unfolding in_writable
-range_at c l i d at n high h h' e top p k low fits pos =
+range_at l i d at n high h e top p k low fits pos =
     let w = both_true (is_writable (get_or l i d)) (holds_range (get_or l i d) at n) e in
     let u : p + k ≤ (get_or l i d).vaddr + (get_or l i d).memsz = omega arith in
     let here : both (is_writable (get_or l i d)) (holds_range (get_or l i d) p k) ≡ true = rw (w.0, le-leb _ _ low, le-leb _ _ u) in
-    writable_after i (take c l) p k (some_turn l c i d h h' (λ s. both (is_writable s) (holds_range s p k)) true here)
+    writable_after i l p k (some_step l i d h (λ s. both (is_writable s) (holds_range s p k)) true here)

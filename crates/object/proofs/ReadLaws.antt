@@ -1,23 +1,23 @@
 -- The refusals of reading, one after another: `read_fields` and `read_object` against their definitions. Assumes nothing.
 use mathlib.Core.Path.{◌≡◌, refl, sym, ap, ◌∙◌}
-use mathlib.Core.Bool.{Bool, true}
+use mathlib.Core.Bool.{Bool}
 use mathlib.Core.List.{List}
 use Prim.Native.Nat.{ℕ, ◌≤◌, ◌<◌}
 use native.Mathlib.Omega.{arith}
 use borrow.Author.Tests.{le-leb, lt-leb}
-use lib.ListN.{length, take}
+use lib.ListN.{length}
+use Rattle.std.specs.Prelude.{Option, None, Some}
 use Rattle.object.specs.Refusal.{require}
 use Rattle.object.specs.declared.program_header.Segment.{Segment}
-use Rattle.object.specs.declared.program_header.Dynamic.{Dynamic}
-use Rattle.object.specs.declared.program_header.Dynamic.TheVariants.{Missing, At}
-use Rattle.object.specs.declared.dynamic_fields.Read.{Read}
+use Rattle.object.specs.declared.dynamic_fields.ObjectData.{ObjectData}
+use Rattle.arrayvec.specs.ArrayVec.{ArrayVec}
 use Rattle.object.specs.declared.dynamic_array.DynamicArray.{DynamicArray}
 use Rattle.object.specs.DynamicArray.{ends_inside}
 use Rattle.object.specs.DynamicTags as DT
 use Rattle.object.specs.DynamicFields.{Fields, fields_of, needed_offsets}
 use Rattle.object.specs.Steps.Slots.{slot_of, field_in, SameFields, ArrayAt}
 use Rattle.object.proofs.RefusalLaws.{after_met, after_none}
-use Rattle.object.specs.Steps.FieldsRead.{FieldsRead}
+use Rattle.object.specs.Steps.FieldsRead.{FieldsOf}
 use Rattle.object.specs.Record.{Record, held_by, table_in, record_in, sizes_refusal, fields_refusal, tables_ok, read_refusal, record_at}
 
 -- fields that are the same of each tag that has a slot give the same refusal and the same record
@@ -50,61 +50,46 @@ module _ (f g : Fields) (same : SameFields f g) where
       )
 
 module _ (host : Bool) (image : List ℕ) (segments : List Segment) where
-  pub read_none : read_refusal host image segments Missing ≡ 9
+  pub read_none : read_refusal host image segments None ≡ 9
   unfolding read_refusal
   read_none = refl
 
   -- after the array `a` at `at` was read, whose fields have the refusal `n`
   module _
-      (at : ℕ) (a : DynamicArray) (r : ArrayAt image at a) (n : ℕ) (e : n ≡ fields_refusal a.ended (field_in image a.slots))
+      (at : ℕ) (a : DynamicArray) (r : ArrayAt image at a) (n : ℕ) (e : n ≡ fields_refusal a.ended (field_in a.slots))
     where
       number : n ≡ fields_refusal (ends_inside image at) (fields_of image at)
-      number = e ∙ rw r.ended (refusal_same (field_in image a.slots) (fields_of image at) r.fields (ends_inside image at))
+      number = e ∙ rw r.ended (refusal_same (field_in a.slots) (fields_of image at) r.fields (ends_inside image at))
 
-      pub read_fields_lem : (n ≡ 0 → ⊥) → read_refusal host image segments (At at) ≡ n
+      pub read_refused : (n ≡ 0 → ⊥) → read_refusal host image segments (Some at) ≡ n
       unfolding read_refusal
-      read_fields_lem ne = rw (← number) (after_met n _ ne)
+      read_refused ne = rw (← number) (after_met n _ ne)
 
       module _ (z : n ≡ 0) where
-        pub read_many : 64 < a.needs.count → read_refusal host image segments (At at) ≡ 11
+        pub read_many : a.needs ≡ None → read_refusal host image segments (Some at) ≡ 11
         unfolding read_refusal require
         read_many l =
-            let many : 64 < length (needed_offsets image at) = omega (arith, r.needs.count) in
+            let many : 64 < length (needed_offsets image at) = rw l at r.needs in
             after_none _ _ (sym number ∙ z) ∙ rw (lt-leb (length (needed_offsets image at)) 64 many)
 
         -- the record, and refusal 12
-        pub read_tables :
-            a.needs.count ≤ 64 → (o : Record) → o ≡ record_in image segments (field_in image a.slots) (take a.needs.count a.needs.list)
-            → (t : Bool) → t ≡ tables_ok host image o
-            → (read_refusal host image segments (At at) ≡ require t 12 0) × (o ≡ record_at image segments (At at))
+        pub read_record :
+            (needs : ArrayVec ℕ) → a.needs ≡ Some needs → (o : Record)
+            → o ≡ record_in image segments (field_in a.slots) needs.items
+            → (read_refusal host image segments (Some at) ≡ require (tables_ok host image (record_at image segments (Some at))) 12 0)
+            × (o ≡ record_at image segments (Some at))
         unfolding read_refusal record_at require
-        read_tables l o eo t et =
-            let few : length (needed_offsets image at) ≤ 64 = omega (arith, r.needs.count) in
+        read_record needs l o eo =
+            let held : (length (needed_offsets image at) ≤ 64) × (needs.items ≡ needed_offsets image at) = rw l at r.needs in
             let same : o ≡ record_in image segments (fields_of image at) (needed_offsets image at) =
-            eo ∙ (rw (r.needs.list few) (record_same (field_in image a.slots) (fields_of image at) r.fields image segments (needed_offsets image at)))
+            eo ∙ (rw held.1 (record_same (field_in a.slots) (fields_of image at) r.fields image segments (needed_offsets image at)))
             in
-            (after_none _ _ (sym number ∙ z) ∙ rw (le-leb (length (needed_offsets image at)) 64 few, ← same, ← et), same)
+            (after_none _ _ (sym number ∙ z) ∙ rw (le-leb (length (needed_offsets image at)) 64 held.0), same)
 
   -- after the fields were read, refusal 12 is left
   pub read_left :
-      (d : Dynamic) (r : Read) → FieldsRead image segments d r → r.refusal ≡ 0 → (t : Bool) → t ≡ tables_ok host image (held_by r.object)
+      (d : Option ℕ) (o : ObjectData) → FieldsOf image segments d o → (t : Bool) → t ≡ tables_ok host image (held_by o)
       → read_refusal host image segments d ≡ require t 12 0
-  read_left d r f z t e =
-      f.tables z host
-      ∙ sym (ap (λ (b : Bool). require b 12 0) e ∙ ap (λ (o : Record). require (tables_ok host image o) 12 0) (f.object z))
-
--- the record that was read, and what is left of the refusals: for the host and for the others
-module _
-    (image : List ℕ) (segments : List Segment) (at : ℕ) (a : DynamicArray) (r : ArrayAt image at a) (n : ℕ)
-    (e : n ≡ fields_refusal a.ended (field_in image a.slots)) (z : n ≡ 0)
-  where
-    pub read_record :
-        a.needs.count ≤ 64 → (o : Record) → o ≡ record_in image segments (field_in image a.slots) (take a.needs.count a.needs.list)
-        → ((host : Bool) → read_refusal host image segments (At at) ≡ require (tables_ok host image (record_at image segments (At at))) 12 0)
-        × (o ≡ record_at image segments (At at))
-    read_record l o eo = (
-      λ host.
-          let t = read_tables host image segments at a r n e z l o eo (tables_ok host image o) refl in
-          t.0 ∙ ap (λ (x : Record). require (tables_ok host image x) 12 0) t.1,
-      (read_tables true image segments at a r n e z l o eo (tables_ok true image o) refl).1,
-    )
+  read_left d o f t e =
+      f.tables host
+      ∙ sym (ap (λ (b : Bool). require b 12 0) e ∙ ap (λ (r : Record). require (tables_ok host image r) 12 0) f.object)

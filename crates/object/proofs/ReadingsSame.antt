@@ -1,4 +1,5 @@
 -- The law of specs/Invariant: an object's readings hang on its table bytes alone. Assumes nothing.
+use Rattle.std.specs.Prelude.{Err, Ok}
 use mathlib.Core.Path.{◌≡◌, refl, sym, ap, ◌∙◌}
 use mathlib.Core.Bool.{Bool, true, false}
 use mathlib.Core.List.Memᴰ
@@ -11,13 +12,13 @@ use Rattle.words.specs.Choice.{pick, both, either, every}
 use Rattle.words.specs.Memory.{mem}
 use Rattle.words.specs.Words.{le_at}
 use Rattle.words.proofs.Choice.{both_true}
+use Rattle.words.specs.declared.refusal.Refusal.TheVariants as refusals
 use Rattle.object.specs.TableBytes.{table_bytes, table_name, Agree}
 use Rattle.object.specs.Symbol.{symbol_at}
 use Rattle.object.specs.HashCheck.{symbol_ok, table_ok}
 use Rattle.object.specs.Entries.{rela_at, relas_from, relrs_from}
 use Rattle.object.specs.Record.{Record, view_of, is_table_of, needs_ok, relocations_ok, tables_ok, index_ok, checked_symbol}
 use Rattle.object.specs.Invariant.{Invariance}
-use Rattle.object.specs.declared.entry_symbol.CheckedSymbol.TheVariants.{Refused, Checked}
 use Rattle.object.proofs.LookupSame.{number_same, number_here, name_same, symbol_same, symbol_name_same, view_same}
 
 -- a test of every element, at an element
@@ -129,7 +130,7 @@ invariance host r m m' ok len agree =
 
     symbol :
         (index : ℕ) (t : Bool) → symbol_ok is_t m r.symbols r.strings index ≡ t
-        → pick (index_ok r.known index) (pick t (Checked (symbol_at m' r.symbols index)) (Refused 15)) (Refused 14)
-        ≡ pick (index_ok r.known index) (pick t (Checked (symbol_at m r.symbols index)) (Refused 15)) (Refused 14)
+        → pick (index_ok r.known index) (pick t (Ok (symbol_at m' r.symbols index)) (Err refusals.SymbolBytes)) (Err refusals.SymbolIndex)
+        ≡ pick (index_ok r.known index) (pick t (Ok (symbol_at m r.symbols index)) (Err refusals.SymbolBytes)) (Err refusals.SymbolIndex)
     symbol index true e = rw (symbol_same is_t m m' agree r.symbols r.strings index e)
     symbol index false e = refl

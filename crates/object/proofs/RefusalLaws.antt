@@ -7,6 +7,9 @@ use native.Mathlib.Omega.{arith}
 use borrow.Author.Tests.{leb-true}
 use lib.Dec.{leb}
 use lib.ListN.{length}
+use Rattle.words.specs.Refusal.{number_of}
+use Rattle.words.specs.declared.refusal.Refusal.{Refusal}
+use Rattle.words.specs.declared.refusal.Refusal.TheVariants as refusals
 use Rattle.words.proofs.Choice.{both_true}
 use Rattle.object.specs.Refusal.{require, after}
 use Rattle.object.specs.Header.{is_shared_object, is_x86, headers_inside, header_refusal, header_count, table_end}
@@ -50,3 +53,35 @@ table_inside file e =
     let b = required (is_x86 file) 4 _ a.1 in
     let c = required (headers_inside file) 5 _ b.1 in
     leb-true (table_end file) (length file) (both_true (leb (header_count file) 64) _ c.0).1
+
+-- each refusal has a number
+pub number_some : (e : Refusal) → number_of e ≡ 0 → ⊥
+number_some refusals.Sheet h = absurd (omega (arith, h))
+number_some refusals.Arena h = absurd (omega (arith, h))
+number_some refusals.Duplicate h = absurd (omega (arith, h))
+number_some refusals.Types h = absurd (omega (arith, h))
+number_some refusals.NoSharedObject h = absurd (omega (arith, h))
+number_some refusals.OtherMachine h = absurd (omega (arith, h))
+number_some refusals.HeaderTable h = absurd (omega (arith, h))
+number_some refusals.Segments h = absurd (omega (arith, h))
+number_some refusals.Alignment h = absurd (omega (arith, h))
+number_some refusals.Room h = absurd (omega (arith, h))
+number_some refusals.NoDynamicArray h = absurd (omega (arith, h))
+number_some refusals.NoTables h = absurd (omega (arith, h))
+number_some refusals.TableSizes h = absurd (omega (arith, h))
+number_some refusals.TableBytes h = absurd (omega (arith, h))
+number_some refusals.Requester h = absurd (omega (arith, h))
+number_some refusals.NameList h = absurd (omega (arith, h))
+number_some refusals.Order h = absurd (omega (arith, h))
+number_some refusals.SymbolIndex h = absurd (omega (arith, h))
+number_some refusals.SymbolBytes h = absurd (omega (arith, h))
+number_some refusals.Irelative h = absurd (omega (arith, h))
+number_some refusals.RefusedType h = absurd (omega (arith, h))
+number_some refusals.NotWritable h = absurd (omega (arith, h))
+number_some refusals.CopyRange h = absurd (omega (arith, h))
+number_some refusals.FieldRange h = absurd (omega (arith, h))
+number_some refusals.Crossing h = absurd (omega (arith, h))
+number_some refusals.Undefined h = absurd (omega (arith, h))
+number_some refusals.ReportRoom h = absurd (omega (arith, h))
+number_some refusals.Arrays h = absurd (omega (arith, h))
+number_some refusals.ListRoom h = absurd (omega (arith, h))

@@ -1,19 +1,20 @@
--- The load segments: what a segment that is not refused satisfies, and the tests and the span of the table from `i` on. Assumes nothing.
-use mathlib.Core.Path.{◌≡◌, ap, ◌∙◌}
+-- The load segments: what a segment that is not refused satisfies, and the tests and the span of a list from `i` on. Assumes nothing.
+use mathlib.Core.Path.{◌≡◌, refl, ap, ◌∙◌}
 use mathlib.Core.Bool.{Bool, true, not}
-use mathlib.Core.List.{List}
+use mathlib.Core.List.{List, [], ◌∷◌}
 use Prim.Native.Nat.{ℕ, ◌+◌, ◌-◌, ◌%◌, ◌^◌, ◌≤◌, ◌<◌, max}
 use native.Mathlib.Omega.{arith}
 use native.Mathlib.Nat.{mod-eq_of_lt}
 use borrow.Author.Tests.{leb-true, eqb-true, eqb-false, not-true}
 use lib.Dec.{eqb, leb}
-use lib.ListN.{length, take, drop, get_or}
+use lib.ListN.{length, drop, get_or, drop_of_length-le}
+use lib.Seq.{drop-cons}
+use native.Mathlib.Numerals.{add-one}
 use Rattle.words.specs.Choice.{both, every}
 use Rattle.words.specs.Page.{page_size, page_start, page_end}
 use Rattle.words.proofs.Choice.{both_true}
 use Rattle.object.specs.Segments.{sizes_ok, address_ok, segment_ok, pages_apart, all_apart, end_of, file_bytes}
 use Rattle.object.specs.declared.program_header.Segment.{Segment}
-use Rattle.object.proofs.ListTests.{one_left, none_left}
 
 -- ---- pages below 2^28: no sum wraps
 
@@ -55,24 +56,40 @@ bytes_from n s o = omega (arith, o.aligned)
 pub bytes_end : (n : ℕ) (s : Segment) → Sound n s → page_start s.vaddr + file_bytes s ≤ page_end (s.vaddr + s.memsz)
 bytes_end n s o = omega (arith, bytes_from n s o, o.file_bytes_lem)
 
--- ---- the table from `i` on
+-- what a read past the end of a table would give
+abbrev pub no_segment : Segment
+no_segment = record { offset = 0; vaddr = 0; filesz = 0; memsz = 0; flags = 0; align = 0 }
 
-module _ (l : List Segment) (n i : ℕ) (d : Segment) (h : i < n) (k : i < length l) where
-  pub apart_turn :
-      (t : Bool) → every (pages_apart (get_or l i d)) (drop (i + 1) (take n l)) ≡ t
-      → all_apart (drop i (take n l)) ≡ both t (all_apart (drop (i + 1) (take n l)))
+-- what ends at 2^28 at most
+pub address_low : (s : Segment) → address_ok s ≡ true → s.vaddr + s.memsz ≤ 2 ^ 28
+unfolding address_ok
+address_low s e = leb-true (s.vaddr + s.memsz) (2 ^ 28) (both_true (leb (s.vaddr + s.memsz) (2 ^ 28)) _ e).0
+
+pub every_address : (n : ℕ) (ss : List Segment) → every (segment_ok n) ss ≡ true → every address_ok ss ≡ true
+unfolding every segment_ok
+every_address n [] e = refl
+every_address n (s ∷ ss) e =
+    let h = both_true (segment_ok n s) (every (segment_ok n) ss) e in
+    rw ((both_true (address_ok s) _ (both_true (sizes_ok n s) _ h.0).1).0) (every_address n ss h.1)
+
+-- ---- a list from `i` on
+
+module _ (l : List Segment) (i : ℕ) (d : Segment) (h : i < length l) where
+  pub one_left : drop i l ≡ get_or l i d ∷ drop (i + 1) l
+  one_left = rw (add-one i) (drop-cons l i d h)
+
+  pub apart_turn : (t : Bool) → every (pages_apart (get_or l i d)) (drop (i + 1) l) ≡ t → all_apart (drop i l) ≡ both t (all_apart (drop (i + 1) l))
   unfolding all_apart
-  apart_turn t e =
-      ap all_apart (one_left l n i d h k) ∙ ap (λ (b : Bool). both b (all_apart (drop (i + 1) (take n l)))) e
+  apart_turn t e = ap all_apart one_left ∙ ap (λ (b : Bool). both b (all_apart (drop (i + 1) l))) e
 
-  pub end_turn : end_of (drop i (take n l)) ≡ max ((get_or l i d).vaddr + (get_or l i d).memsz) (end_of (drop (i + 1) (take n l)))
+  pub end_turn : end_of (drop i l) ≡ max ((get_or l i d).vaddr + (get_or l i d).memsz) (end_of (drop (i + 1) l))
   unfolding end_of
-  end_turn = ap end_of (one_left l n i d h k)
+  end_turn = ap end_of one_left
 
-pub apart_end : (l : List Segment) (n i : ℕ) → n ≤ i → all_apart (drop i (take n l)) ≡ true
+pub apart_end : (l : List Segment) (i : ℕ) → length l ≤ i → all_apart (drop i l) ≡ true
 unfolding all_apart
-apart_end l n i h = ap all_apart (none_left l n i h)
+apart_end l i h = rw (drop_of_length-le l {i = i} h)
 
-pub end_end : (l : List Segment) (n i : ℕ) → n ≤ i → end_of (drop i (take n l)) ≡ 0
+pub end_end : (l : List Segment) (i : ℕ) → length l ≤ i → end_of (drop i l) ≡ 0
 unfolding end_of
-end_end l n i h = ap end_of (none_left l n i h)
+end_end l i h = rw (drop_of_length-le l {i = i} h)

@@ -1,11 +1,10 @@
 -- The dynamic array. System V gABI, "Dynamic Section" (Elf64_Dyn: d_tag, d_un; the array ends at DT_NULL). Document 01, "The object
 -- record": "Entries of 16 bytes run until tag 0; unknown tags are skipped. A repeated tag: the last counts"; refusal 9, "its entries
 -- through the first of tag 0 not wholly inside the span". An image is the list of the bytes of the span. Assumes nothing.
-use Rattle.std.specs.Prelude.{Bool, true, false, List, [], ◌∷◌, ℕ, zero, suc, ◌+◌, ◌-◌, ◌/◌, eqb, length}
+use Rattle.std.specs.Prelude.{Bool, true, false, List, [], ◌∷◌, ℕ, zero, suc, ◌+◌, ◌-◌, ◌/◌, eqb, length, Option, Some, is_some}
 use Rattle.words.specs.Choice.{pick}
 use Rattle.words.specs.Memory.{mem}
 use Rattle.words.specs.Words.{le_at}
-use Rattle.object.specs.declared.dynamic_array.Field.{Field}
 
 -- an entry: d_tag and d_un
 pub record Item : Type 0 where
@@ -35,23 +34,17 @@ items_of image at = items_in (item_room image at) image at
 abbrev pub ends_inside : List ℕ → ℕ → Bool
 ends_inside image at = end_in (item_room image at) image at
 
--- ---- the entries of a tag; a field is what they give: whether there is one, and a value
-
-abbrev pub no_field : Field
-no_field = record { given = false; value = 0 }
-
-abbrev pub field : ℕ → Field
-field v = record { given = true; value = v }
+-- ---- the entries of a tag; a field is what they give: a value, where there is one
 
 -- "A repeated tag: the last counts"; `d` where there is none
-unfoldable pub last_value : ℕ → Field → List Item → Field
+unfoldable pub last_value : ℕ → Option ℕ → List Item → Option ℕ
 last_value tag d [] = d
-last_value tag d (x ∷ xs) = last_value tag (pick (eqb x.tag tag) (field x.value) d) xs
+last_value tag d (x ∷ xs) = last_value tag (pick (eqb x.tag tag) (Some x.value) d) xs
 
 -- the first counts; `d` where it is given
-unfoldable pub first_of : ℕ → Field → List Item → Field
+unfoldable pub first_of : ℕ → Option ℕ → List Item → Option ℕ
 first_of tag d [] = d
-first_of tag d (x ∷ xs) = first_of tag (pick (eqb x.tag tag) (pick d.given d (field x.value)) d) xs
+first_of tag d (x ∷ xs) = first_of tag (pick (eqb x.tag tag) (pick (is_some d) d (Some x.value)) d) xs
 
 -- the values of all, in their order
 unfoldable pub all_of : ℕ → List Item → List ℕ

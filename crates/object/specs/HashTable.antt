@@ -5,7 +5,7 @@
 -- bucket and chain go as in `HashTable::lookup`"; "exported means section not 0, binding 1 or 2, visibility 0 or 3"; "The address is
 -- st_value for section 0xFFF1, else base + st_value modulo 2^64". Document 02, (c): "A search now passes over a hit that is not exported and
 -- goes on in that chain". Assumes nothing.
-use Rattle.std.specs.Prelude.{Bool, true, false, not, List, [], ◌∷◌, ℕ, zero, suc, ◌+◌, ◌-◌, ◌*◌, ◌/◌, ◌%◌, ◌^◌, ◌<◌, min, eqb, length}
+use Rattle.std.specs.Prelude.{Bool, true, false, not, List, [], ◌∷◌, ℕ, zero, suc, ◌+◌, ◌-◌, ◌*◌, ◌/◌, ◌%◌, ◌^◌, ◌<◌, min, eqb, length, Option, Some, None}
 use Rattle.std.specs.Int.Bits.{bit_or}
 use Rattle.words.specs.Choice.{pick, both}
 use Rattle.words.specs.Memory.{mem}
@@ -16,11 +16,7 @@ use Rattle.object.specs.declared.symbol.Symbol.{Symbol}
 use Rattle.object.specs.declared.hash_tables.HashTable.{HashTable}
 use Rattle.object.specs.declared.hash_tables.HashTable.TheVariants.{Without, SysV, Gnu}
 use Rattle.object.specs.declared.hash_tables.View.{View}
-use Rattle.object.specs.declared.hash_tables.Found.{Found}
-use Rattle.object.specs.declared.hash_tables.Found.TheVariants.{Hit, Miss}
 use Rattle.object.specs.declared.hash_tables.Definition.{Definition}
-use Rattle.object.specs.declared.hash_tables.Exported.{Exported}
-use Rattle.object.specs.declared.hash_tables.Exported.TheVariants.{Absent, Present}
 use Rattle.object.specs.Symbol.{symbol_at, symbol_name, is_exported, is_absolute, is_protected}
 
 -- ---- header, buckets, chain
@@ -124,25 +120,25 @@ unfoldable pub is_exported_hit : List ℕ → ℕ → ℕ → HashTable → List
 is_exported_hit image symbols strings t name g s =
     both (is_hit image symbols strings t name g s) (is_exported (symbol_at image symbols s))
 
-unfoldable pub first_in : (ℕ → Bool) → List ℕ → Found
-first_in p [] = Miss
-first_in p (s ∷ l) = pick (p s) (Hit s) (first_in p l)
+unfoldable pub first_in : (ℕ → Bool) → List ℕ → Option ℕ
+first_in p [] = None
+first_in p (s ∷ l) = pick (p s) (Some s) (first_in p l)
 
 -- the first exported hit in the chain of the name's bucket, "that chain", for a name with the hashes `g` and `e`
-unfoldable pub find_by : List ℕ → ℕ → ℕ → HashTable → List ℕ → ℕ → ℕ → Found
+unfoldable pub find_by : List ℕ → ℕ → ℕ → HashTable → List ℕ → ℕ → ℕ → Option ℕ
 find_by image symbols strings t name g e =
-    pick (may_hold image t g) (first_in (is_exported_hit image symbols strings t name g) (reached image t (bucket_of t g e))) Miss
+    pick (may_hold image t g) (first_in (is_exported_hit image symbols strings t name g) (reached image t (bucket_of t g e))) None
 
-abbrev pub lookup_by : List ℕ → View → List ℕ → ℕ → ℕ → Found
+abbrev pub lookup_by : List ℕ → View → List ℕ → ℕ → ℕ → Option ℕ
 lookup_by image v name g e = find_by image v.symbols v.strings v.table name g e
 
-abbrev pub lookup_in : List ℕ → View → List ℕ → Found
+abbrev pub lookup_in : List ℕ → View → List ℕ → Option ℕ
 lookup_in image v name = lookup_by image v name (gnu_hash name) (elf_hash name)
 
 -- a symbol's index is below 2^40, so that 24 times it fits a usize
-abbrev pub small : Found → Type 0
-small (Hit s) = s < 2 ^ 40
-small Miss = Unit {0}
+abbrev pub small : Option ℕ → Type 0
+small (Some s) = s < 2 ^ 40
+small None = Unit {0}
 
 -- ---- the object's answer
 
@@ -152,14 +148,14 @@ definition s y =
     record { index = s; value = y.value; size = y.size; protected = is_protected y; absolute = is_absolute y }
 
 -- what the symbol that was found says; "else that object has none"
-unfoldable pub answer_of : List ℕ → ℕ → Found → Exported
-answer_of image symbols Miss = Absent
-answer_of image symbols (Hit s) = Present (definition s (symbol_at image symbols s))
+unfoldable pub answer_of : List ℕ → ℕ → Option ℕ → Option Definition
+answer_of image symbols None = None
+answer_of image symbols (Some s) = Some (definition s (symbol_at image symbols s))
 
-abbrev pub answer_by : List ℕ → View → List ℕ → ℕ → ℕ → Exported
+abbrev pub answer_by : List ℕ → View → List ℕ → ℕ → ℕ → Option Definition
 answer_by image v name g e = answer_of image v.symbols (lookup_by image v name g e)
 
-abbrev pub answer_in : List ℕ → View → List ℕ → Exported
+abbrev pub answer_in : List ℕ → View → List ℕ → Option Definition
 answer_in image v name = answer_by image v name (gnu_hash name) (elf_hash name)
 
 -- the address of a definition in an object at `base`

@@ -1,7 +1,9 @@
 // The dynamic array: port of dynamic_array.rs, and of the walk in dynamic_fields.rs.
-ghost use Rattle.std.specs.Prelude.{◌≡◌, ◌≤◌, ◌<◌};
+ghost use Rattle.std.specs.Prelude.{◌≡◌, ◌<◌, ℕ, List, [], ◌∷◌, ◌++◌};
 ghost use Rattle.object.specs.DynamicFields.{needed_offsets};
-ghost use Rattle.object.specs.Steps.Slots.{slot_of, kept_of, put_of, field_in, need_step, Needed, ArrayAt};
+ghost use Rattle.object.specs.Steps.Slots.{slot_of, kept_of, put_of, field_in, NeedsRead, ArrayAt};
+
+use arrayvec::ArrayVec;
 
 // The tags that are read.
 pub(crate) const DT_NEEDED: u64 = 1;
@@ -48,32 +50,22 @@ pub(crate) const DT_RELR: u64 = 36;
 
 pub(crate) const DT_GNU_HASH: u64 = 0x6ffffef5;
 
-// A tag's slot holds where the value that counts for it stands in the image, 0 where the tag has no entry.
-pub type Slots = [usize; 38];
+// A tag's slot holds what its entries give: the value that counts, where there is one.
+pub type Slots = [Option<usize>; 38];
 
-// What the entries of one tag give: whether there is one, and the value that counts.
-#[derive(Clone, Copy)]
-pub struct Field {
-    pub given: bool,
-    pub value: usize,
-}
+// The needs' offsets that a record keeps.
+pub type Needs = ArrayVec<usize, 64>;
 
-// The needs' offsets: the first `count` of `list`. A count of 65 says that there are more than 64.
-#[derive(Clone, Copy)]
-pub struct Needs {
-    pub list: [usize; 64],
-    pub count: usize,
-}
-
-// The array, read in one pass; `ended` says whether it ends inside the span.
-#[derive(Clone, Copy)]
+// The array, read in one pass. There are no `needs` where there are more than 64; `ended` says whether the array ends inside the span.
+#[derive(Drop)]
 pub struct DynamicArray {
     pub slots: Slots,
-    pub needs: Needs,
+    pub needs: Option<Needs>,
     pub ended: bool,
 }
 
 // The slot of a tag: below 37 the tag itself, then a row for each that is far above; 0 for the tags that have none.
+#[tactic(auto, unfolding(crate::specs::Steps::Slots::slot_of))]
 fn slot_of(tag: u64) -> usize
     ensures { (result ≡ slot_of tag) × (result < 38) }
 {
@@ -86,100 +78,74 @@ fn slot_of(tag: u64) -> usize
     0
 }
 
-// What a slot holds after an entry whose value stands at `place`: the last counts, of DT_HASH the first.
+// What a slot holds after an entry: the last counts, of DT_HASH the first.
 #[tactic(auto, unfolding(crate::specs::Steps::Slots::kept_of))]
-fn kept(tag: u64, was: usize, place: usize) -> usize
-    ensures { result ≡ kept_of tag was place }
+fn kept(tag: u64, was: Option<usize>, value: usize) -> Option<usize>
+    ensures { result ≡ kept_of tag was value }
 {
-    if tag != DT_HASH {
-        return place;
+    if tag == DT_HASH {
+        return was.or(Some(value));
     }
-    if was == 0 {
-        return place;
-    }
-    was
+    Some(value)
 }
 
-fn put(slots: &mut Slots, tag: u64, place: usize)
-    ensures { slots.new ≡ put_of slots.old tag place }
+fn put(slots: &mut Slots, tag: u64, value: usize)
+    ensures { slots.new ≡ put_of slots.old tag value }
 {
     let k = slot_of(tag);
-    slots[k] = kept(tag, slots[k], place);
+    slots[k] = kept(tag, slots[k], value);
 }
 
 // What the entries of a tag give.
-pub fn field_in(image: &[u8], slots: &Slots, tag: u64) -> Field
-    ensures { result ≡ field_in image.now slots.now tag }
+pub fn field_in(slots: &Slots, tag: u64) -> Option<usize>
+    ensures { result ≡ field_in slots.now tag }
 {
-    let k = slot_of(tag);
-    let at = slots[k];
-    if at == 0 {
-        return Field {
-            given: false,
-            value: 0,
-        };
-    }
-    Field {
-        given: true,
-        value: words::bytes::u64_at(image, at) as usize,
-    }
+    slots[slot_of(tag)]
 }
 
-// The needs after one more entry.
-fn with_need(o: Needs, tag: u64, v: usize) -> Needs
-    ensures { result ≡ need_step o tag v }
+// One need more.
+fn put_need(needs: &mut Option<Needs>, offset: usize)
+    ensures { (xs : List ℕ) → NeedsRead xs needs.old → NeedsRead (xs ++ offset ∷ []) needs.new }
 {
-    if tag != DT_NEEDED {
-        return o;
+    if let Some(list) = needs {
+        if list.try_push(offset).is_err() {
+            *needs = None;
+        }
     }
-    let mut n = o;
-    let at = n.count;
-    if at < 64 {
-        n.list[at] = v;
-        n.count = at + 1;
-        return n;
-    }
-    n.count = 65;
-    n
 }
 
 // The array at `at`: its entries up to the first of tag 0, or to the end of the image.
 pub fn read_array(image: &[u8], at: usize) -> DynamicArray
     ensures { ArrayAt image.now at result }
 {
-    let mut slots = [0usize; 38];
-    let mut needs = Needs {
-        list: [0usize; 64],
-        count: 0,
-    };
-    let mut i = at;
-    let mut left = words::bytes::monus(image.len(), at) / 16;
-    while 0 < left {
-        let tag = words::bytes::u64_at(image, i);
+    let mut slots = [None; 38];
+    let mut needs = Some(ArrayVec::new());
+    for k in 0..image.len().saturating_sub(at) / 16 {
+        let i = at + 16 * k;
+        let tag = words::bytes::word_at::<u64>(image, i);
         if tag == 0 {
             return DynamicArray {
-                slots: slots,
-                needs: needs,
+                slots,
+                needs,
                 ended: true,
             };
         }
-        put(&mut slots, tag, i + 8);
-        needs = with_need(needs, tag, words::bytes::u64_at(image, i + 8) as usize);
-        i += 16;
-        left -= 1;
+        let value = words::bytes::word_at::<u64>(image, i + 8) as usize;
+        put(&mut slots, tag, value);
+        if tag == DT_NEEDED {
+            put_need(&mut needs, value);
+        }
     }
     DynamicArray {
-        slots: slots,
-        needs: needs,
+        slots,
+        needs,
         ended: false,
     }
 }
 
-// The needs of the array at `at`.
-pub fn read_needs(image: &[u8], at: usize) -> Needs
-    ensures { Needed (needed_offsets image.now at) result }
+// The needs of the array at `at`; none where there are more than 64.
+pub fn read_needs(image: &[u8], at: usize) -> Option<Needs>
+    ensures { NeedsRead (needed_offsets image.now at) result }
 {
-    let a = read_array(image, at);
-    let n = a.needs;
-    n
+    read_array(image, at).needs
 }

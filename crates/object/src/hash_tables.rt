@@ -10,8 +10,9 @@ ghost use Rattle.object.specs.HashCheck.{start_of};
 ghost use Rattle.object.specs.SymbolCount.{highest, last_reached, table_count, count_of};
 
 // The chosen hash table: its offset, and the numbers of its header.
-#[derive(Clone, Copy)]
+#[derive(Clone, Copy, Default)]
 pub enum HashTable {
+    #[default]
     Without,
     SysV {
         at: usize,
@@ -35,12 +36,6 @@ pub struct View {
     pub table: HashTable,
 }
 
-#[derive(Clone, Copy)]
-pub enum Found {
-    Hit(usize),
-    Miss,
-}
-
 // An exported symbol: `protected` where it is protected.
 #[derive(Clone, Copy)]
 pub struct Definition {
@@ -51,26 +46,14 @@ pub struct Definition {
     pub absolute: bool,
 }
 
-#[derive(Clone, Copy)]
-pub enum Exported {
-    Absent,
-    Present(Definition),
-}
-
-#[derive(Clone, Copy)]
-pub enum SymbolCount {
-    Unknown,
-    Known(usize),
-}
-
 // The System V table at `at`: bucket count, chain count, buckets, chain.
 pub fn sysv_table(image: &[u8], at: usize) -> HashTable
     ensures { result ≡ sysv_at image.now at }
 {
     HashTable::SysV {
         at: at,
-        buckets: words::bytes::u32_off(image, at, 0),
-        nchain: words::bytes::u32_off(image, at, 4),
+        buckets: words::bytes::word_off::<u32>(image, at, 0),
+        nchain: words::bytes::word_off::<u32>(image, at, 4),
     }
 }
 
@@ -80,10 +63,10 @@ pub fn gnu_table(image: &[u8], at: usize) -> HashTable
 {
     HashTable::Gnu {
         at: at,
-        buckets: words::bytes::u32_off(image, at, 0),
-        symoffset: words::bytes::u32_off(image, at, 4),
-        bloomwords: words::bytes::u32_off(image, at, 8),
-        shift: words::bytes::u32_off(image, at, 12),
+        buckets: words::bytes::word_off::<u32>(image, at, 0),
+        symoffset: words::bytes::word_off::<u32>(image, at, 4),
+        bloomwords: words::bytes::word_off::<u32>(image, at, 8),
+        shift: words::bytes::word_off::<u32>(image, at, 12),
     }
 }
 
@@ -92,7 +75,7 @@ fn named(image: &[u8], symbols: usize, strings: usize, s: usize, name: &[u8]) ->
     requires { s < 2 ^ 40 }
     ensures { result ≡ same_bytes (symbol_name image.now symbols strings s) name.now }
 {
-    let at = words::bytes::u32_off(image, symbols, 24 * s);
+    let at = words::bytes::word_off::<u32>(image, symbols, 24 * s);
     words::names::same_at(image, strings, at as usize, name)
 }
 
@@ -154,7 +137,7 @@ pub(crate) fn chain_off(t: HashTable, s: usize) -> usize
         } => 16
             + 8 * (bloomwords as usize)
             + 4 * (buckets as usize)
-            + 4 * words::bytes::monus(s, symoffset as usize),
+            + 4 * s.saturating_sub(symoffset as usize),
     }
 }
 
@@ -163,7 +146,7 @@ pub(crate) fn bucket_word(image: &[u8], t: HashTable, i: usize) -> u32
     requires { i < 2 ^ 40 }
     ensures { result ≡ le_at 4 (mem image.now) (bucket_at t i) }
 {
-    words::bytes::u32_off(image, start_of(t), bucket_off(t, i))
+    words::bytes::word_off::<u32>(image, start_of(t), bucket_off(t, i))
 }
 
 // ---- the walk from a bucket's word: the chain word of a symbol, whether it is the last, and which comes after it
@@ -173,7 +156,7 @@ pub(crate) fn chain_word(image: &[u8], t: HashTable, s: usize) -> u32
     requires { s < 2 ^ 40 }
     ensures { result ≡ le_at 4 (mem image.now) (chain_at t s) }
 {
-    words::bytes::u32_off(image, start_of(t), chain_off(t, s))
+    words::bytes::word_off::<u32>(image, start_of(t), chain_off(t, s))
 }
 
 // Whether the walk ends after a symbol with the chain word `w`.
@@ -206,7 +189,7 @@ pub(crate) fn fuel_of(image: &[u8], t: HashTable) -> usize
     match t {
         HashTable::Without => 0,
         HashTable::SysV { nchain, .. } => (nchain as usize) + 1,
-        HashTable::Gnu { .. } => words::bytes::smaller(image.len(), 0x1000_0000),
+        HashTable::Gnu { .. } => image.len().min(0x1000_0000),
     }
 }
 
@@ -227,18 +210,12 @@ fn bloom_has(image: &[u8], at: usize, bloomwords: u32, shift: u32, gnu: u32) -> 
     ensures { result ≡ has_bits (le_at 8 (mem image.now) (bloom_at at bloomwords gnu)) shift gnu }
 {
     let i = slot(gnu / 64, bloomwords);
-    let word = words::bytes::u64_off(image, at, 16 + 8 * i);
-    if (word >> (gnu % 64)) % 2 != 1 {
-        return false;
-    }
-    let second = shr(gnu, shift);
-    if (word >> (second % 64)) % 2 != 1 {
-        return false;
-    }
-    true
+    let word = words::bytes::word_off::<u64>(image, at, 16 + 8 * i);
+    (word >> (gnu % 64)) % 2 == 1 && (word >> (shr(gnu, shift) % 64)) % 2 == 1
 }
 
 // Whether a name with the GNU hash may be in the table.
+#[tactic(auto, unfolding(crate::specs::HashTable::may_hold))]
 fn may_hold(image: &[u8], t: HashTable, gnu: u32) -> bool
     ensures { result ≡ may_hold image.now t gnu }
 {
@@ -251,15 +228,7 @@ fn may_hold(image: &[u8], t: HashTable, gnu: u32) -> bool
             bloomwords,
             shift,
             ..
-        } => {
-            if buckets == 0 {
-                return false;
-            }
-            if bloomwords == 0 {
-                return false;
-            }
-            bloom_has(image, at, bloomwords, shift, gnu)
-        }
+        } => buckets != 0 && bloomwords != 0 && bloom_has(image, at, bloomwords, shift, gnu),
     }
 }
 
@@ -287,59 +256,51 @@ fn same_hash(t: HashTable, w: u32, gnu: u32) -> bool
 }
 
 // Whether the search takes symbol `s`, whose chain word is `w`: a hit that is exported. Names are compared first.
+#[tactic(auto, unfolding(crate::specs::HashTable::is_exported_hit, crate::specs::HashTable::is_hit))]
 fn accepts(image: &[u8], v: View, name: &[u8], gnu: u32, s: usize, w: u32) -> bool
     requires { (s < 2 ^ 40) × (w ≡ le_at 4 (mem image.now) (chain_at v.table s)) }
     ensures { result ≡ is_exported_hit image.now v.symbols v.strings v.table name.now gnu s }
 {
-    let t = v.table;
-    if !same_hash(t, w, gnu) {
-        return false;
-    }
-    if !named(image, v.symbols, v.strings, s, name) {
-        return false;
-    }
-    crate::symbol::exported_off(image, v.symbols, 24 * s)
+    same_hash(v.table, w, gnu)
+        && named(image, v.symbols, v.strings, s, name)
+        && crate::symbol::exported_off(image, v.symbols, 24 * s)
 }
 
 // The first exported symbol with the name in the chain of the name's bucket; the name's hashes are given.
-pub fn lookup(image: &[u8], v: View, name: &[u8], gnu: u32, elf: u32) -> Found
+pub fn lookup(image: &[u8], v: View, name: &[u8], gnu: u32, elf: u32) -> Option<usize>
     ensures { (result ≡ lookup_by image.now v name.now gnu elf) × small result }
 {
     let t = v.table;
     if !may_hold(image, t, gnu) {
-        return Found::Miss;
+        return None;
     }
     let b = bucket_word(image, t, bucket_of(t, gnu, elf));
     if b == 0 {
-        return Found::Miss;
+        return None;
     }
     let mut s = b as usize;
-    let mut left = fuel_of(image, t);
-    while 0 < left {
+    for _ in 0..fuel_of(image, t) {
         let w = chain_word(image, t, s);
         if accepts(image, v, name, gnu, s, w) {
-            return Found::Hit(s);
+            return Some(s);
         }
         if is_last(t, w) {
-            return Found::Miss;
+            return None;
         }
         s = next_symbol(t, s, w);
-        left -= 1;
     }
-    Found::Miss
+    None
 }
 
 // The object's answer for a name, whose hashes are given: its first exported hit.
-pub fn ask(image: &[u8], v: View, name: &[u8], gnu: u32, elf: u32) -> Exported
+#[tactic(auto, unfolding(crate::specs::HashTable::answer_of, crate::specs::HashTable::definition))]
+pub fn ask(image: &[u8], v: View, name: &[u8], gnu: u32, elf: u32) -> Option<Definition>
     ensures { result ≡ answer_by image.now v name.now gnu elf }
 {
     let symbols = v.symbols;
-    let f = lookup(image, v, name, gnu, elf);
-    let Found::Hit(s) = f else {
-        return Exported::Absent;
-    };
+    let s = lookup(image, v, name, gnu, elf)?;
     let y = crate::symbol::symbol_off(image, symbols, 24 * s);
-    Exported::Present(Definition {
+    Some(Definition {
         index: s,
         value: y.value,
         size: y.size,
@@ -355,7 +316,7 @@ pub fn address_of(base: u64, d: Definition) -> u64
     if d.absolute {
         return d.value;
     }
-    words::bytes::sum_u64(base, d.value)
+    base.wrapping_add(d.value)
 }
 
 // The largest word of the buckets.
@@ -363,12 +324,10 @@ pub(crate) fn highest_bucket(image: &[u8], t: HashTable) -> usize
     ensures { (result ≡ highest image.now t (bucket_count t)) × (result < 2 ^ 32) }
 {
     // a bucket past the image's end has the word 0
-    let n = words::bytes::smaller(bucket_count(t) as usize, image.len() / 4 + 1);
-    let mut best = 0;
-    let mut i = 0;
-    while i < n {
-        best = words::bytes::larger(best, bucket_word(image, t, i) as usize);
-        i += 1;
+    let n = (bucket_count(t) as usize).min(image.len() / 4 + 1);
+    let mut best: usize = 0;
+    for i in 0..n {
+        best = best.max(bucket_word(image, t, i) as usize);
     }
     best
 }
@@ -380,44 +339,42 @@ fn walk_last(image: &[u8], t: HashTable, word: usize) -> usize
 {
     let mut last = word;
     let mut s = word;
-    let mut left = fuel_of(image, t);
-    while 0 < left {
+    for _ in 0..fuel_of(image, t) {
         last = s;
         let w = chain_word(image, t, s);
         if is_last(t, w) {
             return last;
         }
         s = next_symbol(t, s, w);
-        left -= 1;
     }
     last
 }
 
 // What the hash table says.
-fn table_count(image: &[u8], t: HashTable) -> SymbolCount
+fn table_count(image: &[u8], t: HashTable) -> Option<usize>
     ensures { result ≡ table_count image.now t }
 {
     match t {
-        HashTable::Without => SymbolCount::Unknown,
-        HashTable::SysV { nchain, .. } => SymbolCount::Known(nchain as usize),
+        HashTable::Without => None,
+        HashTable::SysV { nchain, .. } => Some(nchain as usize),
         HashTable::Gnu { .. } => {
             let h = highest_bucket(image, t);
             if h == 0 {
-                return SymbolCount::Unknown;
+                return None;
             }
-            SymbolCount::Known(walk_last(image, t, h) + 1)
+            Some(walk_last(image, t, h) + 1)
         }
     }
 }
 
 // How many symbols the object has, if that is known.
-pub fn symbol_count(image: &[u8], v: View) -> SymbolCount
+pub fn symbol_count(image: &[u8], v: View) -> Option<usize>
     ensures { result ≡ count_of image.now v }
 {
     let symbols = v.symbols;
     let strings = v.strings;
     if symbols < strings {
-        return SymbolCount::Known((strings - symbols) / 24);
+        return Some((strings - symbols) / 24);
     }
     let t = v.table;
     table_count(image, t)

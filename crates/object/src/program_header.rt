@@ -1,13 +1,13 @@
 // Program headers: port of program_header.rs. The flags are the gABI's: PF_X 1, PF_W 2, PF_R 4.
-ghost use Rattle.std.specs.Prelude.{◌≡◌, ◌+◌, ◌*◌, ◌≤◌, ◌<◌, min, length, take};
+ghost use Rattle.std.specs.Prelude.{◌≡◌, ◌≤◌, ◌<◌, length, MatchOption};
 ghost use Rattle.object.specs.Header.{table_start};
 ghost use Rattle.object.specs.ProgramHeader.{type_at, segment_at, loads_of, dynamic_of};
-ghost use Rattle.object.specs.Steps.LoadTable.{SegmentsIn};
 
 use crate::header::{header_count, table_start};
+use arrayvec::ArrayVec;
 
 // A PT_LOAD header.
-#[derive(Clone, Copy)]
+#[derive(Clone, Copy, Default)]
 pub struct Segment {
     pub offset: usize,
     pub vaddr: usize,
@@ -17,26 +17,15 @@ pub struct Segment {
     pub align: usize,
 }
 
-// Where the dynamic array stands: p_vaddr of PT_DYNAMIC.
-#[derive(Clone, Copy)]
-pub enum Dynamic {
-    Missing,
-    At(usize),
-}
-
-// The PT_LOAD headers of a file: the first `count` of `list`. A count of 17 says that there are more than 16.
-#[derive(Clone, Copy)]
-pub struct Loads {
-    pub list: [Segment; 16],
-    pub count: usize,
-}
+// The PT_LOAD headers that a record keeps.
+pub type Loads = ArrayVec<Segment, 16>;
 
 // p_type of header `i`.
 fn type_at(file: &[u8], start: usize, i: usize) -> u32
     requires { (start ≡ table_start file.now) × (i < 65536) }
     ensures { result ≡ type_at file.now i }
 {
-    words::bytes::u32_off(file, start, 56 * i)
+    words::bytes::word_off::<u32>(file, start, 56 * i)
 }
 
 // The other fields of header `i`.
@@ -46,70 +35,42 @@ fn segment_at(file: &[u8], start: usize, i: usize) -> Segment
 {
     let k = 56 * i;
     Segment {
-        offset: words::bytes::u64_off(file, start, k + 8) as usize,
-        vaddr: words::bytes::u64_off(file, start, k + 16) as usize,
-        filesz: words::bytes::u64_off(file, start, k + 32) as usize,
-        memsz: words::bytes::u64_off(file, start, k + 40) as usize,
-        flags: words::bytes::u32_off(file, start, k + 4),
-        align: words::bytes::u64_off(file, start, k + 48) as usize,
+        offset: words::bytes::word_off::<u64>(file, start, k + 8) as usize,
+        vaddr: words::bytes::word_off::<u64>(file, start, k + 16) as usize,
+        filesz: words::bytes::word_off::<u64>(file, start, k + 32) as usize,
+        memsz: words::bytes::word_off::<u64>(file, start, k + 40) as usize,
+        flags: words::bytes::word_off::<u32>(file, start, k + 4),
+        align: words::bytes::word_off::<u64>(file, start, k + 48) as usize,
     }
 }
 
-// Sixteen headers of zeros.
-pub(crate) fn no_loads() -> Loads
-    ensures { (result.count ≡ 0) × (length result.list ≡ 16) }
-{
-    let none = Segment {
-        offset: 0,
-        vaddr: 0,
-        filesz: 0,
-        memsz: 0,
-        flags: 0,
-        align: 0,
-    };
-    Loads {
-        list: [none; 16],
-        count: 0,
-    }
-}
-
-// The PT_LOAD headers, in their order.
-pub fn read_loads(file: &[u8]) -> Loads
-    ensures { SegmentsIn (loads_of file.now) result }
+// The PT_LOAD headers, in their order; none where there are more than 16.
+pub fn read_loads(file: &[u8]) -> Option<Loads>
+    ensures { MatchOption result (16 < length (loads_of file.now)) (λ l. (length (loads_of file.now) ≤ 16) × (l.items ≡ loads_of file.now)) }
 {
     let start = table_start(file);
-    let n = header_count(file);
-    let mut found = no_loads();
-    let mut i = 0;
-    while i < n {
+    let mut found = ArrayVec::new();
+    for i in 0..header_count(file) {
         if type_at(file, start, i) == 1 {
-            let at = found.count;
-            if 16 <= at {
-                found.count = 17;
-                return found;
+            if found.is_full() {
+                return None;
             }
-            found.list[at] = segment_at(file, start, i);
-            found.count = at + 1;
-            i += 1;
-        } else {
-            i += 1;
+            found.push(segment_at(file, start, i));
         }
     }
-    found
+    Some(found)
 }
 
-// The last PT_DYNAMIC.
-pub fn dynamic_at(file: &[u8]) -> Dynamic
+// Where the dynamic array stands: p_vaddr of the last PT_DYNAMIC, where there is one.
+#[tactic(auto, unfolding(crate::specs::ProgramHeader::dynamic_in))]
+pub fn dynamic_at(file: &[u8]) -> Option<usize>
     ensures { result ≡ dynamic_of file.now }
 {
     let start = table_start(file);
-    let mut i = header_count(file);
-    while 0 < i {
-        i -= 1;
+    for i in (0..header_count(file)).rev() {
         if type_at(file, start, i) == 2 {
-            let s = segment_at(file, start, i);
-            return Dynamic::At(s.vaddr);
+            return Some(segment_at(file, start, i).vaddr);
         }
     }
-    Dynamic::Missing
+    None
 }

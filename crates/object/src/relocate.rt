@@ -50,14 +50,15 @@ pub fn rela_at(image: &[u8], table: usize, i: u32) -> Rela
 {
     let k = 24 * (i as usize);
     Rela {
-        place: words::bytes::u64_off(image, table, k) as usize,
-        rtype: words::bytes::u32_off(image, table, k + 8),
-        symbol: words::bytes::u32_off(image, table, k + 12),
-        addend: words::bytes::u64_off(image, table, k + 16),
+        place: words::bytes::word_off::<u64>(image, table, k) as usize,
+        rtype: words::bytes::word_off::<u32>(image, table, k + 8),
+        symbol: words::bytes::word_off::<u32>(image, table, k + 12),
+        addend: words::bytes::word_off::<u64>(image, table, k + 16),
     }
 }
 
 // What a type that is applied asks for.
+#[tactic(auto, unfolding(crate::specs::RelocationTypes::applied_row))]
 pub fn applied_of(rtype: u32) -> Action
     ensures { row_by result ≡ applied_row rtype }
 {
@@ -65,8 +66,7 @@ pub fn applied_of(rtype: u32) -> Action
         1 => Action::Symbolic(Field::Direct64),
         2 => Action::Symbolic(Field::Pc32),
         5 => Action::Copy,
-        6 => Action::Symbolic(Field::Address),
-        7 => Action::Symbolic(Field::Address),
+        6 | 7 => Action::Symbolic(Field::Address),
         8 => Action::Relative,
         10 => Action::Symbolic(Field::Direct32),
         11 => Action::Symbolic(Field::Direct32S),
@@ -76,21 +76,11 @@ pub fn applied_of(rtype: u32) -> Action
 }
 
 // Whether a type may be applied.
+#[tactic(auto, unfolding(crate::specs::RelocationTypes::may_apply, words::specs::Choice::some))]
 pub fn may_apply(rtype: u32) -> bool
     ensures { result ≡ may_apply rtype }
 {
-    match rtype {
-        1 => true,
-        2 => true,
-        5 => true,
-        6 => true,
-        7 => true,
-        8 => true,
-        10 => true,
-        11 => true,
-        24 => true,
-        _ => false,
-    }
+    matches!(rtype, 1 | 2 | 5..=8 | 10 | 11 | 24)
 }
 
 // What a type that is passed asks for.
@@ -142,26 +132,13 @@ pub fn supplied_word(rtype: u32) -> u64
     0xa000_0000 + rtype as u64
 }
 
-fn not_zero(index: u32) -> bool
-    ensures { result ≡ not_symbol0 index }
-{
-    if index == 0 {
-        return false;
-    }
-    true
-}
-
 // Whether a field searches for the name of the symbol with that index.
 pub fn searches(f: Field, index: u32) -> bool
     ensures { result ≡ searched_by f index }
 {
     match f {
         Field::Address => true,
-        Field::Direct64 => not_zero(index),
-        Field::Pc64 => not_zero(index),
-        Field::Pc32 => not_zero(index),
-        Field::Direct32 => not_zero(index),
-        Field::Direct32S => not_zero(index),
+        _ => index != 0,
     }
 }
 
@@ -170,12 +147,8 @@ pub fn width_of(f: Field) -> usize
     ensures { result ≡ (field_by f).width }
 {
     match f {
-        Field::Address => 8,
-        Field::Direct64 => 8,
-        Field::Pc64 => 8,
-        Field::Pc32 => 4,
-        Field::Direct32 => 4,
-        Field::Direct32S => 4,
+        Field::Address | Field::Direct64 | Field::Pc64 => 8,
+        Field::Pc32 | Field::Direct32 | Field::Direct32S => 4,
     }
 }
 
@@ -183,15 +156,12 @@ pub fn width_of(f: Field) -> usize
 pub fn value_of(f: Field, s: u64, addend: u64, base: u64, place: u64) -> u64
     ensures { result ≡ (field_by f).value s addend base (base + place) }
 {
-    let sum = words::bytes::sum_u64(s, addend);
-    let less = words::bytes::diff_u64(sum, words::bytes::sum_u64(base, place));
+    let sum = s.wrapping_add(addend);
+    let less = sum.wrapping_sub(base.wrapping_add(place));
     match f {
         Field::Address => s,
-        Field::Direct64 => sum,
-        Field::Pc64 => less,
-        Field::Pc32 => less,
-        Field::Direct32 => sum,
-        Field::Direct32S => sum,
+        Field::Direct64 | Field::Direct32 | Field::Direct32S => sum,
+        Field::Pc64 | Field::Pc32 => less,
     }
 }
 
@@ -199,22 +169,13 @@ pub fn value_of(f: Field, s: u64, addend: u64, base: u64, place: u64) -> u64
 fn fits_signed(v: u64) -> bool
     ensures { result ≡ fits_signed32 v }
 {
-    if v < 0x8000_0000 {
-        return true;
-    }
-    if 0xffff_ffff_8000_0000 <= v {
-        return true;
-    }
-    false
+    v < 0x8000_0000 || 0xffff_ffff_8000_0000 <= v
 }
 
 fn fits_unsigned(v: u64) -> bool
     ensures { result ≡ fits_unsigned32 v }
 {
-    if v < 0x1_0000_0000 {
-        return true;
-    }
-    false
+    v < 0x1_0000_0000
 }
 
 // Whether a field holds that number.
@@ -222,12 +183,9 @@ pub fn fits(f: Field, v: u64) -> bool
     ensures { result ≡ (field_by f).fits v }
 {
     match f {
-        Field::Address => true,
-        Field::Direct64 => true,
-        Field::Pc64 => true,
-        Field::Pc32 => fits_signed(v),
+        Field::Address | Field::Direct64 | Field::Pc64 => true,
+        Field::Pc32 | Field::Direct32S => fits_signed(v),
         Field::Direct32 => fits_unsigned(v),
-        Field::Direct32S => fits_signed(v),
     }
 }
 
@@ -235,7 +193,7 @@ pub fn fits(f: Field, v: u64) -> bool
 pub fn relr_at(image: &[u8], table: usize, i: u32) -> u64
     ensures { result ≡ relr_at image.now table i }
 {
-    words::bytes::u64_off(image, table, 8 * (i as usize))
+    words::bytes::word_off::<u64>(image, table, 8 * (i as usize))
 }
 
 // An even entry is an address, an odd one a bitmap.

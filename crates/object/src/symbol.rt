@@ -2,6 +2,8 @@
 ghost use Rattle.std.specs.Prelude.{◌≡◌, ◌+◌, ◌*◌, ◌≤◌, length};
 ghost use Rattle.object.specs.Symbol.{symbol_from, symbol_at, symbol_name, binding_of, is_defined, is_public, is_visible, is_exported};
 
+use words::word::Word;
+
 #[derive(Clone, Copy)]
 pub struct Symbol {
     pub name: u32,
@@ -12,18 +14,18 @@ pub struct Symbol {
     pub size: u64,
 }
 
-// The symbol whose bytes stand at `p`, all of them in the image.
+// The symbol whose bytes stand at `p`, all of them in the image. Beside `symbol_over`, which tests each byte: every hit of a search reads one.
 fn symbol_in(image: &[u8], p: usize) -> Symbol
     requires { p + 24 ≤ length image.now }
     ensures { result ≡ symbol_from image.now p }
 {
     Symbol {
-        name: words::bytes::u32_in(image, p + 0),
+        name: u32::load(image, p + 0),
         info: image[p + 4],
         other: image[p + 5],
-        section: words::bytes::u16_in(image, p + 6),
-        value: words::bytes::u64_in(image, p + 8),
-        size: words::bytes::u64_in(image, p + 16),
+        section: u16::load(image, p + 6),
+        value: u64::load(image, p + 8),
+        size: u64::load(image, p + 16),
     }
 }
 
@@ -32,12 +34,12 @@ fn symbol_over(image: &[u8], p: usize) -> Symbol
     ensures { result ≡ symbol_from image.now p }
 {
     Symbol {
-        name: words::bytes::u32_off(image, p, 0),
+        name: words::bytes::word_off::<u32>(image, p, 0),
         info: words::bytes::byte_at(image, p, 4),
         other: words::bytes::byte_at(image, p, 5),
-        section: words::bytes::u16_off(image, p, 6),
-        value: words::bytes::u64_off(image, p, 8),
-        size: words::bytes::u64_off(image, p, 16),
+        section: words::bytes::word_off::<u16>(image, p, 6),
+        value: words::bytes::word_off::<u64>(image, p, 8),
+        size: words::bytes::word_off::<u64>(image, p, 16),
     }
 }
 
@@ -64,7 +66,7 @@ pub fn symbol_at(image: &[u8], symbols: usize, s: u32) -> Symbol
 pub fn symbol_name<'a>(image: &'a [u8], symbols: usize, strings: usize, s: u32) -> &'a [u8]
     ensures { result.now ≡ symbol_name image.now symbols strings s }
 {
-    let at = words::bytes::u32_off(image, symbols, 24 * (s as usize));
+    let at = words::bytes::word_off::<u32>(image, symbols, 24 * (s as usize));
     words::names::name_off(image, strings, at as usize)
 }
 
@@ -78,45 +80,31 @@ pub fn binding(y: Symbol) -> u8
 pub fn is_defined(y: Symbol) -> bool
     ensures { result ≡ is_defined y }
 {
-    if y.section == 0 {
-        return false;
-    }
-    true
+    y.section != 0
 }
 
 // Global or weak; bindings of an operating system or processor are not.
 pub fn is_public(y: Symbol) -> bool
     ensures { result ≡ is_public y }
 {
-    if y.info / 16 == 1 {
-        return true;
-    }
-    y.info / 16 == 2
+    matches!(binding(y), 1 | 2)
 }
 
 // Default or protected.
 pub fn is_visible(y: Symbol) -> bool
     ensures { result ≡ is_visible y }
 {
-    if y.other % 4 == 0 {
-        return true;
-    }
-    y.other % 4 == 3
+    matches!(y.other % 4, 0 | 3)
 }
 
+#[tactic(auto, unfolding(crate::specs::Symbol::is_exported))]
 pub fn is_exported(y: Symbol) -> bool
     ensures { result ≡ is_exported y }
 {
-    if !is_defined(y) {
-        return false;
-    }
-    if !is_public(y) {
-        return false;
-    }
-    is_visible(y)
+    is_defined(y) && is_public(y) && is_visible(y)
 }
 
-// Whether the symbol whose bytes stand `k` places after `at` is exported: what a search asks of each hit by name.
+// Whether the symbol whose bytes stand `k` places after `at` is exported: what a search asks of each hit by name. Of a whole symbol it needs three fields.
 pub(crate) fn exported_off(image: &[u8], at: usize, k: usize) -> bool
     ensures { result ≡ is_exported (symbol_from image.now (at + k)) }
 {

@@ -1,11 +1,15 @@
 // Table bytes: which parts of an object's span no relocation of it may change.
-ghost use Rattle.std.specs.Prelude.{◌≡◌, not, ◌+◌, ◌<◌, length, take};
+ghost use Rattle.std.specs.Prelude.{◌≡◌, not, ◌+◌, ◌<◌, ◌≤◌, length};
+ghost use Rattle.std.specs.List.{list_all, list_any};
+ghost use Rattle.std.specs.Prelude.{IfSome, IfNone, slice_index, ℕ};
 ghost use Rattle.words.specs.Choice.{both, below};
 ghost use Rattle.words.specs.Memory.{mem};
 ghost use Rattle.object.specs.TableBytes.{is_writable, holds_range, is_table, table_bytes, table_name, in_writable};
 ghost use Rattle.object.specs.Steps.WritableRange.{WritableRange};
 ghost use Rattle.object.specs.Steps.FineRange.{TablesFine, ChainedFine};
 ghost use Rattle.object.specs.Steps.LastZero.{LastZero, LastZeros, Nearer, RunOf};
+
+use crate::program_header::Segment;
 
 // What needs no further test of refusals 14 and 15: the first `fits` symbols, and a name at one of the first `ends` places of the strings.
 #[derive(Clone, Copy)]
@@ -14,87 +18,76 @@ pub struct Fine {
     pub ends: usize,
 }
 
-// An object's span, and its load segments: the first `count` of them. The host has none.
+// An object's span, and its load segments, 16 at most: the host has none.
 #[derive(Clone, Copy)]
-pub struct Bounds {
+pub struct Bounds<'a> {
     pub span: usize,
-    pub segments: [crate::program_header::Segment; 16],
-    pub count: usize,
+    pub segments: &'a [Segment],
+    ghost few: { length segments.now ≤ 16 },
 }
 
-// Whether none of the `n` bytes from `at` is in the segment, or it is not writable.
-fn apart(s: crate::program_header::Segment, at: usize, n: usize) -> bool
-    ensures { result ≡ below (λ k. not (both (is_writable s) (holds_range s (at + k) 1))) n }
-{
-    if s.flags / 2 % 2 != 1 {
-        return true;
-    }
-    if s.memsz == 0 {
-        return true;
-    }
-    if n == 0 {
-        return true;
-    }
-    if s.vaddr <= at {
-        if at - s.vaddr < s.memsz {
-            return false;
+impl Segment {
+    // Whether none of the `n` bytes from `at` is in the segment, or it is not writable.
+    fn spares(&self, at: usize, n: usize) -> bool
+        ensures { result ≡ below (λ k. not (both (is_writable self.now) (holds_range self.now (at + k) 1))) n }
+    {
+        if !self.is_writable() || self.memsz == 0 || n == 0 {
+            return true;
         }
-        return true;
+        if self.vaddr <= at {
+            return self.memsz <= at - self.vaddr;
+        }
+        n <= self.vaddr - at
     }
-    if s.vaddr - at < n {
-        return false;
+
+    // Whether the `n` bytes from `at` lie in the segment, and it is writable.
+    fn holds(&self, at: usize, n: usize) -> bool
+        ensures { result ≡ both (is_writable self.now) (holds_range self.now at n) }
+    {
+        self.is_writable()
+            && self.vaddr <= at
+            && n <= self.memsz
+            && at - self.vaddr <= self.memsz - n
     }
-    true
+
+    // PF_W.
+    pub(crate) fn is_writable(&self) -> bool
+        ensures { result ≡ is_writable self.now }
+    {
+        self.flags / 2 % 2 == 1
+    }
+}
+
+// Whether every segment spares the `n` bytes from `at`.
+fn all_spare(segments: &[Segment], at: usize, n: usize) -> bool
+    ensures { result ≡ list_all (λ s. below (λ k. not (both (is_writable s) (holds_range s (at + k) 1))) n) segments.now }
+{
+    segments.iter().all(|s| s.spares(at, n))
 }
 
 // Whether the `n` bytes from `at` are table bytes.
 pub fn table_bytes(b: Bounds, at: usize, n: usize) -> bool
-    ensures { result ≡ table_bytes (is_table b.span (take b.count b.segments)) at n }
+    ensures { result ≡ table_bytes (is_table b.entry.span (b.entry.segments.now)) at n }
 {
     if n == 0 {
         return true;
     }
-    if b.span < n {
+    if b.span < n || b.span - n < at {
         return false;
     }
-    if b.span - n < at {
-        return false;
-    }
-    let count = b.count;
-    let mut i = 0;
-    while i < 16 {
-        if count <= i {
-            return true;
-        }
-        let s = b.segments[i];
-        if !apart(s, at, n) {
-            return false;
-        }
-        i += 1;
-    }
-    true
+    all_spare(b.segments, at, n)
 }
 
 // Whether the `n` bytes `k` places after `at` are table bytes.
 pub fn table_off(b: Bounds, at: usize, k: usize, n: usize) -> bool
-    ensures { result ≡ table_bytes (is_table b.span (take b.count b.segments)) (at + k) n }
+    ensures { result ≡ table_bytes (is_table b.entry.span (b.entry.segments.now)) (at + k) n }
 {
-    if n == 0 {
-        return true;
-    }
-    let span = b.span;
-    if span <= k {
-        return false;
-    }
-    if span - k <= at {
-        return false;
-    }
-    table_bytes(b, at + k, n)
+    table_bytes(b, at.saturating_add(k), n)
 }
 
 // Whether the name `k` places after `at` is in table bytes, with its zero byte.
 pub fn name_ok(image: &[u8], b: Bounds, at: usize, k: usize) -> bool
-    ensures { result ≡ table_name (is_table b.span (take b.count b.segments)) image.now (at + k) }
+    ensures { result ≡ table_name (is_table b.entry.span (b.entry.segments.now)) image.now (at + k) }
 {
     let name = words::names::name_off(image, at, k);
     let n = name.len();
@@ -111,30 +104,19 @@ fn last_zero(image: &[u8], end: usize) -> usize
     if image.len() < end {
         return end;
     }
-    let mut i = end;
-    while 0 < i {
-        let k = i - 1;
-        if image[k] == 0 {
-            return i;
-        }
-        i = k;
+    match last_place(&image[..end]) {
+        Some(k) => k + 1,
+        None => 0,
     }
-    0
 }
 
-// One past the last zero byte before each segment, and before the span's end.
-pub(crate) fn last_zeros(image: &[u8], b: Bounds, zeros: &mut [usize; 17])
-    requires { length zeros.old ≡ 17 }
-    ensures { LastZeros (mem image.now) b.span b.segments zeros.new }
+// Where the last zero byte is.
+fn last_place(bytes: &[u8]) -> Option<usize>
+    ensures none { IfNone result ((q : ℕ) → q < length bytes.now → slice_index bytes.now q ≡ 0 → ⊥) }
+    ensures some { IfSome result (λ k. (k < length bytes.now) × (slice_index bytes.now k ≡ 0)) }
+    ensures after { IfSome result (λ k. (q : ℕ) → k < q → q < length bytes.now → slice_index bytes.now q ≡ 0 → ⊥) }
 {
-    let span = b.span;
-    let mut i = 0;
-    while i < 16 {
-        let s = b.segments[i];
-        zeros[i] = last_zero(image, words::bytes::smaller(s.vaddr, span));
-        i += 1;
-    }
-    zeros[16] = last_zero(image, span);
+    bytes.iter().rposition(|b| *b == 0)
 }
 
 // Where a run of table bytes ends, and one past the last zero byte before that.
@@ -144,55 +126,48 @@ struct Run {
     low: usize,
 }
 
-// What a segment leaves of the run from `p` to `end`; `zero` is one past the last zero byte before the segment.
-fn nearer(s: crate::program_header::Segment, p: usize, end: usize, low: usize, zero: usize) -> Run
-    ensures { Nearer s p end low zero result.end result.low }
-{
-    if s.flags / 2 % 2 != 1 {
-        return Run { end: end, low: low };
-    }
-    if s.memsz == 0 {
-        return Run { end: end, low: low };
-    }
-    if s.vaddr <= p {
+impl Run {
+    // What a segment leaves of the run, which starts at `p`; `zero` is one past the last zero byte before the segment.
+    fn before(self, s: &Segment, p: usize, zero: usize) -> Run
+        ensures { Nearer s.now p self.end self.low zero result.end result.low }
+    {
+        if !s.is_writable() || s.memsz == 0 || self.end <= s.vaddr {
+            return self;
+        }
+        if p < s.vaddr {
+            return Run {
+                end: s.vaddr,
+                low: zero,
+            };
+        }
         if p - s.vaddr < s.memsz {
             return Run { end: p, low: 0 };
         }
-        return Run { end: end, low: low };
-    }
-    if end <= s.vaddr {
-        return Run { end: end, low: low };
-    }
-    Run {
-        end: s.vaddr,
-        low: zero,
+        self
     }
 }
 
 // The run of table bytes from `p`.
 fn run_from(image: &[u8], b: Bounds, p: usize) -> Run
     requires { p < b.span }
-    ensures { RunOf (is_table b.span (take b.count b.segments)) (mem image.now) b.span p result.end result.low }
+    ensures { RunOf (is_table b.entry.span b.entry.segments.now) (mem image.now) b.entry.span p result.end result.low }
 {
-    let span = b.span;
-    let n = words::bytes::smaller(b.count, 16);
-    let mut end = span;
-    let mut i = 0;
-    while i < n {
-        let s = b.segments[i];
-        let one = nearer(s, p, end, 0, 0);
-        end = one.end;
-        i += 1;
+    let mut run = Run {
+        end: b.span,
+        low: 0,
+    };
+    for s in b.segments {
+        run = run.before(s, p, 0);
     }
     Run {
-        end: end,
-        low: last_zero(image, end),
+        end: run.end,
+        low: last_zero(image, run.end),
     }
 }
 
 // How many symbols need no further test, and how many places of the strings where a name needs none.
 pub(crate) fn fine_of(image: &[u8], b: Bounds, symbols: usize, strings: usize) -> Fine
-    ensures { TablesFine (is_table b.span (take b.count b.segments)) image.now symbols strings b.span result.fits result.ends }
+    ensures { TablesFine (is_table b.entry.span (b.entry.segments.now)) image.now symbols strings b.entry.span result.fits result.ends }
 {
     if b.span <= symbols {
         return Fine { fits: 0, ends: 0 };
@@ -204,13 +179,13 @@ pub(crate) fn fine_of(image: &[u8], b: Bounds, symbols: usize, strings: usize) -
     let two = run_from(image, b, strings);
     Fine {
         fits: (one.end - symbols) / 24,
-        ends: words::bytes::monus(two.low, strings),
+        ends: two.low.saturating_sub(strings),
     }
 }
 
 // How many of the words that stand `chain` places after `at` need no further test.
 pub(crate) fn chained_of(image: &[u8], b: Bounds, at: usize, chain: usize) -> usize
-    ensures { ChainedFine (is_table b.span (take b.count b.segments)) at chain result }
+    ensures { ChainedFine (is_table b.entry.span (b.entry.segments.now)) at chain result }
 {
     let span = b.span;
     if span <= chain {
@@ -224,61 +199,49 @@ pub(crate) fn chained_of(image: &[u8], b: Bounds, at: usize, chain: usize) -> us
     (one.end - p) / 4
 }
 
-// Whether the `k` bytes from `p`, and the name at `q` with its zero byte, are in table bytes: no byte of the name is read.
-pub(crate) fn both_in(
-    image: &[u8],
-    b: Bounds,
-    zeros: &[usize; 17],
-    p: usize,
-    k: usize,
-    q: usize,
-) -> bool
-    requires { (p < b.span) × (q < b.span) × LastZeros (mem image.now) b.span b.segments zeros.now }
-    ensures { result ≡ both (table_bytes (is_table b.span (take b.count b.segments)) p k) (table_name (is_table b.span (take b.count b.segments)) image.now q) }
-{
-    let span = b.span;
-    let n = words::bytes::smaller(b.count, 16);
-    let mut last = span;
-    let mut least = zeros[16];
-    let mut end = span;
-    let mut low = zeros[16];
-    let mut i = 0;
-    while i < n {
-        let s = b.segments[i];
-        let one = nearer(s, p, last, least, zeros[i]);
-        last = one.end;
-        least = one.low;
-        let two = nearer(s, q, end, low, zeros[i]);
-        end = two.end;
-        low = two.low;
-        i += 1;
-    }
-    if last - p < k {
-        return false;
-    }
-    if q < low {
-        return true;
-    }
-    false
+// An image with its bounds, and one past the last zero byte before each segment and before the span's end: with these no name is read.
+#[derive(Clone, Copy)]
+pub(crate) struct Zeros<'a> {
+    pub(crate) image: &'a [u8],
+    pub(crate) bounds: Bounds<'a>,
+    before: [usize; 16],
+    end: usize,
+    ghost last: { LastZeros (mem image.now) bounds.span bounds.segments.now before end },
 }
 
-// Whether the `n` bytes from `at` lie in the segment, and it is writable.
-fn holds(s: crate::program_header::Segment, at: usize, n: usize) -> bool
-    ensures { result ≡ both (is_writable s) (holds_range s at n) }
-{
-    if s.flags / 2 % 2 != 1 {
-        return false;
+impl<'a> Zeros<'a> {
+    pub(crate) fn of(image: &'a [u8], bounds: Bounds<'a>) -> Zeros<'a>
+        ensures { (result.image.now ≡ image.now) × (result.bounds ≡ bounds.entry) }
+    {
+        let mut before = [0usize; 16];
+        for (i, s) in bounds.segments.iter().enumerate() {
+            before[i] = last_zero(image, s.vaddr.min(bounds.span));
+        }
+        Zeros {
+            image: image,
+            bounds: bounds,
+            before: before,
+            end: last_zero(image, bounds.span),
+        }
     }
-    if at < s.vaddr {
-        return false;
+
+    // Whether the `k` bytes from `p`, and the name at `q` with its zero byte, are in table bytes.
+    pub(crate) fn both_in(&self, p: usize, k: usize, q: usize) -> bool
+        requires { (p < self.now.bounds.span) × (q < self.now.bounds.span) }
+        ensures { result ≡ both (table_bytes (is_table self.now.bounds.span self.now.bounds.segments.now) p k) (table_name (is_table self.now.bounds.span self.now.bounds.segments.now) self.now.image.now q) }
+    {
+        let mut one = Run {
+            end: self.bounds.span,
+            low: self.end,
+        };
+        let mut two = one;
+        for (i, s) in self.bounds.segments.iter().enumerate() {
+            let zero = self.before[i];
+            one = one.before(s, p, zero);
+            two = two.before(s, q, zero);
+        }
+        k <= one.end - p && q < two.low
     }
-    if s.memsz < n {
-        return false;
-    }
-    if s.memsz - n < at - s.vaddr {
-        return false;
-    }
-    true
 }
 
 // Places that lie in one writable segment: from `low` to below `high`. None where `high` is 0.
@@ -290,38 +253,30 @@ pub struct Writable {
 
 // The writable segment that holds the `n` bytes from `at`, or none.
 pub fn writable_at(b: Bounds, at: usize, n: usize) -> Writable
-    ensures { WritableRange (take b.count b.segments) result.low result.high }
+    ensures { WritableRange (b.entry.segments.now) result.low result.high }
 {
-    let count = words::bytes::smaller(b.count, 16);
-    let mut i = 0;
-    while i < count {
-        let s = b.segments[i];
-        if holds(s, at, n) {
+    for s in b.segments {
+        if s.holds(at, n) {
             return Writable {
                 low: s.vaddr,
-                high: words::bytes::place(0xffff_ffff_ffff_ffff, s.vaddr, s.memsz),
+                high: s.vaddr.saturating_add(s.memsz),
             };
         }
-        i += 1;
     }
     Writable { low: 0, high: 0 }
 }
 
-// Whether the `n` bytes from `at` lie in one writable segment.
-pub fn in_writable(b: Bounds, at: usize, n: usize) -> bool
-    ensures { result ≡ in_writable (take b.count b.segments) at n }
+// Whether a writable segment holds the `n` bytes from `at`.
+fn some_holds(segments: &[Segment], at: usize, n: usize) -> bool
+    ensures { result ≡ list_any (λ s. both (is_writable s) (holds_range s at n)) segments.now }
 {
-    let count = b.count;
-    let mut i = 0;
-    while i < 16 {
-        if count <= i {
-            return false;
-        }
-        let s = b.segments[i];
-        if holds(s, at, n) {
-            return true;
-        }
-        i += 1;
-    }
-    false
+    segments.iter().any(|s| s.holds(at, n))
+}
+
+// Whether the `n` bytes from `at` lie in one writable segment.
+#[tactic(auto, using(crate::proofs::Ranges::writable_any))]
+pub fn in_writable(b: Bounds, at: usize, n: usize) -> bool
+    ensures { result ≡ in_writable (b.entry.segments.now) at n }
+{
+    some_holds(b.segments, at, n)
 }

@@ -9,453 +9,354 @@
 #![tactic(auto)]
 
 use object::dynamic_fields::ObjectData;
-use object::entry_symbol::CheckedSymbol;
-use object::hash_tables::{Definition, Exported, HashTable, SymbolCount};
+use object::hash_tables::{Definition, HashTable};
 use object::relocate::{Action, Field, Rela, Relr};
 use object::symbol::Symbol;
 use reading::read_full;
 use std::io;
-use testing::input::{part, patches, stain};
-use testing::show::{field, size, small, truth, word};
+use testing::input::{Input, head, patches, stain};
+use words::refusal::Refusal;
 
-fn show_sysv(out: &impl Print, at: usize, buckets: u32, nchain: u32) -> io::Result<()> {
-    word(out, b" sysv")?;
-    size(out, at)?;
-    small(out, buckets)?;
-    small(out, nchain)
+fn yes_or_no(b: bool) -> &'static str {
+    if b { "yes" } else { "no" }
 }
 
-fn show_gnu(
-    out: &impl Print,
-    at: usize,
-    buckets: u32,
-    symoffset: u32,
-    bloomwords: u32,
-    shift: u32,
-) -> io::Result<()> {
-    word(out, b" gnu")?;
-    size(out, at)?;
-    small(out, buckets)?;
-    small(out, symoffset)?;
-    small(out, bloomwords)?;
-    small(out, shift)
+fn show_count(out: &impl Print, k: Option<usize>) -> io::Result<()> {
+    match k {
+        None => print!(out; " unknown"),
+        Some(n) => print!(out; " {n}"),
+    }
 }
 
 fn show_table(out: &impl Print, t: HashTable) -> io::Result<()> {
     match t {
-        HashTable::Without => word(out, b" without"),
+        HashTable::Without => print!(out; " without"),
         HashTable::SysV {
             at,
             buckets,
             nchain,
-        } => show_sysv(out, at, buckets, nchain),
+        } => print!(out; " sysv {at} {buckets} {nchain}"),
         HashTable::Gnu {
             at,
             buckets,
             symoffset,
             bloomwords,
             shift,
-        } => show_gnu(out, at, buckets, symoffset, bloomwords, shift),
+        } => print!(out; " gnu {at} {buckets} {symoffset} {bloomwords} {shift}"),
     }
 }
 
-fn show_count(out: &impl Print, k: SymbolCount) -> io::Result<()> {
-    match k {
-        SymbolCount::Unknown => word(out, b" unknown"),
-        SymbolCount::Known(n) => size(out, n),
-    }
-}
-
-fn show_record(out: &impl Print, o: ObjectData) -> io::Result<()> {
-    let table = o.table;
-    let known = o.known;
-    size(out, o.span)?;
-    size(out, o.count)?;
-    size(out, o.needs)?;
-    size(out, o.strings)?;
-    size(out, o.symbols)?;
-    show_count(out, known)?;
-    show_table(out, table)?;
-    show_entries(out, o)
-}
-
-fn show_entries(out: &impl Print, o: ObjectData) -> io::Result<()> {
-    size(out, o.rela)?;
-    size(out, o.relas)?;
-    size(out, o.plt)?;
-    size(out, o.plts)?;
-    size(out, o.relr)?;
-    size(out, o.relrs)?;
-    size(out, o.align)
+fn show_record(out: &impl Print, o: &ObjectData) -> io::Result<()> {
+    print!(out;
+        " {} {} {} {} {}",
+        o.span,
+        o.segments.len(),
+        o.needed.len(),
+        o.strings,
+        o.symbols
+    )?;
+    show_count(out, o.known)?;
+    show_table(out, o.table)?;
+    print!(out;
+        " {} {} {} {} {} {} {}",
+        o.rela, o.relas, o.plt, o.plts, o.relr, o.relrs, o.align
+    )
 }
 
 // A definition, and its address in an object at 0x10000000.
 fn show_definition(out: &impl Print, d: Definition) -> io::Result<()> {
-    word(out, b" is")?;
-    size(out, d.index)?;
-    field(out, d.value)?;
-    field(out, d.size)?;
-    truth(out, d.protected)?;
-    truth(out, d.absolute)?;
-    field(out, object::hash_tables::address_of(0x1000_0000, d))
-}
-
-fn show_answer(out: &impl Print, a: Exported) -> io::Result<()> {
-    match a {
-        Exported::Absent => word(out, b" absent"),
-        Exported::Present(d) => show_definition(out, d),
-    }
-}
-
-fn ask_name(out: &impl Print, image: &[u8], o: ObjectData, name: &[u8]) -> io::Result<()> {
-    let gnu = words::hash::gnu_hash(name);
-    let elf = words::hash::elf_hash(name);
-    show_answer(
-        out,
-        object::hash_tables::ask(image, object::dynamic_fields::view_of(o), name, gnu, elf),
+    let protected = yes_or_no(d.protected);
+    let absolute = yes_or_no(d.absolute);
+    let address = object::hash_tables::address_of(0x1000_0000, d);
+    print!(out;
+        " is {} {} {} {protected} {absolute} {address}",
+        d.index, d.value, d.size
     )
 }
 
-fn show_symbol(out: &impl Print, y: Symbol) -> io::Result<()> {
-    word(out, b" symbol")?;
-    small(out, y.name)?;
-    field(out, y.info as u64)?;
-    field(out, y.other as u64)?;
-    field(out, y.section as u64)?;
-    field(out, y.value)?;
-    field(out, y.size)?;
-    truth(out, object::symbol::is_exported(y))
-}
-
-fn show_refusal(out: &impl Print, n: u32) -> io::Result<()> {
-    word(out, b" refused")?;
-    small(out, n)
-}
-
-fn show_checked(out: &impl Print, c: CheckedSymbol) -> io::Result<()> {
-    match c {
-        CheckedSymbol::Refused(n) => show_refusal(out, n),
-        CheckedSymbol::Checked(y) => show_symbol(out, y),
+fn show_answer(out: &impl Print, a: Option<Definition>) -> io::Result<()> {
+    match a {
+        None => print!(out; " absent"),
+        Some(d) => show_definition(out, d),
     }
 }
 
-fn show_field(out: &impl Print, f: Field) -> io::Result<()> {
-    match f {
-        Field::Address => word(out, b" symbolic"),
-        Field::Direct64 => word(out, b" direct64"),
-        Field::Pc64 => word(out, b" pc64"),
-        Field::Pc32 => word(out, b" pc32"),
-        Field::Direct32 => word(out, b" direct32"),
-        Field::Direct32S => word(out, b" direct32s"),
+fn show_name(out: &impl Print, image: &[u8], o: &ObjectData, name: &[u8]) -> io::Result<()> {
+    let gnu = words::hash::gnu_hash(name);
+    let elf = words::hash::elf_hash(name);
+    let view = object::dynamic_fields::view_of(o);
+    show_answer(out, object::hash_tables::ask(image, view, name, gnu, elf))
+}
+
+fn show_symbol(out: &impl Print, y: Symbol) -> io::Result<()> {
+    let exported = yes_or_no(object::symbol::is_exported(y));
+    print!(out;
+        " symbol {} {} {} {} {} {} {exported}",
+        y.name, y.info, y.other, y.section, y.value, y.size
+    )
+}
+
+fn show_checked(out: &impl Print, c: Result<Symbol, Refusal>) -> io::Result<()> {
+    match c {
+        Err(refusal) => print!(out; " refused {}", u32::from(refusal)),
+        Ok(y) => show_symbol(out, y),
     }
 }
 
 fn show_action(out: &impl Print, a: Action) -> io::Result<()> {
-    match a {
-        Action::Ignored => word(out, b" ignored"),
-        Action::Passed => word(out, b" passed"),
-        Action::Relative => word(out, b" relative"),
-        Action::Symbolic(f) => show_field(out, f),
-        Action::Copy => word(out, b" copy"),
-        Action::Irelative => word(out, b" irelative"),
-        Action::Refused => word(out, b" refused"),
-    }
+    let name = match a {
+        Action::Ignored => "ignored",
+        Action::Passed => "passed",
+        Action::Relative => "relative",
+        Action::Symbolic(Field::Address) => "symbolic",
+        Action::Symbolic(Field::Direct64) => "direct64",
+        Action::Symbolic(Field::Pc64) => "pc64",
+        Action::Symbolic(Field::Pc32) => "pc32",
+        Action::Symbolic(Field::Direct32) => "direct32",
+        Action::Symbolic(Field::Direct32S) => "direct32s",
+        Action::Copy => "copy",
+        Action::Irelative => "irelative",
+        Action::Refused => "refused",
+    };
+    print!(out; " {name}")
 }
 
 fn show_rela(out: &impl Print, e: Rela) -> io::Result<()> {
-    size(out, e.place)?;
-    small(out, e.rtype)?;
-    small(out, e.symbol)?;
-    field(out, e.addend)?;
+    print!(out; " {} {} {} {}", e.place, e.rtype, e.symbol, e.addend)?;
     let w = object::relocate::supplied_word(e.rtype);
     show_action(out, object::relocate::action_of(w, e.rtype))
 }
 
-fn show_address(out: &impl Print, at: usize) -> io::Result<()> {
-    word(out, b" address")?;
-    size(out, at)
-}
-
-fn show_bitmap(out: &impl Print, bits: u64) -> io::Result<()> {
-    word(out, b" bitmap")?;
-    field(out, bits)
-}
-
 fn show_relr(out: &impl Print, e: Relr) -> io::Result<()> {
     match e {
-        Relr::Address(at) => show_address(out, at),
-        Relr::Bitmap(bits) => show_bitmap(out, bits),
+        Relr::Address(at) => print!(out; " address {at}"),
+        Relr::Bitmap(bits) => print!(out; " bitmap {bits}"),
     }
 }
 
-// The length and the hash of a need's name.
-fn show_need(out: &impl Print, image: &[u8], o: ObjectData, i: usize) -> io::Result<()> {
+// The length and the hash of a need's name. Of the 64 needs and the 16 segments that there may be, one that is not there is all zeros.
+fn show_need(out: &impl Print, image: &[u8], o: &ObjectData, i: usize) -> io::Result<()> {
     if i < 64 {
-        let n = o.needed[i];
+        let n = o.needed.get(i).copied().unwrap_or(0);
         let name = words::names::name_off(image, o.strings, n);
-        size(out, name.len())?;
-        small(out, words::hash::gnu_hash(name))?;
+        print!(out; " {} {}", name.len(), words::hash::gnu_hash(name))?;
     }
     Ok(())
 }
 
-fn show_segment(out: &impl Print, o: ObjectData, i: usize) -> io::Result<()> {
+fn show_segment(out: &impl Print, o: &ObjectData, i: usize) -> io::Result<()> {
     if i < 16 {
-        let s = o.segments[i];
-        size(out, s.offset)?;
-        size(out, s.vaddr)?;
-        size(out, s.filesz)?;
-        size(out, s.memsz)?;
-        small(out, s.flags)?;
-        size(out, s.align)?;
+        let s = o.segments.get(i).copied().unwrap_or_default();
+        print!(out;
+            " {} {} {} {} {} {}",
+            s.offset, s.vaddr, s.filesz, s.memsz, s.flags, s.align
+        )?;
     }
     Ok(())
 }
 
-// Number `i` of: symbols, RELA, PLT and RELR entries, needs, segments; or whether the byte there is a table byte, and whether the eight
-// bytes there are inside one writable segment.
-fn show_numbered(
-    out: &impl Print,
-    image: &[u8],
-    o: ObjectData,
-    kind: u8,
-    i: u32,
-) -> io::Result<()> {
-    match kind {
-        2 => show_checked(out, object::entry_symbol::checked_symbol(image, o, i)),
-        3 => show_rela(out, object::relocate::rela_at(image, o.rela, i)),
-        4 => show_rela(out, object::relocate::rela_at(image, o.plt, i)),
-        5 => show_relr(
-            out,
-            object::relocate::relr_of(object::relocate::relr_at(image, o.relr, i)),
-        ),
-        6 => show_need(out, image, o, i as usize),
-        7 => show_segment(out, o, i as usize),
-        8 => truth(
-            out,
-            object::table_bytes::table_bytes(object::dynamic_fields::bounds_of(o), i as usize, 1),
-        ),
-        _ => truth(
-            out,
-            object::table_bytes::in_writable(object::dynamic_fields::bounds_of(o), i as usize, 8),
-        ),
-    }
-}
-
-// The ask at `at`; the answer is where the next one stands.
-fn ask(
-    out: &impl Print,
-    image: &[u8],
-    o: ObjectData,
-    input: &[u8],
-    at: usize,
-) -> io::Result<usize> {
-    let kind = words::bytes::byte_at(input, at, 0);
-    if kind == 1 {
-        let n = words::bytes::byte_at(input, at, 1) as usize;
-        ask_name(out, image, o, part(input, at, 2, n))?;
-        return Ok(words::bytes::place(input.len(), at, 2 + n));
-    }
-    show_numbered(out, image, o, kind, words::bytes::u32_off(input, at, 1))?;
-    Ok(words::bytes::place(input.len(), at, 5))
-}
-
-fn asks(
-    out: &impl Print,
-    image: &[u8],
-    o: ObjectData,
-    input: &[u8],
-    start: usize,
-    count: u8,
-) -> io::Result<()> {
-    let mut at = start;
-    let mut left = count;
-    while 0 < left {
-        at = ask(out, image, o, input, at)?;
-        left -= 1;
-    }
-    Ok(())
-}
-
-// Where base `k` stands.
-fn base_at(input: &[u8], k: u8) -> usize {
-    let mut at = 6;
-    let mut left = k;
-    while 0 < left {
-        let n = words::bytes::u32_off(input, at, 0) as usize;
-        let m = words::bytes::u16_off(input, at, 4) as usize;
-        at = words::bytes::place(input.len(), at, 7 + m + n);
-        left -= 1;
-    }
-    at
-}
-
-// The position after a case's asks.
-fn past_asks(input: &[u8], start: usize, count: u8) -> usize {
-    let mut at = start;
-    let mut left = count;
-    while 0 < left {
-        if words::bytes::byte_at(input, at, 0) == 1 {
-            let n = words::bytes::byte_at(input, at, 1) as usize;
-            at = words::bytes::place(input.len(), at, 2 + n);
-            left -= 1;
-        } else {
-            at = words::bytes::place(input.len(), at, 5);
-            left -= 1;
-        }
-    }
-    at
-}
-
-// The base's file, and zeros after it.
-fn fill(file: &mut [u8], input: &[u8], base: usize) {
-    let n = words::bytes::u32_off(input, base, 0) as usize;
-    let m = words::bytes::u16_off(input, base, 4) as usize;
-    words::bytes::copy(
-        file,
-        0,
-        input,
-        words::bytes::place(input.len(), base, 7 + m),
-        n,
-    );
-    words::bytes::zero(file, n, file.len());
-}
-
-// How many of the base's asks a case has.
-fn base_asks(input: &[u8], base: usize, flags: u8) -> u8 {
-    if flags / 2 % 2 == 1 {
-        return words::bytes::byte_at(input, base, 6);
-    }
-    0
-}
-
-fn show(
-    out: &impl Print,
-    room: &[u8],
-    o: ObjectData,
-    input: &[u8],
-    base: usize,
-    shared: u8,
-    own: usize,
-    count: u8,
-) -> io::Result<()> {
-    word(out, b"loaded")?;
-    show_record(out, o)?;
-    small(out, words::hash::gnu_hash(room))?;
-    let image = part(room, 0, 0, o.span);
-    asks(
-        out,
-        image,
-        o,
-        input,
-        words::bytes::place(input.len(), base, 7),
-        shared,
-    )?;
-    asks(out, image, o, input, own, count)?;
-    word(out, b"\n")
-}
-
-fn refused(out: &impl Print, n: u32) -> io::Result<()> {
-    word(out, b"refused")?;
-    small(out, n)?;
-    word(out, b"\n")
-}
-
-// Loads the file into the room, and prints the case's line.
-fn load(
-    out: &impl Print,
-    room: &mut [u8],
-    file: &[u8],
-    flags: u8,
-    input: &[u8],
-    base: usize,
-    own: usize,
-    count: u8,
-) -> io::Result<()> {
-    stain(room, input);
-    let host = flags % 2 == 1;
-    let c = object::object_data::check_headers(file, host);
-    if c.refusal != 0 {
-        return refused(out, c.refusal);
-    }
-    let r = object::object_data::load(room, file, host, c);
-    if r.refusal != 0 {
-        return refused(out, r.refusal);
-    }
-    let o = r.object;
-    show(
-        out,
-        room,
-        o,
-        input,
-        base,
-        base_asks(input, base, flags),
-        own,
-        count,
+// Whether the byte there is a table byte.
+fn show_table_byte(out: &impl Print, o: &ObjectData, i: usize) -> io::Result<()> {
+    let bounds = object::dynamic_fields::bounds_of(o);
+    print!(out;
+        " {}",
+        yes_or_no(object::table_bytes::table_bytes(bounds, i, 1))
     )
 }
 
-// The same in the arena's last `room` bytes.
-fn load_part(
-    out: &impl Print,
-    arena: &mut [u8],
-    room: usize,
-    file: &[u8],
-    flags: u8,
-    input: &[u8],
-    base: usize,
-    own: usize,
-    count: u8,
-) -> io::Result<()> {
-    if arena.len() < room {
-        return Ok(());
-    }
-    let off = arena.len() - room;
-    load(out, &mut arena[off..], file, flags, input, base, own, count)
+// Whether the eight bytes there are inside one writable segment.
+fn show_writable(out: &impl Print, o: &ObjectData, i: usize) -> io::Result<()> {
+    let bounds = object::dynamic_fields::bounds_of(o);
+    print!(out;
+        " {}",
+        yes_or_no(object::table_bytes::in_writable(bounds, i, 8))
+    )
 }
 
-// The case at `at`; the answer is where the next one stands.
-fn case(
+// What is asked of an object: a name, or a number of its symbols, its RELA, PLT or RELR entries, its needs, its segments or its bytes.
+#[derive(Clone, Copy)]
+enum Ask<'a> {
+    Name(&'a [u8]),
+    Symbol(u32),
+    Rela(u32),
+    Plt(u32),
+    Relr(u32),
+    Need(u32),
+    Segment(u32),
+    TableByte(u32),
+    Writable(u32),
+}
+
+fn next_ask<'a>(input: &mut Input<'a>) -> Ask<'a> {
+    let kind = input.u8();
+    if kind == 1 {
+        let n = input.u8() as usize;
+        return Ask::Name(input.take(n));
+    }
+    let i = input.word::<u32>();
+    match kind {
+        2 => Ask::Symbol(i),
+        3 => Ask::Rela(i),
+        4 => Ask::Plt(i),
+        5 => Ask::Relr(i),
+        6 => Ask::Need(i),
+        7 => Ask::Segment(i),
+        8 => Ask::TableByte(i),
+        _ => Ask::Writable(i),
+    }
+}
+
+fn show_ask(out: &impl Print, image: &[u8], o: &ObjectData, ask: Ask) -> io::Result<()> {
+    match ask {
+        Ask::Name(name) => show_name(out, image, o, name),
+        Ask::Symbol(i) => show_checked(out, object::entry_symbol::checked_symbol(image, o, i)),
+        Ask::Rela(i) => show_rela(out, object::relocate::rela_at(image, o.rela, i)),
+        Ask::Plt(i) => show_rela(out, object::relocate::rela_at(image, o.plt, i)),
+        Ask::Relr(i) => show_relr(
+            out,
+            object::relocate::relr_of(object::relocate::relr_at(image, o.relr, i)),
+        ),
+        Ask::Need(i) => show_need(out, image, o, i as usize),
+        Ask::Segment(i) => show_segment(out, o, i as usize),
+        Ask::TableByte(i) => show_table_byte(out, o, i as usize),
+        Ask::Writable(i) => show_writable(out, o, i as usize),
+    }
+}
+
+// So many asks, and the input where they begin.
+#[derive(Clone, Copy)]
+struct Asks<'a> {
+    count: u8,
+    input: Input<'a>,
+}
+
+impl<'a> Asks<'a> {
+    fn show(self, out: &impl Print, image: &[u8], o: &ObjectData) -> io::Result<()> {
+        let mut input = self.input;
+        for _ in 0..self.count {
+            let ask = next_ask(&mut input);
+            show_ask(out, image, o, ask)?;
+        }
+        Ok(())
+    }
+
+    // The input after them.
+    fn end(self) -> Input<'a> {
+        let mut input = self.input;
+        for _ in 0..self.count {
+            next_ask(&mut input);
+        }
+        input
+    }
+}
+
+// A file, and what is asked of each object that is loaded from it.
+#[derive(Clone, Copy)]
+struct Base<'a> {
+    asks: Asks<'a>,
+    file: &'a [u8],
+}
+
+fn next_base<'a>(input: &mut Input<'a>) -> Base<'a> {
+    let n = input.word::<u32>() as usize;
+    let m = input.word::<u16>() as usize;
+    let count = input.u8();
+    let asks = Asks {
+        count,
+        input: *input,
+    };
+    input.take(m);
+    let file = input.take(n);
+    Base { asks, file }
+}
+
+fn base_at<'a>(input: &'a [u8], k: u8) -> Base<'a> {
+    let mut bases = Input { rest: input };
+    bases.take(6);
+    for _ in 0..k {
+        next_base(&mut bases);
+    }
+    next_base(&mut bases)
+}
+
+fn refused(out: &impl Print, n: u32) -> io::Result<()> {
+    println!(out; "refused {n}")
+}
+
+// A case: who loads the file, and what is asked of the object.
+#[derive(Clone, Copy)]
+struct Case<'a> {
+    host: bool,
+    shared: Asks<'a>,
+    own: Asks<'a>,
+}
+
+impl<'a> Case<'a> {
+    fn show(self, out: &impl Print, room: &[u8], o: &ObjectData) -> io::Result<()> {
+        print!(out; "loaded")?;
+        show_record(out, o)?;
+        print!(out; " {}", words::hash::gnu_hash(room))?;
+        let image = head(room, o.span);
+        self.shared.show(out, image, o)?;
+        self.own.show(out, image, o)?;
+        println!(out)
+    }
+
+    // Loads the file into the room, and prints the case's line.
+    fn load(self, out: &impl Print, room: &mut [u8], file: &[u8]) -> io::Result<()> {
+        let read = object::object_data::check_headers(file, self.host).and_then(
+            |checked| object::object_data::load(room, file, self.host, checked),
+        );
+        match read {
+            Ok(o) => self.show(out, room, &o),
+            Err(refusal) => refused(out, refusal.into()),
+        }
+    }
+}
+
+// The next case, in the arena's last `room` bytes.
+fn next_case(
     out: &impl Print,
     arena: &mut [u8],
     file: &mut [u8],
     input: &[u8],
-    at: usize,
-) -> io::Result<usize> {
-    let base = base_at(input, words::bytes::byte_at(input, at, 0));
-    let flags = words::bytes::byte_at(input, at, 1);
-    let room = words::bytes::u32_off(input, at, 2) as usize;
-    let n = words::bytes::u32_off(input, at, 6) as usize;
-    let start = words::bytes::place(input.len(), at, 12);
-    fill(file, input, base);
-    let own = patches(
-        file,
-        input,
-        start,
-        words::bytes::byte_at(input, at, 10) as u16,
-        false,
-    );
-    let count = words::bytes::byte_at(input, at, 11);
-    load_part(
-        out,
-        arena,
-        room,
-        part(file, 0, 0, n),
-        flags,
-        input,
-        base,
-        own,
+    cases: &mut Input,
+) -> io::Result<()> {
+    let base = base_at(input, cases.u8());
+    let flags = cases.u8();
+    let room = cases.word::<u32>() as usize;
+    let length = cases.word::<u32>() as usize;
+    let changes = cases.u8();
+    let count = cases.u8();
+    words::bytes::copy(file, 0, base.file, 0, file.len());
+    patches(file, cases, u16::from(changes), false);
+    let mut shared = base.asks;
+    if flags / 2 % 2 == 0 {
+        shared.count = 0;
+    }
+    let own = Asks {
         count,
-    )?;
-    Ok(past_asks(input, own, count))
+        input: *cases,
+    };
+    *cases = own.end();
+    if arena.len() < room {
+        return Ok(());
+    }
+    let from = arena.len() - room;
+    let room = &mut arena[from..];
+    stain(room, input);
+    let host = flags % 2 == 1;
+    Case { host, shared, own }.load(out, room, head(file, length))
 }
 
 fn run(out: &impl Print, arena: &mut [u8], file: &mut [u8], input: &[u8]) -> io::Result<()> {
-    let mut at = words::bytes::u32_off(input, 0, 0) as usize;
-    let mut left = words::bytes::u16_off(input, 4, 0);
-    while 0 < left {
-        at = case(out, arena, file, input, at)?;
-        left -= 1;
+    let mut start = Input { rest: input };
+    let at = start.word::<u32>() as usize;
+    let count = start.word::<u16>();
+    let mut cases = Input { rest: input };
+    cases.take(at);
+    for _ in 0..count {
+        next_case(out, arena, file, input, &mut cases)?;
     }
     Ok(())
 }

@@ -2,31 +2,18 @@
 // 64 needs, and of 100 libraries with an empty table.
 #![tactic(auto)]
 
-ghost use Rattle.std.specs.Prelude.{◌≤◌};
-
-use binder::order::{Order, arrange};
+use binder::order::arrange;
 use std::io;
 
-fn wide(x: u32) -> u64 {
-    x as u64
-}
-
-fn show(out: &impl Print, o: Order) -> io::Result<()>
-    requires { o.count ≤ 64 }
-{
-    let list = o.list;
-    let n = o.count;
-    let mut i = 0;
-    while i < n {
-        let x = wide(list[i]);
-        print!(out; "{x} ")?;
-        i += 1;
+fn show(out: &impl Print, order: &[u32]) -> io::Result<()> {
+    for k in order {
+        print!(out; "{k} ")?;
     }
     println!(out)
 }
 
 fn arrange_and_show(out: &impl Print, needs: &[u8], libraries: usize) -> io::Result<()> {
-    show(out, arrange(needs, libraries))
+    show(out, &arrange(needs, libraries))
 }
 
 fn main(rt: HostRuntime) -> io::Result<()> {
@@ -46,10 +33,8 @@ fn main(rt: HostRuntime) -> io::Result<()> {
     // no libraries
     arrange_and_show(&rt, &needs, 0)?;
     // each needs the next
-    let mut i = 128;
-    while i < 4096 {
+    for i in 128..4096 {
         needs[i] = (i / 64 + 1) as u8;
-        i += 1;
     }
     arrange_and_show(&rt, &needs, 62)?;
     // more libraries than there may be, and no table

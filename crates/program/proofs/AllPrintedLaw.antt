@@ -1,4 +1,5 @@
 -- 9 bytes for each word of the report hold all that is printed. Assumes nothing.
+use Rattle.std.proofs.Common.{Err}
 use mathlib.Core.Path.{◌≡◌, refl, ap, ◌∙◌}
 use mathlib.Core.Bool.{Bool, true, false}
 use mathlib.Core.List.{List, [], ◌∷◌, ◌++◌}
@@ -15,11 +16,8 @@ use Rattle.words.proofs.Slices.{take_patch, tab_mem}
 use Rattle.sheet.specs.Sheet.{set_of}
 use Rattle.binder.specs.declared.Policy.{Policy}
 use Rattle.binder.specs.declared.Policy.TheVariants.{Lenient}
-use Rattle.binder.specs.declared.Answer.TheVariants.{Bound, Refused}
 use Rattle.binder.specs.Setting.{Setting, supplied_at}
-use Rattle.binder.specs.Verdict.{first, order_verdict}
-use Rattle.binder.specs.declared.Verdict.{Verdict}
-use Rattle.binder.specs.declared.Verdict as verdicts
+use Rattle.binder.specs.Verdict.{Verdict, passed, first, order_verdict}
 use Rattle.binder.specs.Report.{order_words, first_undefined}
 use Rattle.binder.specs.SetOrder.{set_order}
 use Rattle.binder.specs.Bind as binding
@@ -34,11 +32,11 @@ abbrev report_in : Outcome → List ℕ
 report_in (outcome answer arena report) = report
 
 of_outcome :
-    (size words : ℕ) (v : Verdict) (arena report : List ℕ) → (v ≡ verdicts.TheVariants.Passed → length report ≤ words)
+    (size words : ℕ) (v : Verdict) (arena report : List ℕ) → (v ≡ passed → length report ≤ words)
     → length (report_in (outcome_of size words v arena report)) ≡ words
 unfolding binding.outcome_of
-of_outcome size words (verdicts.TheVariants.Refused n k) arena report h = length-replicate words 0
-of_outcome size words verdicts.TheVariants.Passed arena report h =
+of_outcome size words (Err m) arena report h = length-replicate words 0
+of_outcome size words passed arena report h =
     omega (arith, h refl, length-append report (replicate (words - length report) 0), length-replicate {A = ℕ} (words - length report) 0)
 
 of_bind :
@@ -99,8 +97,8 @@ refusal_length n k =
     )
 
 of_lines : (o : Outcome) → length (report_in o) ≡ report_words → length (lines_of o) ≤ 9 * report_words
-of_lines (outcome Bound arena report) h = omega (arith, h, lines_length (until_zero report), name_short report)
-of_lines (outcome (Refused n k) arena report) h = omega (arith, refusal_length n k)
+of_lines (outcome passed arena report) h = omega (arith, h, lines_length (until_zero report), name_short report)
+of_lines (outcome (Err m) arena report) h = omega (arith, refusal_length m.number m.object)
 
 -- ---- so all of them are printed
 

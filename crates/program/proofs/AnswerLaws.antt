@@ -10,17 +10,17 @@ use Rattle.words.specs.Memory.{Mem, tab, patch}
 use Rattle.words.proofs.Choice.{both_false}
 use Rattle.words.proofs.Slices.{length_patch, take_patch}
 use Rattle.binder.specs.declared.Policy.TheVariants.{Lenient}
-use Rattle.binder.specs.declared.Answer.TheVariants.{Refused}
 use Rattle.binder.specs.Setting.{supplied_at}
 use Rattle.binder.specs.Bind.{outcome, bind_of}
 use Rattle.program.specs.Program.{arena_address, input_limit, count_in, word_in, start_in, answer_to}
+use Rattle.binder.specs.Verdict.{refused}
 
 module _ (input : List ℕ) (size words : ℕ) where
-  pub short_refused : length input < start_in input → answer_to input size words ≡ outcome (Refused 1 0) (replicate size 0) (replicate words 0)
+  pub short_refused : length input < start_in input → answer_to input size words ≡ outcome (refused 1 0) (replicate size 0) (replicate words 0)
   unfolding answer_to
   short_refused h = rw (lt-leb (start_in input) (length input) h)
 
-  pub long_refused : input_limit < length input → answer_to input size words ≡ outcome (Refused 1 0) (replicate size 0) (replicate words 0)
+  pub long_refused : input_limit < length input → answer_to input size words ≡ outcome (refused 1 0) (replicate size 0) (replicate words 0)
   unfolding answer_to
   long_refused h = rw (both_false (leb (start_in input) (length input)) (leb (length input) input_limit) (lt-leb (length input) input_limit h))
 

@@ -2,12 +2,14 @@
 use mathlib.Core.Path.{◌≡◌, refl, sym, ap, ◌∙◌}
 use mathlib.Core.Bool.{Bool, true, false}
 use mathlib.Core.List.{List, [], ◌++◌}
-use Prim.Native.Nat.{ℕ, zero, suc, ◌+◌, ◌-◌, ◌^◌, ◌≤◌, ◌<◌, min}
+use Prim.Native.Nat.{ℕ, zero, suc, ◌+◌, ◌-◌, ◌*◌, ◌^◌, ◌≤◌, ◌<◌, min, max}
 use native.Mathlib.Omega.{arith}
 use native.Mathlib.Decide.{dec_lt}
+use borrow.Author.Tests.{lt-ltb, le-ltb}
 use lib.Dec.{ltb}
 use lib.ListN.{length, take, drop, length-append, get_or-append}
 use lib.Seq.{get_or-append-add, take_all}
+use Rattle.std.proofs.Math.Nat.{pow-le-pow_right, pow-succ'}
 use Rattle.words.specs.Choice.{pick}
 use Rattle.words.specs.Memory.{mem, from, patch}
 use Rattle.words.specs.Memory as memory
@@ -50,6 +52,11 @@ print_join (written out at) a b =
 pub print_then : (s : Written) {t u : Written} (a b : List ℕ) → t ≡ print s a → u ≡ print t b → u ≡ print s (a ++ b)
 print_then s {t} {u} a b e f = f ∙ (ap (λ (w : Written). print w b) e ∙ print_join s a b)
 
+-- the same of a printer, whose slice has a name
+pub prints_then :
+    {A : Type 0} {x y z : A} (s : Written) {t u : Written} (a b : List ℕ) → (y ≡ x) × (t ≡ print s a) → (z ≡ y) × (u ≡ print t b) → (z ≡ x) × (u ≡ print s (a ++ b))
+prints_then s a b first then = (then.0 ∙ first.0, print_then s a b first.1 then.1)
+
 -- no text
 pub print_none : (out : List ℕ) (at : ℕ) → at ≤ length out → print (written out at) [] ≡ written out at
 unfolding print
@@ -61,10 +68,21 @@ print_none out at h =
 place : Written → ℕ
 place (written out at) = at
 
+slice_length : Written → ℕ
+slice_length (written out at) = length out
+
 pub next_place :
     (out : List ℕ) (at : ℕ) (text : List ℕ) {exit : List ℕ} {r : ℕ} → written exit r ≡ print (written out at) text → r ≡ min (at + length text) (length out)
-unfolding print place
+unfolding print place slice_length
 next_place out at text e = ap place e
+
+-- it is in the slice
+pub place_fits :
+    (out : List ℕ) (at : ℕ) (text : List ℕ) {exit : List ℕ} {r : ℕ} → written exit r ≡ print (written out at) text → r ≤ length exit
+unfolding print place slice_length
+place_fits out at text {exit} e =
+    let same : length exit ≡ length out = ap slice_length e ∙ length_patch out at (length text) (mem text) in
+    omega (arith, next_place out at text e, same)
 
 pub digits_length : (n base v : ℕ) → length (digits base n v) ≡ n
 unfolding digits
@@ -107,3 +125,34 @@ decimal_part v w e =
     let rest : drop (10 - w) (digits 10 10 v) ≡ digits 10 w v = ap (λ (n : ℕ). drop (10 - w) (digits 10 n v)) ten ∙ digits_drop (10 - w) w 10 v in
     let back : 10 - (10 - w) ≡ w = omega arith in
     rw (back, rest, take_all w (digits 10 w v) (omega (arith, digits_length w 10 v))) (ap (λ (n : ℕ). digits 10 n v) e)
+
+-- the least of the powers above the number gives its width
+width_from_is : (n k w v : ℕ) → k ≤ w → w ≤ n + k → ((j : ℕ) → k ≤ j → j < w → 10 ^ j ≤ v) → (w < n + k → v < 10 ^ w) → width_from n k v ≡ w
+unfolding width_from
+width_from_is zero k w v h g low high = omega arith
+width_from_is (suc n) k w v h g low high =
+    go (dec_lt v (10 ^ k)) (λ m. width_from_is n (suc k) w v m (omega arith) (λ j a b. low j (omega arith) b) (λ b. high (omega arith)))
+  where
+    go : Dec (v < 10 ^ k) → (suc k ≤ w → width_from n (suc k) v ≡ w) → pick (ltb v (10 ^ k)) k (width_from n (suc k) v) ≡ w
+    go (yes below) more =
+        let last : k < w → ⊥ = λ q. omega (arith, below, low k (omega arith) q) in
+        let same : k ≡ w = omega (arith, last) in
+        rw (lt-ltb v (10 ^ k) below, same)
+    go (no above) more =
+        let other : k ≡ w → ⊥ = λ e. above (rw (sym e) at (high (omega (arith, e)))) in
+        rw (le-ltb v (10 ^ k) (omega (arith, above))) (more (omega (arith, other)))
+
+-- a logarithm, of the number or of 1 for 0, gives the width
+pub width_is : (r v : ℕ) → r < 10 → 10 ^ r ≤ max v 1 → max v 1 < 10 * 10 ^ r → r + 1 ≡ width_from 9 1 v
+unfolding width_from
+width_is zero zero h low high = refl
+width_is (suc r) zero h low high =
+    let ten : 10 ^ 1 ≤ 10 ^ suc r = pow-le-pow_right {n = 10} (omega arith) {i = 1} {j = suc r} (omega arith) in
+    absurd (omega (arith, ten, low))
+width_is r (suc v) h low high =
+    let more : max (suc v) 1 ≡ suc v = omega arith in
+    let next : 10 ^ suc r ≡ 10 * 10 ^ r = pow-succ' 10 r in
+    let e : r + 1 ≡ suc r = omega arith in
+    rw e (sym
+    (width_from_is 9 1 (suc r) (suc v) (omega arith) (omega arith)
+    (λ j a b. omega (arith, pow-le-pow_right {n = 10} (omega arith) {i = j} {j = r} (omega arith), rw more at low)) (λ b. omega (arith, next, rw more at high))))

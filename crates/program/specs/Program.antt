@@ -2,16 +2,15 @@
 -- input a 32-bit little-endian sheet word count, the sheet (its words little-endian too) and the bytes, and binds leniently at 0x10000000 in
 -- 32,768 bytes with 1,024 report words; input cut short or over 65,536 bytes is refusal 1. It prints each report word before the first 0 as
 -- eight lower-case hexadecimal digits on its line, or `refused N object M` in decimal." Assumes nothing.
-use Rattle.std.specs.Prelude.{ℕ, zero, suc, ◌+◌, ◌-◌, ◌*◌, ◌/◌, ◌%◌, ◌^◌, ◌≤◌, min, ◌≡◌, Bool, List, [], ◌∷◌, ◌++◌, leb, ltb, length, take, drop}
+use Rattle.std.specs.Prelude.{ℕ, zero, suc, ◌+◌, ◌-◌, ◌*◌, ◌/◌, ◌%◌, ◌^◌, ◌≤◌, min, ◌≡◌, Bool, List, [], ◌∷◌, ◌++◌, leb, ltb, length, take, drop, Err}
 use Rattle.words.specs.Choice.{pick, both}
 use Rattle.words.specs.Memory.{mem, tab, patch}
 use Rattle.words.specs.Words.{le_at}
 use Rattle.words.specs.Names.{until_zero}
 use Rattle.binder.specs.declared.Policy.TheVariants.{Lenient}
-use Rattle.binder.specs.declared.Answer.{Answer}
-use Rattle.binder.specs.declared.Answer.TheVariants.{Bound, Refused}
 use Rattle.binder.specs.Setting.{supplied_at}
 use Rattle.binder.specs.Bind.{Outcome, outcome, refused_bind, bind_of}
+use Rattle.binder.specs.Verdict.{Verdict, passed}
 
 -- ---- the numbers
 
@@ -92,9 +91,9 @@ unfoldable pub refusal_line : ℕ → ℕ → List ℕ
 refusal_line number object = refused_text ++ (decimal_of number ++ (object_text ++ (decimal_of object ++ (10 ∷ []))))
 
 -- the lines of an answer with its report
-abbrev pub answer_lines : Answer → List ℕ → List ℕ
-answer_lines Bound report = hex_lines (until_zero report)
-answer_lines (Refused number object) report = refusal_line number object
+abbrev pub answer_lines : Verdict → List ℕ → List ℕ
+answer_lines passed report = hex_lines (until_zero report)
+answer_lines (Err r) report = refusal_line r.number r.object
 
 abbrev pub lines_of : Outcome → List ℕ
 lines_of (outcome answer arena report) = answer_lines answer report

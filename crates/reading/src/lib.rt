@@ -13,6 +13,7 @@ pub fn read_full<R: Read>(from: &mut R, buf: &mut [u8]) -> io::Result<usize>
     ensures bytes { IfOk result (λ n. Consumes (R.remaining from.old) (R.remaining from.new) (take n buf.new)) }
     ensures end { IfOk result (λ n. n < length buf.new → IsAtEnd (R.remaining from.new)) }
 {
+    // No heap: std's own methods that read to the end want a `Vec`, and `read_exact` says no length where the input ends early.
     let mut done = 0;
     while done < buf.len() {
         let n = from.read(&mut buf[done..])?;

@@ -9,308 +9,179 @@
 // it over, or 4 * t + 2 where it is to refuse it; the other words are the supplied ones, so that 0 or 1 alone leaves them all.
 #![tactic(auto)]
 
-ghost use Rattle.std.specs.Prelude.{◌≤◌};
-
-use binder::{Answer, Policy, Reply};
+use binder::{Found, Policy, Refused};
 use reading::read_full;
 use std::io;
-use testing::input::{part, patches, stain};
-use testing::show::{field, hex, size, small, word};
+use testing::input::{Input, head, patches, stain};
 
-fn show_refusal(out: &impl Print, number: u32, object: u32) -> io::Result<()> {
-    word(out, b"refused")?;
-    small(out, number)?;
-    word(out, b" object")?;
-    small(out, object)
-}
-
-fn show_found(out: &impl Print, object: usize, symbol: usize, address: u64) -> io::Result<()> {
-    word(out, b"found")?;
-    size(out, object)?;
-    size(out, symbol)?;
-    field(out, address)
-}
-
-fn show_answer(out: &impl Print, a: Answer) -> io::Result<()> {
+fn show_answer(out: &impl Print, a: Result<(), Refused>) -> io::Result<()> {
     match a {
-        Answer::Bound => word(out, b"bound"),
-        Answer::Refused { number, object } => show_refusal(out, number, object),
+        Ok(()) => print!(out; "bound"),
+        Err(r) => print!(out; "{r}"),
     }
 }
 
-fn show_reply(out: &impl Print, r: Reply) -> io::Result<()> {
+fn show_reply(out: &impl Print, r: Result<Option<Found>, Refused>) -> io::Result<()> {
     match r {
-        Reply::Found {
-            object,
-            symbol,
-            address,
-        } => show_found(out, object, symbol, address),
-        Reply::Absent => word(out, b"absent"),
-        Reply::Refused { number, object } => show_refusal(out, number, object),
+        Ok(Some(f)) => print!(out; "found {} {} {}", f.object, f.symbol, f.address),
+        Ok(None) => print!(out; "absent"),
+        Err(r) => print!(out; "{r}"),
     }
-}
-
-fn show_word(out: &impl Print, w: u32) -> io::Result<()> {
-    if w != 0 {
-        hex(out, w)?;
-    }
-    Ok(())
 }
 
 fn show_words(out: &impl Print, report: &[u32]) -> io::Result<()> {
-    let mut i = 0;
-    while i < report.len() {
-        show_word(out, report[i])?;
-        i += 1;
+    for w in report {
+        if *w != 0 {
+            print!(out; " {w:08x}")?;
+        }
     }
     Ok(())
 }
 
 fn show_arena(out: &impl Print, arena: &[u8]) -> io::Result<()> {
-    word(out, b" arena")?;
-    hex(out, words::hash::gnu_hash(arena))?;
-    word(out, b"\n")
+    println!(out; " arena {:08x}", words::hash::gnu_hash(arena))
 }
 
-fn policy_of(b: u8) -> Policy {
-    if b % 2 == 0 {
-        return Policy::Strict;
-    }
-    Policy::Lenient
-}
-
-fn show_bound(out: &impl Print, a: Answer, report: &[u32], arena: &[u8]) -> io::Result<()> {
-    show_answer(out, a)?;
-    show_words(out, report)?;
-    show_arena(out, arena)
-}
-
-// The word of one type becomes pass, or refuse.
-fn edit(types: &mut [u32], b: u8) {
-    let t = b / 4;
-    let at = t as usize;
-    if at < types.len() {
-        let kind = 0xa000_0000 + (b / 2 % 2) as u32 * 0x1000_0000;
-        types[at] = kind + t as u32;
-    }
-}
-
-fn bind_set(
-    out: &impl Print,
-    arena: &mut [u8],
-    sheet: &[u32],
-    bytes: &[u8],
-    address: u64,
-    mark: u8,
-    report: &mut [u32],
-) -> io::Result<()> {
+// The supplied words of the types, of which one becomes pass, or refuse.
+fn types_of(mark: u8) -> [u32; 64] {
     let mut types = [0u32; 64];
     binder::types::supply(&mut types);
-    edit(&mut types, mark);
-    let policy = policy_of(mark);
-    let a = binder::bind::bind(sheet, bytes, arena, address, policy, &types, report);
-    show_bound(out, a, report, arena)
+    let t = mark / 4;
+    if let Some(word) = types.get_mut(t as usize) {
+        *word = u32::from(t)
+            + if mark / 2 % 2 == 0 {
+                0xa000_0000
+            } else {
+                0xb000_0000
+            };
+    }
+    types
 }
 
-// How many of 1,024 words are not for the report of the set at `at`.
-fn spare_words(input: &[u8], at: usize) -> usize
-    ensures { result ≤ 1024 }
-{
-    words::bytes::monus(1024, words::bytes::u16_off(input, at, 13) as usize)
-}
-
-// Binds with the policy, address and report of the set at `at`.
-fn bind_at(
-    out: &impl Print,
-    arena: &mut [u8],
-    sheet: &[u32],
-    bytes: &[u8],
-    input: &[u8],
-    at: usize,
-) -> io::Result<()> {
-    let mut report = [0xffff_ffffu32; 1024];
-    let from = spare_words(input, at);
-    let mark = words::bytes::byte_at(input, at, 0);
-    let address = words::bytes::u64_off(input, at, 1);
-    bind_set(out, arena, sheet, bytes, address, mark, &mut report[from..])
-}
-
-fn ask_name(
-    out: &impl Print,
-    arena: &mut [u8],
-    sheet: &[u32],
-    bytes: &[u8],
+// What stands before a set's patches.
+#[derive(Clone, Copy)]
+struct Header {
+    mark: u8,
     address: u64,
-    requester: u32,
-    name: &[u8],
-) -> io::Result<()> {
-    let r = binder::query::query(sheet, bytes, arena, address, requester, name);
-    show_reply(out, r)?;
-    show_arena(out, arena)
+    arena: usize,
+    report: usize,
+    length: usize,
+    patches: u16,
+    queries: u8,
 }
 
-fn name_at<'a>(input: &'a [u8], at: usize) -> &'a [u8] {
-    let n = words::bytes::byte_at(input, at, 4) as usize;
-    part(input, at, 5, n)
-}
-
-fn past_query(input: &[u8], at: usize) -> usize {
-    let n = words::bytes::byte_at(input, at, 4) as usize;
-    words::bytes::place(input.len(), at, 5 + n)
-}
-
-// The query at `at`; the answer is where the next one stands.
-fn ask(
-    out: &impl Print,
-    arena: &mut [u8],
-    sheet: &[u32],
-    bytes: &[u8],
-    address: u64,
-    input: &[u8],
-    at: usize,
-) -> io::Result<usize> {
-    let requester = words::bytes::u32_off(input, at, 0);
-    stain(arena, input);
-    ask_name(
-        out,
-        arena,
-        sheet,
-        bytes,
+fn next_header(input: &mut Input) -> Header {
+    let mark = input.u8();
+    let address = input.word::<u64>();
+    let arena = input.word::<u32>() as usize;
+    let report = usize::from(input.word::<u16>());
+    let length = input.word::<u32>() as usize;
+    let patches = input.word::<u16>();
+    let queries = input.u8();
+    Header {
+        mark,
         address,
-        requester,
-        name_at(input, at),
-    )?;
-    Ok(past_query(input, at))
-}
-
-// The queries of the set at `at`, which stand at `start`; the answer is where the next set stands.
-fn asks(
-    out: &impl Print,
-    arena: &mut [u8],
-    sheet: &[u32],
-    bytes: &[u8],
-    input: &[u8],
-    at: usize,
-    start: usize,
-) -> io::Result<usize> {
-    let address = words::bytes::u64_off(input, at, 1);
-    let mut next = start;
-    let mut left = words::bytes::byte_at(input, at, 21);
-    while 0 < left {
-        next = ask(out, arena, sheet, bytes, address, input, next)?;
-        left -= 1;
-    }
-    Ok(next)
-}
-
-fn both(
-    out: &impl Print,
-    arena: &mut [u8],
-    sheet: &[u32],
-    bytes: &[u8],
-    input: &[u8],
-    at: usize,
-    start: usize,
-) -> io::Result<usize> {
-    stain(arena, input);
-    bind_at(out, arena, sheet, bytes, input, at)?;
-    asks(out, arena, sheet, bytes, input, at, start)
-}
-
-// The words after the count; the answer is where the bytes after them start.
-fn read_words(set: &[u8], sheet: &mut [u32]) -> usize {
-    let mut at = words::bytes::place(set.len(), 0, 4);
-    let mut i = 0;
-    while i < sheet.len() {
-        sheet[i] = words::bytes::u32_off(set, at, 0);
-        at = words::bytes::place(set.len(), at, 4);
-        i += 1;
-    }
-    at
-}
-
-// The calls of one set, into a sheet of its length.
-fn play(
-    out: &impl Print,
-    arena: &mut [u8],
-    sheet: &mut [u32],
-    set: &[u8],
-    input: &[u8],
-    at: usize,
-    start: usize,
-) -> io::Result<usize> {
-    let from = read_words(set, sheet);
-    both(
-        out,
         arena,
-        sheet,
-        part(set, from, 0, set.len()),
-        input,
-        at,
-        start,
-    )
+        report,
+        length,
+        patches,
+        queries,
+    }
 }
 
-fn play_sheet(
-    out: &impl Print,
-    arena: &mut [u8],
-    set: &[u8],
-    input: &[u8],
-    at: usize,
-    start: usize,
-) -> io::Result<usize> {
-    let mut sheet = [0u32; 130];
-    let from = words::bytes::monus(130, words::bytes::u32_off(set, 0, 0) as usize);
-    play(out, arena, &mut sheet[from..], set, input, at, start)
+// A set, and where and how its calls are made.
+#[derive(Clone, Copy)]
+struct Player<'a> {
+    header: Header,
+    sheet: &'a [u32],
+    bytes: &'a [u8],
 }
 
-// In as many of the arena's bytes as the set at `at` asks for.
-fn play_part(
-    out: &impl Print,
-    arena: &mut [u8],
-    set: &[u8],
-    input: &[u8],
-    at: usize,
-    start: usize,
-) -> io::Result<usize> {
-    let n = words::bytes::u32_off(input, at, 9) as usize;
-    let from = words::bytes::monus(arena.len(), n);
-    play_sheet(out, &mut arena[from..], set, input, at, start)
+impl<'a> Player<'a> {
+    fn bind(self, out: &impl Print, arena: &mut [u8]) -> io::Result<()> {
+        let mut report = [0xffff_ffffu32; 1024];
+        let report = &mut report[..self.header.report.min(1024)];
+        let types = types_of(self.header.mark);
+        let policy = if self.header.mark % 2 == 0 {
+            Policy::Strict
+        } else {
+            Policy::Lenient
+        };
+        let a = binder::bind::bind(
+            self.sheet,
+            self.bytes,
+            arena,
+            self.header.address,
+            policy,
+            &types,
+            report,
+        );
+        show_answer(out, a)?;
+        show_words(out, report)?;
+        show_arena(out, arena)
+    }
+
+    // The next query.
+    fn ask(self, out: &impl Print, arena: &mut [u8], queries: &mut Input) -> io::Result<()> {
+        let requester = queries.word::<u32>();
+        let n = usize::from(queries.u8());
+        let name = queries.take(n);
+        let address = self.header.address;
+        let r = binder::query::query(self.sheet, self.bytes, arena, address, requester, name);
+        show_reply(out, r)?;
+        show_arena(out, arena)
+    }
+
+    // The binding, and the queries, each in an arena that holds the input's first bytes.
+    fn play(
+        self,
+        out: &impl Print,
+        arena: &mut [u8],
+        input: &[u8],
+        queries: &mut Input,
+    ) -> io::Result<()> {
+        stain(arena, input);
+        self.bind(out, arena)?;
+        for _ in 0..self.header.queries {
+            stain(arena, input);
+            self.ask(out, arena, queries)?;
+        }
+        Ok(())
+    }
 }
 
-// Makes the set at `at`; the answer is where its queries stand.
-fn fill(set: &mut [u8], input: &[u8], at: usize) -> usize {
-    let n = set.len();
-    words::bytes::zero(set, 0, n);
-    let first = words::bytes::place(input.len(), at, 22);
-    patches(
-        set,
-        input,
-        first,
-        words::bytes::u16_off(input, at, 19),
-        true,
-    )
-}
-
-// The set at `at`; the answer is where the next one stands.
-fn case(
+// The next set, in as many of the arena's bytes as it asks for.
+fn next_set(
     out: &impl Print,
     arena: &mut [u8],
     set: &mut [u8],
     input: &[u8],
-    at: usize,
-) -> io::Result<usize> {
-    let start = fill(set, input, at);
-    let length = words::bytes::u32_off(input, at, 15) as usize;
-    play_part(out, arena, part(set, 0, 0, length), input, at, start)
+    sets: &mut Input,
+) -> io::Result<()> {
+    let header = next_header(sets);
+    set.fill(0);
+    patches(set, sets, header.patches, true);
+    let mut made = Input {
+        rest: head(set, header.length),
+    };
+    let mut sheet = [0u32; 130];
+    let count = (made.word::<u32>() as usize).min(130);
+    for word in &mut sheet[..count] {
+        *word = made.word::<u32>();
+    }
+    let player = Player {
+        header,
+        sheet: &sheet[..count],
+        bytes: made.rest,
+    };
+    let n = header.arena.min(arena.len());
+    player.play(out, &mut arena[..n], input, sets)
 }
 
 fn run(out: &impl Print, arena: &mut [u8], set: &mut [u8], input: &[u8]) -> io::Result<()> {
-    let mut at = words::bytes::place(input.len(), 0, 2);
-    let mut left = words::bytes::u16_off(input, 0, 0);
-    while 0 < left {
-        at = case(out, arena, set, input, at)?;
-        left -= 1;
+    let mut sets = Input { rest: input };
+    for _ in 0..sets.word::<u16>() {
+        next_set(out, arena, set, input, &mut sets)?;
     }
     Ok(())
 }

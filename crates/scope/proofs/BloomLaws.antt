@@ -1,10 +1,10 @@
 -- An object whose bloom filter rules a name out has no answer for it. No contract cites this file. Assumes nothing.
+use Rattle.std.specs.Prelude.{None}
 use mathlib.Core.Path.{◌≡◌, refl, sym, ap, subst, ◌∙◌}
 use mathlib.Core.Bool.{Bool, true, false, not}
 use mathlib.Core.List.{List, [], ◌∷◌}
 use Prim.Native.Nat.{ℕ, zero, suc, ◌+◌, ◌*◌, ◌/◌, ◌%◌, ◌^◌, ◌≤◌, ◌<◌}
 use native.Mathlib.Nat.{mod-lt, mod-eq_of_lt}
-use native.Mathlib.Decide.{dec_lt}
 use native.Mathlib.Omega.{arith}
 use borrow.Author.Tests.{eqb-true, leb-true}
 use lib.Dec.{eqb, leb}
@@ -18,12 +18,11 @@ use Rattle.words.proofs.Words.{le_at_part}
 use Rattle.object.specs.declared.hash_tables.HashTable.{HashTable}
 use Rattle.object.specs.declared.hash_tables.HashTable.TheVariants.{Without, SysV, Gnu}
 use Rattle.object.specs.declared.hash_tables.View.{View}
-use Rattle.object.specs.declared.hash_tables.Exported.TheVariants.{Absent}
 use Rattle.object.specs.HashTable as table
 use Rattle.object.specs.HashTable.{bloom_at, has_bits, may_hold, answer_by}
 use Rattle.object.proofs.FindLaws.{find_not}
 use Rattle.scope.specs.declared.links.Link.{Link}
-use Rattle.scope.specs.Steps.Links.{log_from, log_of, untested, filter_words, filter_of, filter_at, link_at}
+use Rattle.scope.specs.Steps.Links.{log_from, log_of, untested, filter_words, filter_of, filter_at}
 use Rattle.scope.specs.Steps.ScopeCode.{image_at, answer_at, Lacks}
 
 -- what a test that fails does not tell
@@ -48,7 +47,7 @@ bits_out arena off span at n shift g w fits is ne =
     rw (le_at_part 8 span off arena (bloom_at at n g) fits, ← is) (not_both (w / 2 ^ (g % 64) % 2) (w / 2 ^ (g / 2 ^ shift % 64) % 2) ne)
 
 -- a table that cannot hold the name
-miss : (image : List ℕ) (v : View) (name : List ℕ) (g e : ℕ) → may_hold image v.table g ≡ false → answer_by image v name g e ≡ Absent
+miss : (image : List ℕ) (v : View) (name : List ℕ) (g e : ℕ) → may_hold image v.table g ≡ false → answer_by image v name g e ≡ None
 unfolding table.answer_of
 miss image v name g e h = rw (find_not image v.symbols v.strings v.table name g e h)
 
@@ -127,22 +126,3 @@ module _
 
     pub lacks_name : (s : Link) → a ∷ b ∷ c ∷ [] ≡ filter_at s → Lacks arena s g
     lacks_name s e = lacks_of arena s g (may_not s.offset s.span s.view.table e)
-
--- ---- objects before which all lack the name
-
-module _ (arena t : List ℕ) (g start : ℕ) where
-  -- from `start` on, below `r`
-  abbrev pub Past : ℕ → Type 0
-  Past r = (start ≤ r) × ((k : ℕ) → start ≤ k → k < r → Lacks arena (link_at t k) g)
-
-  pub past_none : Past start
-  past_none = (omega arith, λ k low high. absurd (omega arith))
-
-  pub past_next : (r : ℕ) → Past r → Lacks arena (link_at t r) g → Past (r + 1)
-  past_next r p lack = (omega (arith, p.0), λ k low high. go k low high (dec_lt k r))
-    where
-      go : (k : ℕ) → start ≤ k → k < r + 1 → Dec (k < r) → Lacks arena (link_at t k) g
-      go k low high (yes h) = p.1 k low h
-      go k low high (no h) =
-          let e : k ≡ r = omega arith in
-          rw e lack

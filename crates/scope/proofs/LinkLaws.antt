@@ -8,6 +8,7 @@ use native.Mathlib.Omega.{arith}
 use native.Mathlib.Nat.{mod-eq_of_lt}
 use lib.ListN.{length, take, drop, get_or, set, length-set, get_or-append}
 use lib.Seq.{paste, length_paste_head, get_or-append-add, get_or-take, get_or-drop, length-take-le, get_or-set_same, get_or-set_other}
+use Rattle.std.proofs.Common.{take_all, length-drop}
 use lib.Pow.{pow-lt}
 use borrow.Author.Tests.{eq-eqb, ne_eqb, le-leb, lt-leb}
 use Rattle.words.specs.Choice.{pick}
@@ -269,3 +270,10 @@ module _ (t : List ℕ) (count address : ℕ) (long : 1026 ≤ length t) where
       → ((count_in x ≡ count) × (address_in x ≡ address))
       × (((k : ℕ) → k < 64 → link_at x k ≡ link_at t k) × (FilteredBelow t count → Filtered x))
   set_all {x} few e = rw e ((count_put, address_put), (link_kept, set_filtered few))
+
+-- ---- the words of an object are the first of the rest from them on
+
+pub link_of_rest : (table : List ℕ) (k : ℕ) → link_at (take (length table - 16 * k) (drop (16 * k) table)) 0 ≡ link_at table k
+unfolding link_at
+link_of_rest table k =
+    rw (take_all (length table - 16 * k) (drop (16 * k) table) (omega (arith, length-drop (16 * k) table))) (simp get_or-drop)

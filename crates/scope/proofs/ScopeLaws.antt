@@ -1,7 +1,9 @@
 -- The turns of a search over the table of links. No contract cites this file. Assumes nothing.
-use Prim.Native.Nat.{ℕ, zero, suc, ◌+◌, ◌-◌, ◌%◌, ◌^◌, ◌≤◌, ◌<◌}
+use Rattle.std.specs.Prelude.{Option, None, Some, MatchOption, is_some}
+use Rattle.std.specs.Bool.{then_some}
+use Prim.Native.Nat.{ℕ, suc, ◌+◌, ◌-◌, ◌%◌, ◌^◌, ◌≤◌, ◌<◌}
 use mathlib.Core.Path.{◌≡◌, refl, sym, ap, ◌∙◌}
-use mathlib.Core.Bool.{Bool, true, false}
+use mathlib.Core.Bool.{Bool, true, false, false≢true}
 use mathlib.Core.List.{List}
 use native.Mathlib.Omega.{arith}
 use native.Mathlib.Decide.{dec_lt}
@@ -10,16 +12,12 @@ use borrow.Author.Tests.{eqb-true}
 use lib.Dec.{eqb}
 use lib.ListN.{take, drop}
 use Rattle.words.specs.Choice.{pick}
-use Rattle.object.specs.declared.hash_tables.Definition.{Definition}
 use Rattle.object.specs.declared.hash_tables.HashTable.TheVariants.{Without, Gnu}
-use Rattle.object.specs.declared.hash_tables.Found as looked
 use Rattle.object.specs.HashTable as hash
 use Rattle.object.specs.HashTable.{find_by, answer_of}
-use Rattle.scope.specs.declared.scope.Resolved.{Resolved}
-use Rattle.scope.specs.declared.scope.Resolved.TheVariants.{Absent, Found}
+use Rattle.scope.specs.declared.scope.Found.{Found}
 use Rattle.scope.specs.Steps.Links.{word_at, link_at, links_from}
 use Rattle.scope.specs.Steps.ScopeCode.{answer_at, Lacks, scoped_by, protected_by, or_else, link_answer, own_answer, scan_links}
-use Rattle.scope.proofs.BloomLaws.{Past}
 
 -- ---- a table that is not System V's has no use for the System V hash
 
@@ -40,7 +38,7 @@ module _ (arena table : List ℕ) (k : ℕ) (name : List ℕ) (g e e' : ℕ) (sa
       go true q = ap (λ (h : ℕ). answer_at arena (link_at table k) name g h) (same (eqb-true (word_at table k 4) 1 q))
       go false q =
           rw q
-          (ap (λ (f : looked.Found). answer_of (take (word_at table k 1) (drop (word_at table k 0) arena)) (word_at table k 2) f)
+          (ap (λ (f : Option ℕ). answer_of (take (word_at table k 1) (drop (word_at table k 0) arena)) (word_at table k 2) f)
           (no_use (take (word_at table k 1) (drop (word_at table k 0) arena)) (word_at table k 2) (word_at table k 3) (eqb (word_at table k 4) 2) (word_at table k 5) (word_at table k 6 % 2 ^ 32) (word_at table k 7 % 2 ^ 32) (word_at table k 8 % 2 ^ 32) (word_at table k 9 % 2 ^ 32) name g e e'))
 
   pub link_any : (address : ℕ) → link_answer address arena k (link_at table k) name g e ≡ link_answer address arena k (link_at table k) name g e'
@@ -48,15 +46,40 @@ module _ (arena table : List ℕ) (k : ℕ) (name : List ℕ) (g e e' : ℕ) (sa
   link_any address = rw answer_any
 
   pub own_any : (address : ℕ) → own_answer address arena k (link_at table k) name g e ≡ own_answer address arena k (link_at table k) name g e'
-  unfolding own_answer
+  unfolding own_answer link_answer
   own_any address = rw answer_any
+
+-- ---- the library's calls of closures
+
+pub or_else_is : (a r : Option Found) {b : Option Found} (Second : Type 0) → MatchOption a Second (λ x. r ≡ Some x) → (Second → r ≡ b) → r ≡ or_else a b
+unfolding or_else
+or_else_is None r Second m k = k m
+or_else_is (Some x) r Second m k = m
+
+pub or_else_twice :
+    (a q r : Option Found) {b d : Option Found} (Second Third : Type 0) → MatchOption a Second (λ x. q ≡ Some x) → (Second → q ≡ b)
+    → MatchOption q Third (λ x. r ≡ Some x) → (Third → r ≡ d) → r ≡ or_else a (or_else b d)
+unfolding or_else
+or_else_twice None q r {b} {d} Second Third m k n l = or_else_is q r Third n l ∙ ap (λ (x : Option Found). or_else x d) (k m)
+or_else_twice (Some x) q r {b} {d} Second Third m k n l = or_else_is q r Third n l ∙ ap (λ (x : Option Found). or_else x d) m
+
+pub protected_is :
+    (a r : Option Found) (Says : Found → Bool → Type 0) → MatchOption a (r ≡ None) (λ x. (b : Bool) × Says x b × (r ≡ then_some b x))
+    → ((x : Found) (b : Bool) → Says x b → b ≡ x.definition.protected) → r ≡ protected_by a
+unfolding protected_by
+protected_is None r Says m k = m
+protected_is (Some x) r Says m k = m.2 ∙ go m.0 ∙ ap (λ (b : Bool). pick b (Some x) None) (k x m.0 m.1)
+  where
+    go : (b : Bool) → then_some b x ≡ pick b (Some x) None
+    go true = refl
+    go false = refl
 
 module _ (address : ℕ) (arena table name : List ℕ) (g e : ℕ) where
   -- what is left of the search from object `k` on
-  abbrev pub rest : ℕ → ℕ → Resolved
+  abbrev pub rest : ℕ → ℕ → Option Found
   rest k count = scan_links address arena k (links_from table k (count - k)) name g e
 
-  abbrev here : ℕ → Resolved
+  abbrev here : ℕ → Option Found
   here k = link_answer address arena k (link_at table k) name g e
 
   module _ (k count : ℕ) where
@@ -66,19 +89,21 @@ module _ (address : ℕ) (arena table name : List ℕ) (g e : ℕ) where
         let s : count - k ≡ suc (count - (k + 1)) = omega arith in
         rw (s, add-one)
 
-    pub scan_hit : {a whole : Resolved} {o : ℕ} {d : Definition} {x : ℕ} → k < count → a ≡ here k → a ≡ Found o d x → rest k count ≡ whole → a ≡ whole
+    pub scan_hit : {a whole : Option Found} → k < count → a ≡ here k → is_some a ≡ true → rest k count ≡ whole → a ≡ whole
     unfolding or_else
-    scan_hit {a} {whole} {o} {d} {x} h is found inv =
-        let t : or_else (here k) (rest (k + 1) count) ≡ a = rw (← is, found) in
+    scan_hit {a = None} h is some inv = absurd (false≢true some)
+    scan_hit {a = Some x} h is some inv =
+        let t : or_else (here k) (rest (k + 1) count) ≡ Some x = rw (← is) in
         sym t ∙ sym (turn h) ∙ inv
 
-    pub scan_miss : {a whole : Resolved} → k < count → a ≡ here k → a ≡ Absent → rest k count ≡ whole → rest (k + 1) count ≡ whole
+    pub scan_miss : {a whole : Option Found} → k < count → a ≡ here k → is_some a ≡ false → rest k count ≡ whole → rest (k + 1) count ≡ whole
     unfolding or_else
-    scan_miss {a} {whole} h is none inv =
-        let t : or_else (here k) (rest (k + 1) count) ≡ rest (k + 1) count = rw (← is, none) in
+    scan_miss {a = None} h is none inv =
+        let t : or_else (here k) (rest (k + 1) count) ≡ rest (k + 1) count = rw (← is) in
         sym t ∙ sym (turn h) ∙ inv
+    scan_miss {a = Some x} h is none inv = absurd (false≢true (sym none))
 
-    pub scan_end : {whole : Resolved} → count ≤ k → rest k count ≡ whole → Absent ≡ whole
+    pub scan_end : {whole : Option Found} → count ≤ k → rest k count ≡ whole → None ≡ whole
     unfolding scan_links links_from
     scan_end {whole} h inv =
         let s : count - k ≡ 0 = omega arith in
@@ -86,33 +111,17 @@ module _ (address : ℕ) (arena table name : List ℕ) (g e : ℕ) where
 
   -- ---- objects that lack the name
 
-  pub own_lacks : (k : ℕ) → Lacks arena (link_at table k) g → Absent ≡ own_answer address arena k (link_at table k) name g e
-  unfolding own_answer protected_by
+  pub own_lacks : (k : ℕ) → Lacks arena (link_at table k) g → None ≡ own_answer address arena k (link_at table k) name g e
+  unfolding own_answer link_answer scoped_by protected_by
   own_lacks k lack = rw (lack name e)
 
-  here_lacks : (k : ℕ) → Lacks arena (link_at table k) g → here k ≡ Absent
+  here_lacks : (k : ℕ) → Lacks arena (link_at table k) g → here k ≡ None
   unfolding link_answer scoped_by
   here_lacks k lack = rw (lack name e)
 
-  pass : (k count : ℕ) → Lacks arena (link_at table k) g → rest k count ≡ rest (k + 1) count
+  pub pass : (k count : ℕ) → Lacks arena (link_at table k) g → rest k count ≡ rest (k + 1) count
   pass k count lack = go (dec_lt k count)
     where
       go : Dec (k < count) → rest k count ≡ rest (k + 1) count
-      go (yes h) = sym (scan_miss k count h refl (here_lacks k lack) refl)
+      go (yes h) = sym (scan_miss k count h refl (ap is_some (here_lacks k lack)) refl)
       go (no h) = sym (scan_end k count (omega arith) refl) ∙ scan_end (k + 1) count (omega arith) refl
-
-  skip_by : (n j count : ℕ) → ((k : ℕ) → j ≤ k → k < j + n → Lacks arena (link_at table k) g) → rest j count ≡ rest (j + n) count
-  skip_by zero j count lack =
-      let s : j ≡ j + 0 = omega arith in
-      ap (λ (m : ℕ). rest m count) s
-  skip_by (suc n) j count lack =
-      let s : j + 1 + n ≡ j + suc n = omega arith in
-      pass j count (lack j (omega arith) (omega arith))
-      ∙ skip_by n (j + 1) count (λ k low high. lack k (omega arith) (omega arith))
-      ∙ ap (λ (m : ℕ). rest m count) s
-
-  -- the search goes on from an object before which all lack the name
-  pub skip : (j r count : ℕ) {whole : Resolved} → Past arena table g j r → rest j count ≡ whole → rest r count ≡ whole
-  skip j r count {whole} c inv =
-      let s : j + (r - j) ≡ r = omega (arith, c.0) in
-      sym (skip_by (r - j) j count (λ k low high. c.1 k low (omega (arith, s))) ∙ ap (λ (m : ℕ). rest m count) s) ∙ inv

@@ -32,7 +32,7 @@ fn low(w: u64) -> u32
     (w % 0x1_0000_0000) as u32
 }
 
-// The hash table that six words say.
+// The hash table that six words say. The kind is a number, since a table is words of fixed memory.
 fn hash_of(kind: u64, at: u64, b: u64, c: u64, d: u64, e: u64) -> HashTable
     ensures { result ≡ hash_of kind at b c d e }
 {
@@ -85,17 +85,15 @@ fn hash_words(h: HashTable) -> [u64; 6]
 fn log_of(n: u32) -> u64
     ensures { result ≡ log_of n }
 {
-    let mut k = 0u64;
-    while k < 32 {
+    for k in 0..32u64 {
         if n == 1 << k {
             return k;
         }
-        k += 1;
     }
     64
 }
 
-// The three words of a GNU table's bloom filter.
+// The three words of a GNU table's bloom filter. The tests stand in an order in which no subtraction wraps.
 fn filter_words(offset: usize, span: usize, at: usize, bloomwords: u32, shift: u32) -> [u64; 3]
     ensures { result ≡ filter_words offset span at bloomwords shift }
 {
@@ -119,22 +117,17 @@ fn filter_words(offset: usize, span: usize, at: usize, bloomwords: u32, shift: u
 }
 
 // The three words of a link's bloom filter.
+#[tactic(auto, unfolding(crate::specs::Steps::Links::filter_of))]
 fn filter_of(offset: usize, span: usize, h: HashTable) -> [u64; 3]
     ensures { result ≡ filter_of offset span h }
 {
     match h {
-        HashTable::Without => [0, 64, 0],
-        HashTable::SysV {
-            at: _,
-            buckets: _,
-            nchain: _,
-        } => [0, 64, 0],
+        HashTable::Without | HashTable::SysV { .. } => [0, 64, 0],
         HashTable::Gnu {
             at,
-            buckets: _,
-            symoffset: _,
             bloomwords,
             shift,
+            ..
         } => filter_words(offset, span, at, bloomwords, shift),
     }
 }
@@ -172,60 +165,23 @@ fn put_words(table: &mut [u64], p: usize, w: [u64; 16])
     requires { p + 16 ≤ length table.old }
     ensures { table.new ≡ spliced table.old p w }
 {
-    let mut i = 0;
-    while i < 16 {
-        table[p + i] = w[i];
-        i += 1;
-    }
+    table[p..p + 16].copy_from_slice(&w);
 }
 
-// The link of object `k`, whose words are all in the table.
-fn link_in(table: &[u64], k: usize) -> Link
-    requires { 16 * k + 16 ≤ length table.now }
-    ensures { result ≡ link_at table.now k }
+// The link that these words say.
+#[tactic(auto, unfolding(crate::specs::Steps::Links::link_at))]
+fn link_of(w: &[u64]) -> Link
+    requires { 10 ≤ length w.now }
+    ensures { result ≡ link_at w.now 0 }
 {
-    let p = 16 * k;
-    let hash = hash_of(
-        table[p + 4],
-        table[p + 5],
-        table[p + 6],
-        table[p + 7],
-        table[p + 8],
-        table[p + 9],
-    );
-    let view = View {
-        symbols: table[p + 2] as usize,
-        strings: table[p + 3] as usize,
-        table: hash,
-    };
     Link {
-        offset: table[p + 0] as usize,
-        span: table[p + 1] as usize,
-        view,
-    }
-}
-
-// The same where some of its words are past the table's end.
-fn link_past(table: &[u64], k: usize) -> Link
-    ensures { result ≡ link_at table.now k }
-{
-    let hash = hash_of(
-        word(table, k, 4),
-        word(table, k, 5),
-        word(table, k, 6),
-        word(table, k, 7),
-        word(table, k, 8),
-        word(table, k, 9),
-    );
-    let view = View {
-        symbols: word(table, k, 2) as usize,
-        strings: word(table, k, 3) as usize,
-        table: hash,
-    };
-    Link {
-        offset: word(table, k, 0) as usize,
-        span: word(table, k, 1) as usize,
-        view,
+        offset: w[0] as usize,
+        span: w[1] as usize,
+        view: View {
+            symbols: w[2] as usize,
+            strings: w[3] as usize,
+            table: hash_of(w[4], w[5], w[6], w[7], w[8], w[9]),
+        },
     }
 }
 
@@ -234,9 +190,22 @@ pub fn link_at(table: &[u64], k: usize) -> Link
     ensures { result ≡ link_at table.now k }
 {
     if k < table.len() / 16 {
-        return link_in(table, k);
+        return link_of(&table[16 * k..]);
     }
-    link_past(table, k)
+    // some of its words are past the table's end
+    let w = [
+        word(table, k, 0),
+        word(table, k, 1),
+        word(table, k, 2),
+        word(table, k, 3),
+        word(table, k, 4),
+        word(table, k, 5),
+        word(table, k, 6),
+        word(table, k, 7),
+        word(table, k, 8),
+        word(table, k, 9),
+    ];
+    link_of(&w)
 }
 
 // The link of object `k` becomes `s`; a table that has no room for it stays as it is.

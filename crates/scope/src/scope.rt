@@ -6,21 +6,19 @@ ghost use Rattle.scope.specs.Steps.Links.{word_at, link_at, links_from, count_in
 ghost use Rattle.scope.specs.Steps.ScopeCode.{answer_at, Lacks, link_answer, own_answer, scan_links, resolve_links, resolve_copy_links};
 
 use crate::links::Link;
-use object::hash_tables::{Definition, Exported};
+use object::hash_tables::Definition;
+use words::word::Word;
 
-// What a search yields: the object that has the name, its definition and address; or absence.
+// What a search yields: the object that has the name, its definition and address.
 #[derive(Clone, Copy)]
-pub enum Resolved {
-    Absent,
-    Found {
-        object: usize,
-        definition: Definition,
-        address: u64,
-    },
+pub struct Found {
+    pub object: usize,
+    pub definition: Definition,
+    pub address: u64,
 }
 
 // What the object at a link has for a name, whose hashes are given.
-pub fn answer_at(arena: &[u8], s: Link, name: &[u8], gnu: u32, elf: u32) -> Exported
+pub fn answer_at(arena: &[u8], s: Link, name: &[u8], gnu: u32, elf: u32) -> Option<Definition>
     ensures { result ≡ answer_at arena.now s name.now gnu elf }
 {
     let view = s.view;
@@ -33,14 +31,16 @@ pub fn answer_at(arena: &[u8], s: Link, name: &[u8], gnu: u32, elf: u32) -> Expo
     )
 }
 
-// The System V hash of a name, where object `k` has a System V table; else 0, since no other table asks for it.
-fn elf_for(table: &[u64], k: usize, name: &[u8]) -> u32
-    ensures { word_at table.now k 4 ≡ 1 → result ≡ elf_hash name.now }
+// The System V hash of a name, where it was made before or object `k` has a System V table; else 0, since no other table asks for it.
+fn elf_for(table: &[u64], k: usize, name: &[u8], made: u32) -> u32
+    requires { (made ≡ 0 → ⊥) → made ≡ elf_hash name.now }
+    ensures asked { word_at table.now k 4 ≡ 1 → result ≡ elf_hash name.now }
+    ensures made { (result ≡ 0 → ⊥) → result ≡ elf_hash name.now }
 {
-    if crate::links::word(table, k, 4) == 1 {
+    if made == 0 && crate::links::word(table, k, 4) == 1 {
         return words::hash::elf_hash(name);
     }
-    0
+    made
 }
 
 // Where the bloom word of a GNU hash stands among 2^bits of them.
@@ -65,33 +65,13 @@ fn rules_out(arena: &[u8], last: u64, table: &[u64], k: usize, gnu: u32) -> bool
     if last < at {
         return false;
     }
-    let w = words::bytes::u64_in(arena, at as usize);
+    let w = u64::load(arena, at as usize);
     let one = (w >> (gnu % 64)) % 2;
     let two = (w >> ((gnu >> (table[p + 12] % 32)) % 64)) % 2;
     if one + two == 2 {
         return false;
     }
     true
-}
-
-// An object from `start` on, or one past the last: the bloom filter of each one before it rules out every name with this GNU hash.
-fn candidate(arena: &[u8], table: &[u64], start: usize, gnu: u32) -> usize
-    requires { Filtered table.now }
-    ensures { (start ≤ result) × ((k : ℕ) → start ≤ k → k < result → Lacks arena.now (link_at table.now k) gnu) }
-{
-    if arena.len() < 8 {
-        return start;
-    }
-    let last = (arena.len() - 8) as u64;
-    let count = crate::links::count_in(table);
-    let mut k = start;
-    while k < count {
-        if !rules_out(arena, last, table, k, gnu) {
-            return k;
-        }
-        k += 1;
-    }
-    k
 }
 
 // Whether object `k` has no name with this GNU hash, as its bloom filter says; an object that is not of the set is not looked at.
@@ -109,119 +89,95 @@ fn ruled_out(arena: &[u8], table: &[u64], k: usize, gnu: u32) -> bool
 }
 
 // The answer of object `k`.
-fn link_answer(arena: &[u8], table: &[u64], k: usize, name: &[u8], gnu: u32, elf: u32) -> Resolved
+fn link_answer(
+    arena: &[u8],
+    table: &[u64],
+    k: usize,
+    name: &[u8],
+    gnu: u32,
+    elf: u32,
+) -> Option<Found>
     requires { Filtered table.now }
     ensures { result ≡ link_answer (address_in table.now) arena.now k (link_at table.now k) name.now gnu elf }
 {
     let s = crate::links::link_at(table, k);
-    let a = answer_at(arena, s, name, gnu, elf);
-    let Exported::Present(d) = a else {
-        return Resolved::Absent;
-    };
-    let base = words::bytes::sum_u64(crate::links::address_in(table), s.offset as u64);
-    Resolved::Found {
+    let definition = answer_at(arena, s, name, gnu, elf)?;
+    let base = crate::links::address_in(table).wrapping_add(s.offset as u64);
+    Some(Found {
         object: k,
-        definition: d,
-        address: object::hash_tables::address_of(base, d),
-    }
+        definition,
+        address: object::hash_tables::address_of(base, definition),
+    })
 }
 
 // The answer of object `k`, if its definition is protected.
-fn own_answer(arena: &[u8], table: &[u64], k: usize, name: &[u8], gnu: u32, elf: u32) -> Resolved
+fn own_answer(
+    arena: &[u8],
+    table: &[u64],
+    k: usize,
+    name: &[u8],
+    gnu: u32,
+    elf: u32,
+) -> Option<Found>
     requires { Filtered table.now }
     ensures { result ≡ own_answer (address_in table.now) arena.now k (link_at table.now k) name.now gnu elf }
 {
     if ruled_out(arena, table, k, gnu) {
-        return Resolved::Absent;
+        return None;
     }
-    let s = crate::links::link_at(table, k);
-    let a = answer_at(arena, s, name, gnu, elf);
-    let Exported::Present(d) = a else {
-        return Resolved::Absent;
-    };
-    if d.protected {
-        let base = words::bytes::sum_u64(crate::links::address_in(table), s.offset as u64);
-        return Resolved::Found {
-            object: k,
-            definition: d,
-            address: object::hash_tables::address_of(base, d),
-        };
-    }
-    Resolved::Absent
+    link_answer(arena, table, k, name, gnu, elf).filter(|found| found.definition.protected)
 }
 
-// The first answer of the objects from `start` on for a name whose hashes are given.
-fn scan_hashed(
-    arena: &[u8],
-    table: &[u64],
-    start: usize,
-    name: &[u8],
-    gnu: u32,
-    elf: u32,
-) -> Resolved
-    requires { Filtered table.now }
-    ensures { result ≡ scan_links (address_in table.now) arena.now start (links_from table.now start (count_in table.now - start)) name.now gnu elf }
-{
-    let count = crate::links::count_in(table);
-    let mut k = start;
-    while k < count {
-        let a = link_answer(arena, table, k, name, gnu, elf);
-        let Resolved::Absent = a else {
-            return a;
-        };
-        k = candidate(arena, table, k + 1, gnu);
-    }
-    Resolved::Absent
-}
-
-// The same for a name whose GNU hash is given: its System V hash is made at the first object that has a System V table.
-fn scan(arena: &[u8], table: &[u64], start: usize, name: &[u8], gnu: u32) -> Resolved
+// The first answer of the objects from `start` on for a name whose GNU hash is given. Its System V hash is made at the first object that has
+// a System V table.
+fn scan(arena: &[u8], table: &[u64], start: usize, name: &[u8], gnu: u32) -> Option<Found>
     requires { Filtered table.now }
     ensures { result ≡ scan_links (address_in table.now) arena.now start (links_from table.now start (count_in table.now - start)) name.now gnu (elf_hash name.now) }
 {
-    let count = crate::links::count_in(table);
-    let mut k = candidate(arena, table, start, gnu);
-    while k < count {
-        if crate::links::word(table, k, 4) == 1 {
-            let elf = words::hash::elf_hash(name);
-            return scan_hashed(arena, table, k, name, gnu, elf);
+    let mut elf = 0;
+    for k in start..crate::links::count_in(table) {
+        if ruled_out(arena, table, k, gnu) {
+            continue;
         }
-        let a = link_answer(arena, table, k, name, gnu, 0);
-        let Resolved::Absent = a else {
-            return a;
-        };
-        k = candidate(arena, table, k + 1, gnu);
+        elf = elf_for(table, k, name, elf);
+        let found = link_answer(arena, table, k, name, gnu, elf);
+        if found.is_some() {
+            return found;
+        }
     }
-    Resolved::Absent
+    None
+}
+
+// The host's answer.
+fn host_answer(arena: &[u8], table: &[u64], name: &[u8], gnu: u32) -> Option<Found>
+    requires { Filtered table.now }
+    ensures { result ≡ link_answer (address_in table.now) arena.now 0 (link_at table.now 0) name.now gnu (elf_hash name.now) }
+{
+    let elf = elf_for(table, 0, name, 0);
+    link_answer(arena, table, 0, name, gnu, elf)
 }
 
 // The answer for a name, whose GNU hash is given: a protected definition of the requester, else program, libraries in list order, host.
-pub fn resolve(arena: &[u8], table: &[u64], requester: usize, name: &[u8], gnu: u32) -> Resolved
+pub fn resolve(
+    arena: &[u8],
+    table: &[u64],
+    requester: usize,
+    name: &[u8],
+    gnu: u32,
+) -> Option<Found>
     requires { Filtered table.now }
     ensures { result ≡ resolve_links arena.now table.now requester name.now gnu (elf_hash name.now) }
 {
-    let elf = elf_for(table, requester, name);
-    let own = own_answer(arena, table, requester, name, gnu, elf);
-    let Resolved::Absent = own else {
-        return own;
-    };
-    let a = scan(arena, table, 1, name, gnu);
-    let Resolved::Absent = a else {
-        return a;
-    };
-    let elf0 = elf_for(table, 0, name);
-    link_answer(arena, table, 0, name, gnu, elf0)
+    let elf = elf_for(table, requester, name, 0);
+    own_answer(arena, table, requester, name, gnu, elf)
+        .or_else(|| scan(arena, table, 1, name, gnu))
+        .or_else(|| host_answer(arena, table, name, gnu))
 }
 
 // COPY's answer for a name: libraries in list order, then host.
-pub fn resolve_copy(arena: &[u8], table: &[u64], name: &[u8], gnu: u32) -> Resolved
+pub fn resolve_copy(arena: &[u8], table: &[u64], name: &[u8], gnu: u32) -> Option<Found>
     requires { Filtered table.now }
     ensures { result ≡ resolve_copy_links arena.now table.now name.now gnu (elf_hash name.now) }
 {
-    let a = scan(arena, table, 2, name, gnu);
-    let Resolved::Absent = a else {
-        return a;
-    };
-    let elf0 = elf_for(table, 0, name);
-    link_answer(arena, table, 0, name, gnu, elf0)
+    scan(arena, table, 2, name, gnu).or_else(|| host_answer(arena, table, name, gnu))
 }

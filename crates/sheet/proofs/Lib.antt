@@ -1,5 +1,5 @@
 -- What the proofs of this crate rest on, for them and for the crates above.
 pub mod SheetLaws
-pub mod PartLaws
+pub mod ObjectLaws
 pub mod SheetCases
 pub mod SheetLonger

@@ -1,14 +1,16 @@
 -- What the loop of `sheet_ok` over the sheet's words cites, and what a sheet that is not refused tells. Assumes nothing.
 use Prim.Native.Nat.{ℕ, ◌+◌, ◌-◌, ◌≤◌, ◌<◌}
-use mathlib.Core.Bool.{Bool, true, false}
-use mathlib.Core.Path.{◌≡◌, refl, sym, ap, ◌∙◌}
+use mathlib.Core.Bool.{true, false}
+use mathlib.Core.Path.{◌≡◌, refl, ap, ◌∙◌}
 use mathlib.Core.List.{List, [], ◌∷◌}
 use native.Mathlib.Omega.{arith}
 use native.Mathlib.Numerals.{add-one}
 use lib.Dec.{leb, eqb}
-use lib.ListN.{length, drop, get_or, drop_of_length-le}
-use lib.Seq.{drop-cons}
-use borrow.Author.Tests.{eq-eqb, le-leb, leb-true, eqb-true}
+use lib.ListN.{length, take, drop, get_or}
+use lib.Seq.{drop-cons, take_all}
+use borrow.Author.Tests.{leb-true, eqb-true}
+use Rattle.std.specs.List.{sum_by}
+use Rattle.std.proofs.lemmas.List.Sums.{sum_by-cons}
 use Rattle.words.specs.Choice.{both}
 use Rattle.words.proofs.Choice.{both_true}
 use Rattle.sheet.specs.Sheet.{kind_of, length_in, pair_ok, lib_words, total, sheet_ok}
@@ -28,48 +30,39 @@ sheet_short [] n h = refl
 sheet_short (x ∷ []) n h = refl
 sheet_short (x ∷ (y ∷ xs)) n h = absurd (omega arith)
 
+-- what follows the first two words
+abbrev pub after_two : List ℕ → List ℕ
+after_two xs = take (length xs - 2) (drop 2 xs)
+
+pub after_two_is : (x y : ℕ) (ws : List ℕ) → after_two (x ∷ (y ∷ ws)) ≡ ws
+after_two_is x y ws = take_all (length (x ∷ (y ∷ ws)) - 2) ws (omega arith)
+
 -- a sheet of two words or more
 pub sheet_is : (xs : List ℕ) (n : ℕ) → 2 ≤ length xs
-    → sheet_ok xs n ≡ both (eqb (kind_of (get_or xs 0 0)) 1) (both (eqb (kind_of (get_or xs 1 0)) 2) (both (leb (length xs - 2) 124)
-    (both (lib_words (drop 2 xs)) (eqb (length_in (get_or xs 0 0) + (length_in (get_or xs 1 0) + total (drop 2 xs))) n))))
-unfolding sheet_ok total
+    → sheet_ok xs n ≡ both (eqb (kind_of (get_or xs 0 0)) 1) (both (eqb (kind_of (get_or xs 1 0)) 2) (both (leb (length (after_two xs)) 124)
+    (both (lib_words (after_two xs)) (eqb (total xs) n))))
+unfolding sheet_ok
 sheet_is [] n h = absurd (omega arith)
 sheet_is (x ∷ []) n h = absurd (omega arith)
-sheet_is (x ∷ (y ∷ xs)) n h =
-    let e : length (x ∷ (y ∷ xs)) - 2 ≡ length xs = omega arith in
-    rw e
+sheet_is (x ∷ (y ∷ xs)) n h = rw (after_two_is x y xs)
 
--- what is left to test from word i on
-abbrev pub left_ok : List ℕ → ℕ → ℕ → ℕ → Bool
-left_ok xs i sum n = both (lib_words (drop i xs)) (eqb (sum + total (drop i xs)) n)
-
-pub sheet_start : (xs : List ℕ) (n h p : ℕ) → 2 ≤ length xs → kind_of (get_or xs 0 0) ≡ 1 → kind_of (get_or xs 1 0) ≡ 2 → length xs ≤ 126
-    → h ≡ length_in (get_or xs 0 0) → p ≡ length_in (get_or xs 1 0) → left_ok xs 2 (h + p) n ≡ sheet_ok xs n
-sheet_start xs n h p l e0 e1 m eh ep =
-    let s : length_in (get_or xs 0 0) + (length_in (get_or xs 1 0) + total (drop 2 xs)) ≡ h + p + total (drop 2 xs) = omega arith in
-    sym (sheet_is xs n l ∙ rw (eq-eqb _ _ e0, eq-eqb _ _ e1, le-leb (length xs - 2) 124 (omega arith), s))
-
-pub left_odd : (xs : List ℕ) (i sum n : ℕ) → i < length xs → length xs - i < 2 → left_ok xs i sum n ≡ false
+-- the words of a library, and those of the others
+pub libs_next : (xs : List ℕ) → 2 ≤ length xs → lib_words xs ≡ both (pair_ok (get_or xs 0 0) (get_or xs 1 0)) (lib_words (after_two xs))
 unfolding lib_words
-left_odd xs i sum n h l =
-    rw (drop_next xs i 0 h, drop_of_length-le xs {i = i + 1} (omega arith))
+libs_next [] h = absurd (omega arith)
+libs_next (x ∷ []) h = absurd (omega arith)
+libs_next (x ∷ (y ∷ xs)) h = rw (after_two_is x y xs)
 
-pub left_bad : (xs : List ℕ) (i sum n : ℕ) → i + 2 ≤ length xs → pair_ok (get_or xs i 0) (get_or xs (i + 1) 0) ≡ false → left_ok xs i sum n ≡ false
+pub libs_end : (xs : List ℕ) → length xs < 2 → lib_words xs ≡ eqb (length xs) 0
 unfolding lib_words
-left_bad xs i sum n h e = rw (pair_at xs i h, e)
+libs_end [] h = refl
+libs_end (x ∷ []) h = refl
+libs_end (x ∷ (y ∷ xs)) h = absurd (omega arith)
 
-pub left_more : (xs : List ℕ) (i sum n a b : ℕ) → i + 2 ≤ length xs → pair_ok (get_or xs i 0) (get_or xs (i + 1) 0) ≡ true
-    → a ≡ length_in (get_or xs i 0) → b ≡ length_in (get_or xs (i + 1) 0) → left_ok xs (i + 2) (sum + a + b) n ≡ left_ok xs i sum n
-unfolding lib_words total
-left_more xs i sum n a b h e ea eb =
-    let s : sum + a + b + total (drop (i + 2) xs) ≡ sum + (length_in (get_or xs i 0) + (length_in (get_or xs (i + 1) 0) + total (drop (i + 2) xs))) = omega arith in
-    rw (pair_at xs i h, e, s)
-
-pub left_end : (xs : List ℕ) (i sum n : ℕ) (t : Bool) → length xs ≤ i → eqb sum n ≡ t → left_ok xs i sum n ≡ t
-unfolding lib_words total
-left_end xs i sum n t h e =
-    let z : sum + 0 ≡ sum = omega arith in
-    rw (drop_of_length-le xs {i = i} h, z, e)
+pub total_is : (xs : List ℕ) → sum_by length_in xs ≡ total xs
+unfolding total
+total_is [] = refl
+total_is (x ∷ xs) = sum_by-cons length_in x xs ∙ ap (λ (n : ℕ). length_in x + n) (total_is xs)
 
 -- what a sheet that is not refused tells
 pub record Told (xs : List ℕ) (n : ℕ) : Type 0 where

@@ -1,8 +1,10 @@
 -- What is handed in. Document 01, "What is handed in (added)", and of "Refused, in checking order" the numbers 1, 2 and 3.
 -- Sums are natural numbers, so none wraps. Assumes nothing.
-use Rattle.std.specs.Prelude.{ℕ, zero, suc, ◌+◌, ◌*◌, ◌/◌, ◌%◌, ◌^◌, Bool, true, false, List, [], ◌∷◌, leb, eqb, length, take, drop, get_or}
+use Rattle.std.specs.Prelude.{ℕ, zero, suc, Result, Ok, Err, ◌+◌, ◌*◌, ◌/◌, ◌%◌, ◌^◌, Bool, true, false, List, [], ◌∷◌, leb, eqb, length, take, drop, get_or}
 use Rattle.words.specs.Choice.{pick, both, some}
 use Rattle.words.specs.Names.{same_bytes}
+use Rattle.words.specs.declared.refusal.Refusal.{Refusal}
+use Rattle.words.specs.declared.refusal.Refusal.TheVariants as refusals
 
 -- "A sheet of 32-bit words; the top four bits are the kind, the low 28 a length in bytes."
 abbrev pub kind_of : ℕ → ℕ
@@ -63,6 +65,10 @@ inputs_of (h ∷ (p ∷ ps)) = record { file = h; name = [] } ∷ (record { file
 -- the set of a sheet and a byte slice: its objects, by number
 abbrev pub set_of : List ℕ → List ℕ → List Input
 set_of sheet bytes = inputs_of (cut sheet bytes)
+
+-- that set, or refusal 1
+abbrev pub handed_in : List ℕ → List ℕ → Result (List Input) Refusal
+handed_in sheet bytes = pick (sheet_ok sheet (length bytes)) (Ok (set_of sheet bytes)) (Err refusals.Sheet)
 
 -- Refusal 2: "Arena address not a multiple of 4,096, arena over 2^28 bytes, or their sum over 2^63." True where it is not met.
 unfoldable pub arena_ok : ℕ → ℕ → Bool

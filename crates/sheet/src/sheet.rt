@@ -1,26 +1,39 @@
 // What is handed in: the sheet and its byte slice, the arena's place, and refusals 1, 2 and 3.
-ghost use Rattle.std.specs.Prelude.{◌≡◌, List, ℕ, ◌≤◌, ◌<◌, length, take, drop, get_or};
-ghost use Rattle.sheet.specs.Sheet.{kind_of, length_in, pair_ok, sheet_ok, set_of, arena_ok, no_input, named, duplicate_of};
-ghost use Rattle.sheet.specs.Steps.Parts.{no_part, input_in, inputs_in, Tabled};
+ghost use Rattle.std.specs.Prelude.{◌≡◌, ◌≤◌, ◌<◌, length, take, drop, map, leb, get_or, IfSome, IfOk, Some, None};
+ghost use Rattle.std.specs.List.{list_any, sum_by};
+ghost use Rattle.words.specs.Names.{same_bytes};
+ghost use Rattle.sheet.specs.Sheet.{kind_of, length_in, pair_ok, lib_words, total, sheet_ok, set_of, handed_in, arena_ok, no_input};
+ghost use Rattle.sheet.specs.Steps.Objects.{duplicate_in, input_of};
+ghost use Rattle.words.specs.Choice.{pick};
 
-// Where an object's file and name lie in the byte slice.
+use std::marker::Model;
+use words::refusal::Refusal;
+
+// An object as it is handed in: its file, the host's being its image, and its name; host and program have none.
 #[derive(Clone, Copy)]
-pub struct Part {
-    // the file's first byte
-    pub at: usize,
-    // how many bytes the file has
-    pub len: usize,
-    // the name's first byte
-    pub name: usize,
-    // how many bytes the name has; host and program have none
-    pub chars: usize,
+pub struct Object<'a> {
+    pub file: &'a [u8],
+    pub name: &'a [u8],
 }
 
-// The parts of a set's objects, by number: the first `count` of `list`.
-#[derive(Clone, Copy)]
-pub struct Parts {
-    pub list: [Part; 64],
-    pub count: usize,
+// A set of at most 64 objects, by number; as a sheet hands it in, host, program and at most 62 libraries. Its array and its count are private to
+// it: callers see a list.
+#[derive(Drop)]
+pub struct Set<'a> {
+    objects: [Object<'a>; 64],
+    count: usize,
+}
+
+impl<'a> Model for Set<'a> {
+    ghost use Rattle.std.specs.Prelude.{List, length, map, take, ◌≤◌, ◌≡◌};
+    ghost use Rattle.sheet.specs.Sheet.{Input};
+    ghost use Rattle.sheet.specs.Steps.Objects.{input_of};
+
+    ghost Value = { List Input };
+
+    ghost view = { λ s. map input_of (take s.count s.objects) };
+
+    ghost invariant = { λ s. (s.count ≤ 64) × (length s.objects ≡ 64) };
 }
 
 fn kind(w: u32) -> u32
@@ -40,215 +53,171 @@ fn size(w: u32) -> usize
 fn pair_ok(f: u32, n: u32) -> bool
     ensures { result ≡ pair_ok f n }
 {
-    if kind(f) != 3 {
-        return false;
+    kind(f) == 3 && kind(n) == 4 && 1 <= size(n) && size(n) <= 255
+}
+
+// Whether the words are those of libraries, two by two.
+fn libs_ok(libraries: &[u32]) -> bool
+    ensures { result ≡ lib_words libraries.now }
+{
+    let mut rest = libraries;
+    while let [f, n, others @ ..] = rest {
+        if !pair_ok(*f, *n) {
+            return false;
+        }
+        rest = others;
     }
-    if kind(n) != 4 {
-        return false;
-    }
-    let c = size(n);
-    if c < 1 {
-        return false;
-    }
-    if 255 < c {
-        return false;
-    }
-    true
+    rest.is_empty()
+}
+
+// How many bytes the words name.
+fn total(words: &[u32]) -> usize
+    requires { length words.now ≤ 126 }
+    ensures { result ≡ sum_by length_in words.now }
+{
+    words.iter().map(|w| size(*w)).sum()
 }
 
 // Whether refusal 1 is not met; `n` is the byte slice's length.
+#[tactic(auto, using(crate::proofs::SheetLaws::sheet_short, crate::proofs::SheetLaws::sheet_is, crate::proofs::SheetLaws::total_is))]
 pub fn sheet_ok(sheet: &[u32], n: usize) -> bool
     ensures { result ≡ sheet_ok sheet.now n }
 {
-    let words = sheet.len();
-    if words < 2 {
+    let [host, program, libraries @ ..] = sheet else {
         return false;
-    }
-    if kind(sheet[0]) != 1 {
-        return false;
-    }
-    if kind(sheet[1]) != 2 {
-        return false;
-    }
-    if 126 < words {
-        return false;
-    }
-    let mut sum = size(sheet[0]) + size(sheet[1]);
-    let mut i = 2;
-    while i < words {
-        if words - i < 2 {
-            return false;
-        }
-        if pair_ok(sheet[i], sheet[i + 1]) {
-            sum = sum + size(sheet[i]) + size(sheet[i + 1]);
-            i += 2;
-        } else {
-            return false;
-        }
-    }
-    if sum != n {
-        return false;
-    }
-    true
+    };
+    kind(*host) == 1
+        && kind(*program) == 2
+        && libraries.len() <= 124
+        && libs_ok(libraries)
+        && total(sheet) == n
 }
 
 // Whether refusal 2 is not met.
+#[tactic(auto, unfolding(crate::specs::Sheet::arena_ok))]
 pub fn arena_ok(size: usize, address: u64) -> bool
     ensures { result ≡ arena_ok size address }
 {
-    if address % 4096 != 0 {
-        return false;
-    }
-    if 0x1000_0000 < size {
-        return false;
-    }
-    if 0x8000_0000_0000_0000 - (size as u64) < address {
-        return false;
-    }
-    true
+    address % 4096 == 0 && size <= 0x1000_0000 && address <= 0x8000_0000_0000_0000 - size as u64
 }
 
-// What is no object's: no bytes, and no name.
-fn no_part() -> Part
-    ensures { result ≡ no_part }
+// The objects of a sheet that is not refused: its byte slice, cut.
+fn cut<'a>(sheet: &[u32], bytes: &'a [u8]) -> Set<'a>
+    requires { (2 ≤ length sheet.now) × (length sheet.now ≤ 126) × (total sheet.now ≡ length bytes.now) }
+    ensures is { result ≡ set_of sheet.now bytes.now }
+    ensures two { 2 ≤ length result }
 {
-    Part {
-        at: 0,
-        len: 0,
-        name: 0,
-        chars: 0,
-    }
-}
-
-// A table of no object.
-fn no_parts() -> Parts
-    ensures { (result.count ≡ 0) × (length result.list ≡ 64) }
-{
-    let none = no_part();
-    Parts {
-        list: [none; 64],
-        count: 0,
-    }
-}
-
-// The table of a sheet that has host and program and at most 62 libraries.
-fn table_of(sheet: &[u32]) -> Parts
-    requires { (2 ≤ length sheet.now) × (length sheet.now ≤ 126) }
-    ensures same { (bytes : List ℕ) → inputs_in bytes result ≡ set_of sheet.now bytes }
-    ensures fits { (result.count ≤ 64) × (result.count ≤ length result.list) }
-{
-    let none = no_parts();
-    let mut list = none.list;
-    let h = size(sheet[0]);
-    let p = size(sheet[1]);
-    list[0] = Part {
-        at: 0,
-        len: h,
-        name: 0,
-        chars: 0,
+    let none = Object {
+        file: &[],
+        name: &[],
     };
-    list[1] = Part {
-        at: h,
-        len: p,
-        name: 0,
-        chars: 0,
-    };
-    let mut at = h + p;
-    let mut i = 2;
-    let mut k = 2;
-    while i + 1 < sheet.len() {
-        let f = size(sheet[i]);
-        let n = size(sheet[i + 1]);
-        list[k] = Part {
-            at: at,
-            len: f,
-            name: at + f,
-            chars: n,
+    let mut objects = [none; 64];
+    let (host, rest) = bytes.split_at(size(sheet[0]));
+    let (program, rest) = rest.split_at(size(sheet[1]));
+    objects[0].file = host;
+    objects[1].file = program;
+    let mut count = 2;
+    let mut rest = rest;
+    let mut words = &sheet[2..];
+    while let [f, n, others @ ..] = words {
+        let (file, after) = rest.split_at(size(*f));
+        let (name, after) = after.split_at(size(*n));
+        objects[count] = Object { file, name };
+        count += 1;
+        rest = after;
+        words = others;
+    }
+    Set { objects, count }
+}
+
+impl<'a> Set<'a> {
+    // The set of a sheet and its byte slice, or refusal 1.
+    pub fn of(sheet: &[u32], bytes: &'a [u8]) -> Result<Set<'a>, Refusal>
+        ensures is { result ≡ handed_in sheet.now bytes.now }
+        ensures two { IfOk result (λ os. 2 ≤ length os) }
+    {
+        if !sheet_ok(sheet, bytes.len()) {
+            return Err(Refusal::Sheet);
+        }
+        Ok(cut(sheet, bytes))
+    }
+
+    // The set of these objects; none where there are more than 64.
+    pub fn from_objects(objects: &[Object<'a>]) -> Option<Set<'a>>
+        ensures { result ≡ pick (leb (length objects.now) 64) (Some (map input_of objects.now)) None }
+    {
+        if 64 < objects.len() {
+            return None;
+        }
+        let none = Object {
+            file: &[],
+            name: &[],
         };
-        at = at + f + n;
-        i += 2;
-        k += 1;
+        let count = objects.len();
+        let mut all = [none; 64];
+        all[..count].copy_from_slice(objects);
+        Some(Set {
+            objects: all,
+            count,
+        })
     }
-    Parts { list, count: k }
+
+    // How many objects it has.
+    pub fn len(&self) -> usize
+        ensures is { result ≡ length self.now }
+        ensures high { result ≤ 64 }
+    {
+        self.count
+    }
+
+    // The file of object k; empty where there is no such object.
+    pub fn file(&self, k: usize) -> &'a [u8]
+        ensures { result.now ≡ (get_or self.now k no_input).file }
+    {
+        if k < self.count {
+            self.objects[k].file
+        } else {
+            &[]
+        }
+    }
+
+    // The name of object k, likewise.
+    pub fn name(&self, k: usize) -> &'a [u8]
+        ensures { result.now ≡ (get_or self.now k no_input).name }
+    {
+        if k < self.count {
+            self.objects[k].name
+        } else {
+            &[]
+        }
+    }
+
+    // Refusal 3: the first library whose name an earlier one has.
+    pub fn duplicate(&self) -> Option<usize>
+        ensures is { result ≡ duplicate_in self.now }
+        ensures few { IfSome result (λ k. k < 64) }
+    {
+        let objects = &self.objects[..self.count];
+        for k in 2..objects.len() {
+            if has_name(&objects[2..k], objects[k].name) {
+                return Some(k);
+            }
+        }
+        None
+    }
 }
 
-// Where the files and names of a sheet lie in its byte slice of `n` bytes; of a refused sheet, no object.
-pub fn parts_of(sheet: &[u32], n: usize) -> Parts
-    ensures { Tabled sheet.now n result }
+// Whether one of the objects has this name.
+fn has_name(objects: &[Object], name: &[u8]) -> bool
+    ensures { result ≡ list_any (λ o. same_bytes name.now o.name.now) objects.now }
 {
-    if sheet_ok(sheet, n) {
-        return table_of(sheet);
-    }
-    no_parts()
+    objects.iter().any(|o| words::names::same(name, o.name))
 }
 
 // The `len` bytes from `at`, as far as there are any.
 pub fn part_of<'a>(bytes: &'a [u8], at: usize, len: usize) -> &'a [u8]
     ensures { result.now ≡ take len (drop at bytes.now) }
 {
-    let n = bytes.len();
-    let start = words::bytes::smaller(at, n);
-    let end = words::bytes::place(n, start, len);
-    &bytes[start..end]
-}
-
-// The part of object k of a table; an empty one where there is no such object.
-fn part_at(parts: Parts, k: usize) -> Part
-    ensures { (bytes : List ℕ) → input_in bytes result ≡ get_or (inputs_in bytes parts) k no_input }
-{
-    if parts.count <= k {
-        return no_part();
-    }
-    if 64 <= k {
-        return no_part();
-    }
-    parts.list[k]
-}
-
-// The file of object k of a table, as the part of the byte slice; empty where there is no such object.
-pub fn file_of<'a>(bytes: &'a [u8], parts: Parts, k: usize) -> &'a [u8]
-    ensures { result.now ≡ (get_or (inputs_in bytes.now parts) k no_input).file }
-{
-    let q = part_at(parts, k);
-    part_of(bytes, q.at, q.len)
-}
-
-// The name of object k of a table, likewise.
-pub fn name_of<'a>(bytes: &'a [u8], parts: Parts, k: usize) -> &'a [u8]
-    ensures { result.now ≡ (get_or (inputs_in bytes.now parts) k no_input).name }
-{
-    let q = part_at(parts, k);
-    part_of(bytes, q.name, q.chars)
-}
-
-// Whether a library before object k has this name.
-fn named_before(bytes: &[u8], parts: Parts, k: usize, name: &[u8]) -> bool
-    requires { (k ≤ 64) × (k ≤ parts.count) }
-    ensures { result ≡ named name.now (drop 2 (take k (inputs_in bytes.now parts))) }
-{
-    let list = parts.list;
-    let mut j = 2;
-    while j < k {
-        let q = list[j];
-        if words::names::same(name, part_of(bytes, q.name, q.chars)) {
-            return true;
-        }
-        j += 1;
-    }
-    false
-}
-
-// Refusal 3: the first library whose name an earlier one has, or 0.
-pub fn duplicate(bytes: &[u8], parts: Parts) -> usize
-    ensures { (result ≡ duplicate_of (inputs_in bytes.now parts)) × (result < 64) }
-{
-    let count = words::bytes::smaller(parts.count, 64);
-    let mut k = 2;
-    while k < count {
-        if named_before(bytes, parts, k, name_of(bytes, parts, k)) {
-            return k;
-        }
-        k += 1;
-    }
-    0
+    let rest = &bytes[at.min(bytes.len())..];
+    &rest[..len.min(rest.len())]
 }

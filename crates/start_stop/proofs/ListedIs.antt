@@ -10,24 +10,23 @@ use lib.Dec.{eqb, leb}
 use lib.ListN.{length, get_or, replicate}
 use Rattle.words.proofs.Choice.{both_true}
 use Rattle.model.proofs.OrderLaws.{decide}
-use Rattle.binder.specs.declared.Verdict.{Verdict}
-use Rattle.binder.specs.declared.Verdict.TheVariants.{Passed, Refused}
-use Rattle.binder.specs.Verdict.{first}
+use Rattle.binder.specs.Verdict.{Verdict, passed, refused, first}
 use Rattle.binder.specs.Bind as bind
 use Rattle.binder.specs.Bind.{unless}
 use Rattle.binder.proofs.OutcomeLaws.{first_passed, unless_passed}
 use Rattle.start_stop.specs.StartStop as defs
-use Rattle.start_stop.specs.StartStop.{Array, Calls, words_of, starts_of, stops_of, in_turn, start_list, stop_list, in_span, arrays_ok, arrays_verdict, lists_verdict, listing_of, list_by}
+use Rattle.start_stop.specs.StartStop.{counted, Array, Calls, words_of, starts_of, stops_of, in_turn, start_list, stop_list, in_span, arrays_ok, arrays_verdict, lists_verdict, listing_of, list_by}
 use Rattle.start_stop.specs.Steps.Rows.{row_at, calls_at, AllFew, InOrder}
 use Rattle.start_stop.specs.Steps.Listed as listed
 use Rattle.start_stop.specs.Steps.Listed.{Put, finished_of, ListsMade}
-use Rattle.start_stop.specs.declared.Lists as lists
+use Rattle.std.proofs.Common.{is_err, true≢false, Ok, Err, true, false, replicate, refl, sym}
+use Rattle.start_stop.specs.declared.Counts.{Counts}
 use Rattle.start_stop.proofs.ListLaws.{put_zeros}
 
 -- ---- refusal 26 was passed
 
 pub passed_at :
-    (calls : ℕ → Calls) (order : List ℕ) (i : ℕ) → arrays_verdict calls order ≡ Passed → i < length order
+    (calls : ℕ → Calls) (order : List ℕ) (i : ℕ) → arrays_verdict calls order ≡ passed → i < length order
     → arrays_ok (get_or order i 0) (calls (get_or order i 0)) ≡ true
 unfolding defs.arrays_verdict
 passed_at calls [] i e h = absurd (omega arith)
@@ -52,7 +51,7 @@ arrays_few k c e l =
     let b = both_true (in_span c.span c.finis) _ a.1 in
     (span_few c.span c.inits a.0 l, span_few c.span c.finis b.0 l, λ z. span_few c.span c.preinits (rw (eq-eqb k 1 z) at b.1) l)
 
-module _ (arena table rows order : List ℕ) (in_order : InOrder table order) (e : arrays_verdict (calls_at arena table rows) order ≡ Passed) where
+module _ (arena table rows order : List ℕ) (in_order : InOrder table order) (e : arrays_verdict (calls_at arena table rows) order ≡ passed) where
   pub few_words : AllFew rows order
   few_words i h =
       let f = arrays_few _ _ (passed_at (calls_at arena table rows) order i e h) (in_order.spans i h) in
@@ -74,18 +73,18 @@ arrays_any a b table rows (k ∷ ks) =
 -- ---- what is answered
 
 module _ (calls : ℕ → Calls) (order arena start stop : List ℕ) where
-  pub made_refused : (n k : ℕ) → arrays_verdict calls order ≡ Refused n k → ListsMade calls order arena start stop (lists.TheVariants.Refused n k)
+  pub made_refused : (n k : ℕ) → arrays_verdict calls order ≡ refused n k → ListsMade calls order arena start stop (refused n k)
   unfolding listed.finished_of defs.list_by defs.lists_verdict defs.listing_of
   made_refused n k e report = rw e
 
-  module _ (e : arrays_verdict calls order ≡ Passed) where
-    pub start_short : length start < length (start_list calls order) → ListsMade calls order arena start stop (lists.TheVariants.Refused 27 0)
+  module _ (e : arrays_verdict calls order ≡ passed) where
+    pub start_short : length start < length (start_list calls order) → ListsMade calls order arena start stop (refused 27 0)
     unfolding listed.finished_of defs.list_by defs.lists_verdict defs.listing_of bind.unless
     start_short l report = rw (e, lt-leb (length (start_list calls order)) (length start) l)
 
     pub stop_short :
         length (start_list calls order) ≤ length start → length stop < length (stop_list calls order)
-        → ListsMade calls order arena start stop (lists.TheVariants.Refused 27 0)
+        → ListsMade calls order arena start stop (refused 27 0)
     unfolding listed.finished_of defs.list_by defs.lists_verdict defs.listing_of bind.unless
     stop_short f l report =
         rw (e, le-leb (length (start_list calls order)) (length start) f, lt-leb (length (stop_list calls order)) (length stop) l)
@@ -93,7 +92,7 @@ module _ (calls : ℕ → Calls) (order arena start stop : List ℕ) where
     pub made_listed :
         (start₀ stop₀ : List ℕ) (n m : ℕ) → Put (start_list calls order) 0 start₀ start n → Put (stop_list calls order) 0 stop₀ stop m
         → start₀ ≡ replicate (length start₀) 0 → stop₀ ≡ replicate (length stop₀) 0 → length start ≡ length start₀ → length stop ≡ length stop₀
-        → n ≤ length start → m ≤ length stop → ListsMade calls order arena start stop (lists.TheVariants.Listed n m)
+        → n ≤ length start → m ≤ length stop → ListsMade calls order arena start stop (counted n m)
     unfolding listed.finished_of defs.list_by defs.lists_verdict defs.listing_of bind.unless
     made_listed start₀ stop₀ n m p q z y ls lt f g report =
         let a : length (start_list calls order) ≤ length start = omega (arith, p.next, f) in
@@ -111,7 +110,7 @@ module _ (calls : ℕ → Calls) (order arena start stop : List ℕ) where
       where
         same_listing :
             {x y : List ℕ} {k l : ℕ} → start ≡ x → stop ≡ y → n ≡ k → m ≡ l
-            → defs.listing (lists.TheVariants.Listed n m) arena report start stop ≡ defs.listing (lists.TheVariants.Listed k l) arena report x y
+            → defs.listing (counted n m) arena report start stop ≡ defs.listing (counted k l) arena report x y
         same_listing u v w x = cc
 
 -- ---- the same calls give the same lists
@@ -150,3 +149,25 @@ module _ (calls others : ℕ → Calls) where
       → list_by calls order starts stops arena report ≡ list_by others order starts stops arena report
   unfolding defs.list_by defs.lists_verdict
   same_lists order same one starts stops arena report = rw (same_verdict order same, same_start order same one, same_stop order same)
+
+-- ---- a refusal leaves zeros
+
+pub finish_listed :
+    (x : defs.Lists) (a r p q a' r' p' q' : List ℕ) → is_err x ≡ true → a' ≡ replicate (length a) 0 → r' ≡ replicate (length r) 0
+    → p' ≡ replicate (length p) 0 → q' ≡ replicate (length q) 0 → defs.listing x a' r' p' q' ≡ listed.finished_of x a r p q
+unfolding listed.finished_of
+finish_listed (Ok c) a r p q a' r' p' q' e f g h i = absurd (true≢false (sym e))
+finish_listed (Err d) a r p q a' r' p' q' e f g h i = rw (f, g, h, i)
+
+pub keep_listed : (x : defs.Lists) (a r p q : List ℕ) → is_err x ≡ false → defs.listing x a r p q ≡ listed.finished_of x a r p q
+unfolding listed.finished_of
+keep_listed (Ok c) a r p q e = refl
+keep_listed (Err d) a r p q e = absurd (true≢false e)
+
+-- equal counts
+pub counted_same : (n m k l : ℕ) → counted n m ≡ counted k l → (n ≡ k) × (m ≡ l)
+counted_same n m k l e = (ap (one (λ c. c.start)) e, ap (one (λ c. c.stop)) e)
+  where
+    one : (Counts → ℕ) → defs.Lists → ℕ
+    one f (Ok c) = f c
+    one f (Err r) = 0

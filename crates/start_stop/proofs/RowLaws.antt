@@ -7,10 +7,10 @@ use Prim.Native.Nat.{ℕ, zero, suc, ◌+◌, ◌-◌, ◌*◌, ◌≤◌, ◌<�
 use native.Mathlib.Omega.{arith}
 use lib.ListN.{length, get_or, take, drop, replicate, length-drop}
 use lib.Seq.{take_all}
+use Rattle.std.specs.Prelude.{Option, None}
 use Rattle.words.specs.Memory.{mem, from, write, patch}
 use Rattle.words.proofs.Slices.{mem_drop, mem_patch_at}
 use Rattle.words.proofs.Memory.{write_in, write_out}
-use Rattle.object.specs.declared.program_header.Dynamic.TheVariants.{Missing}
 use Rattle.object.specs.DynamicTags as DT
 use Rattle.object.specs.DynamicFields.{Fields}
 use Rattle.object.specs.ProgramHeader.{dynamic_of}
@@ -34,15 +34,14 @@ part_bytes arena table k s part e p =
 
 -- ---- the fields of an object
 
-zero_at : (n i : ℕ) → ◌≡◌ {A = ℕ} (get_or (replicate n 0) i 0) 0
-zero_at zero i = refl
-zero_at (suc n) zero = refl
-zero_at (suc n) (suc i) = zero_at n i
+none_at : (n i : ℕ) → ◌≡◌ {A = Option ℕ} (get_or (replicate n None) i None) None
+none_at zero i = refl
+none_at (suc n) zero = refl
+none_at (suc n) (suc i) = none_at n i
 
 -- no entry is there
-pub no_slots : (image : List ℕ) → SameFields (field_in image (replicate 38 0)) (fields_at image Missing)
-unfolding slots.slot_field
-no_slots image tag h = ap (λ (place : ℕ). slots.slot_field image place) (zero_at 38 (slot_of tag))
+pub no_slots : (image : List ℕ) → SameFields (field_in (replicate 38 None)) (fields_at image None)
+no_slots image tag h = none_at 38 (slot_of tag)
 
 -- the words of a row hang on eight fields, all of which have a slot
 pub same_word : (f g : Fields) → SameFields f g → (j : ℕ) → row_word f j ≡ row_word g j

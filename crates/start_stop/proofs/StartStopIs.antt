@@ -8,7 +8,7 @@ use native.Mathlib.Omega.{arith}
 use native.Mathlib.Decide.{dec_lt}
 use borrow.Author.Tests.{eq-eqb}
 use lib.Dec.{eqb}
-use lib.ListN.{length, get_or, take, replicate, length-append, length-replicate, length-map, get_or-append}
+use lib.ListN.{length, get_or, replicate, length-append, length-replicate, length-map, get_or-append}
 use lib.Seq.{get_or-append_seam}
 use Rattle.words.specs.Memory.{Mem, mem, from}
 use Rattle.model.specs.Objects as objects
@@ -21,19 +21,14 @@ use Rattle.object.specs.DynamicFields.{Fields}
 use Rattle.scope.specs.Steps.Links.{link_at}
 use Rattle.scope.specs.Steps.ScopeCode.{image_at}
 use Rattle.scope.specs.declared.links.Link.{Link}
-use Rattle.sheet.specs.Sheet.{Input}
-use Rattle.sheet.specs.Steps.Parts.{inputs_in, Tabled}
-use Rattle.sheet.specs.declared.sheet.Parts.{Parts}
-use Rattle.sheet.proofs.PartLaws.{handed_in_lem}
-use Rattle.binder.proofs.PrepareLaws.{sheet_passed}
+use Rattle.sheet.specs.Sheet.{Input, handed_in}
+use Rattle.std.specs.Prelude.{Result, Ok, Err}
+use Rattle.words.specs.declared.refusal.Refusal.{Refusal}
+use Rattle.sheet.proofs.ObjectLaws.{handed_good}
 use Rattle.binder.specs.declared.Policy.{Policy}
-use Rattle.binder.specs.declared.Answer as answers
-use Rattle.binder.specs.declared.Verdict.{Verdict}
-use Rattle.binder.specs.declared.Verdict.TheVariants.{Passed, Refused}
-use Rattle.binder.specs.declared.order.Order.{Order}
 use Rattle.binder.specs.Setting.{Setting}
 use Rattle.binder.specs.Instance.{File, file_image, object_from}
-use Rattle.binder.specs.Verdict.{no_file}
+use Rattle.binder.specs.Verdict.{Verdict, passed, refused, no_file}
 use Rattle.binder.specs.SetOrder.{set_order}
 use Rattle.binder.specs.Bind.{files_of, names_of, objects_of, types_verdict, outcome, bind_set}
 use Rattle.binder.specs.Steps.Relocating as relocating
@@ -49,13 +44,11 @@ use Rattle.binder.proofs.Steady.{LoadedSet}
 use Rattle.binder.proofs.Lies.{span_is, count_is}
 use Rattle.binder.proofs.SteadyLaws.{lies, starts}
 use Rattle.start_stop.specs.StartStop as defs
-use Rattle.start_stop.specs.StartStop.{Array, Calls, calls_of, calls_in, fields_at, placed_fields, list_by, refused_lists, then_list, start_stop_of}
+use Rattle.start_stop.specs.StartStop.{Lists, counted, Array, Calls, calls_of, calls_in, fields_at, placed_fields, list_by, refused_lists, then_list, start_stop_of}
 use Rattle.start_stop.specs.Steps.Rows as tables
 use Rattle.start_stop.specs.Steps.Rows.{row_at, row_word, fields_in, RowsRead, base_at, bytes_at, array_at, calls_at, InOrder}
 use Rattle.start_stop.specs.Steps.Listed as listed
 use Rattle.start_stop.specs.Steps.Listed.{finished_of, ListsMade}
-use Rattle.start_stop.specs.declared.Lists.{Lists}
-use Rattle.start_stop.specs.declared.Lists as lists
 use Rattle.start_stop.proofs.ListedIs.{same_lists}
 
 -- ---- the numbers of an order
@@ -104,7 +97,7 @@ same_array ea ec = rw (ea, ec)
 
 module _
     (setting : Setting) (size : ℕ) (table : List ℕ) (h p : Input) (ls : List Input) (arena a : List ℕ) (r : Verdict) (len : length arena ≡ size)
-    (kept : length a ≡ length arena) (made : Prepared setting (types_verdict setting) (h ∷ (p ∷ ls)) arena a table r) (z : r ≡ Passed)
+    (kept : length a ≡ length arena) (made : Prepared setting (types_verdict setting) (h ∷ (p ∷ ls)) arena a table r) (z : r ≡ passed)
     (typed : (rtype : ℕ) → relocating.row_at table rtype ≡ setting.row rtype)
   where
     abbrev fs : List File
@@ -185,17 +178,17 @@ module _
           starts stops a' report'
           ∙ ap (λ (l : List ℕ). list_by (calls_in S (host_file h ∷ (file_of p ∷ fs)) a') l starts stops a' report') same
 
--- ---- whatever objects the table of parts names
+-- ---- whatever objects the set has
 
 -- a refusal of `bind`
 pub then_refused :
-    (setting : Setting) (os : List Input) (size : ℕ) (policy : Policy) (words : ℕ) (m : Verdict) (a report start stop : List ℕ) (n k : ℕ) → m ≡ Refused n k
+    (setting : Setting) (os : List Input) (size : ℕ) (policy : Policy) (words : ℕ) (m : Verdict) (a report start stop : List ℕ) (n k : ℕ) → m ≡ refused n k
     → BoundSet setting os size policy words a report m
-    → finished_of (lists.TheVariants.Refused n k) a report start stop
+    → finished_of (refused n k) a report start stop
     ≡ then_list setting os (length start) (length stop) (bind_set setting os size policy words)
 unfolding finished.finished_of listed.finished_of defs.then_list
 then_refused setting os size policy words m a report start stop n k e b =
-    let x : outcome (answers.TheVariants.Refused n k) (replicate (length a) 0) (replicate (length report) 0) ≡ bind_set setting os size policy words = rw e at b in
+    let x : outcome (refused n k) (replicate (length a) 0) (replicate (length report) 0) ≡ bind_set setting os size policy words = rw e at b in
     let i : length {A = ℕ} (replicate (length a) 0) ≡ length a = length-replicate (length a) 0 in
     let j : length {A = ℕ} (replicate (length report) 0) ≡ length report = length-replicate (length report) 0 in
     rw (sym x, i, j)
@@ -203,72 +196,70 @@ then_refused setting os size policy words m a report start stop n k e b =
 -- the order is the set's
 pub order_of_set :
     (setting : Setting) (os : List Input) (count : ℕ) (arena a table : List ℕ) (r : Verdict) → 2 ≤ count → length os ≡ count → length a ≡ length arena
-    → Prepared setting (types_verdict setting) os arena a table r → r ≡ Passed → ((rtype : ℕ) → relocating.row_at table rtype ≡ setting.row rtype) → (order : Order) → Arranged os count a table order
-    → InOrder table (take order.count order.list)
+    → Prepared setting (types_verdict setting) os arena a table r → r ≡ passed → ((rtype : ℕ) → relocating.row_at table rtype ≡ setting.row rtype) → (order : List ℕ) → Arranged os count a table order
+    → InOrder table order
 order_of_set setting [] count arena a table r two many kept made z typed order o = absurd (omega (arith, many))
 order_of_set setting (h ∷ []) count arena a table r two many kept made z typed order o = absurd (omega (arith, many))
 order_of_set setting (h ∷ (p ∷ ls)) count arena a table r two many kept made z typed order o =
     let c : count ≡ length ls + 2 = omega (arith, many) in
-    set_in_order setting (length arena) table h p ls arena a r refl kept made z typed (take order.count order.list)
+    set_in_order setting (length arena) table h p ls arena a r refl kept made z typed order
     (binds.ordered setting (length arena) table h p ls arena a r refl kept made z typed order
     (subst (λ (n : ℕ). Arranged (h ∷ (p ∷ ls)) n a table order) c o))
 
 bound_then :
-    (setting : Setting) (os : List Input) (size : ℕ) (policy : Policy) (words starts stops : ℕ) (a report : List ℕ) (m : Verdict) → m ≡ Passed
+    (setting : Setting) (os : List Input) (size : ℕ) (policy : Policy) (words starts stops : ℕ) (a report : List ℕ) (m : Verdict) → m ≡ passed
     → BoundSet setting os size policy words a report m
     → list_by (calls_in (objects_of setting (files_of os)) (files_of os) a) (set_order (files_of os) (names_of os)) starts stops a report
     ≡ then_list setting os starts stops (bind_set setting os size policy words)
 unfolding finished.finished_of defs.then_list
-bound_then setting os size policy words starts stops a report m passed b =
-    let x : outcome answers.TheVariants.Bound a report ≡ bind_set setting os size policy words = rw passed at b in
+bound_then setting os size policy words starts stops a report m pass b =
+    let x : outcome passed a report ≡ bind_set setting os size policy words = rw pass at b in
     rw (sym x)
 
 -- the lists of what was bound
 pub then_listed :
     (setting : Setting) (os : List Input) (count : ℕ) (arena a table : List ℕ) (r : Verdict) → 2 ≤ count → length os ≡ count → length a ≡ length arena
-    → Prepared setting (types_verdict setting) os arena a table r → r ≡ Passed → ((rtype : ℕ) → relocating.row_at table rtype ≡ setting.row rtype) → (order : Order) → Arranged os count a table order
+    → Prepared setting (types_verdict setting) os arena a table r → r ≡ passed → ((rtype : ℕ) → relocating.row_at table rtype ≡ setting.row rtype) → (order : List ℕ) → Arranged os count a table order
     → (rows : List ℕ) → RowsRead os count a table rows
     → (policy : Policy) (report : List ℕ) → report ≡ replicate (length report) 0
-    → (a' report' : List ℕ) (m : Verdict) → RelocatedOr os table (take order.count order.list) a policy report a' report' m → m ≡ Passed
-    → (start stop : List ℕ) (l : Lists) → ListsMade (calls_at a' table rows) (take order.count order.list) a' start stop l
+    → (a' report' : List ℕ) (m : Verdict) → RelocatedOr os table order a policy report a' report' m → m ≡ passed
+    → (start stop : List ℕ) (l : Lists) → ListsMade (calls_at a' table rows) order a' start stop l
     → finished_of l a' report' start stop
     ≡ then_list setting os (length start) (length stop) (bind_set setting os (length arena) policy (length report))
-then_listed setting [] count arena a table r two many kept made z typed order o rows read policy report zeros a' report' m g passed start stop l lm =
+then_listed setting [] count arena a table r two many kept made z typed order o rows read policy report zeros a' report' m g pass start stop l lm =
     absurd (omega (arith, many))
-then_listed setting (h ∷ []) count arena a table r two many kept made z typed order o rows read policy report zeros a' report' m g passed start stop l lm =
+then_listed setting (h ∷ []) count arena a table r two many kept made z typed order o rows read policy report zeros a' report' m g pass start stop l lm =
     absurd (omega (arith, many))
-then_listed setting (h ∷ (p ∷ ls)) count arena a table r two many kept made z typed order o rows read policy report zeros a' report' m g passed start stop l lm =
+then_listed setting (h ∷ (p ∷ ls)) count arena a table r two many kept made z typed order o rows read policy report zeros a' report' m g pass start stop l lm =
     lm report'
-    ∙ (lists_are setting (length arena) table h p ls arena a r refl kept made z typed (take order.count order.list) same rows
+    ∙ (lists_are setting (length arena) table h p ls arena a r refl kept made z typed order same rows
     (subst (λ (n : ℕ). RowsRead (h ∷ (p ∷ ls)) n a table rows) c read) a' report' (length start) (length stop)
-    ∙ bound_then setting (h ∷ (p ∷ ls)) (length arena) policy (length report) (length start) (length stop) a' report' m passed
+    ∙ bound_then setting (h ∷ (p ∷ ls)) (length arena) policy (length report) (length start) (length stop) a' report' m pass
     (bind_is setting (h ∷ (p ∷ ls)) count arena a table r two many kept made z typed order o policy report zeros a' report' m g))
   where
     c : count ≡ length ls + 2
     c = omega (arith, many)
 
-    same : take order.count order.list ≡ set_order (files_of (h ∷ (p ∷ ls))) (names_of (h ∷ (p ∷ ls)))
+    same : order ≡ set_order (files_of (h ∷ (p ∷ ls))) (names_of (h ∷ (p ∷ ls)))
     same =
         binds.ordered setting (length arena) table h p ls arena a r refl kept made z typed order
         (subst (λ (n : ℕ). Arranged (h ∷ (p ∷ ls)) n a table order) c o)
 
 -- ---- the objects of a sheet
 
-module _ (setting : Setting) (sheet bytes : List ℕ) (size : ℕ) (p : Parts) (t : Tabled sheet (length bytes) p) (policy : Policy) (words starts stops : ℕ) where
+module _ (setting : Setting) (sheet bytes : List ℕ) (size : ℕ) {r : Result (List Input) Refusal} (t : r ≡ handed_in sheet bytes) (policy : Policy) (words starts stops : ℕ) where
   pub sheet_refused :
-      p.count < 2
+      {e : Refusal} → r ≡ Err e
       → refused_lists size words starts stops 1 0 ≡ start_stop_of setting sheet bytes size policy words starts stops
   unfolding defs.start_stop_of defs.then_list
-  sheet_refused l =
+  sheet_refused is =
       let i : length {A = ℕ} (replicate size 0) ≡ size = length-replicate size 0 in
       let j : length {A = ℕ} (replicate words 0) ≡ words = length-replicate words 0 in
-      rw (sym (binds.bind_refused setting sheet bytes size p t policy words l), i, j)
+      rw (sym (binds.bind_refused setting sheet bytes size t policy words is), i, j)
 
   pub sheet_listed :
-      2 ≤ p.count
-      → then_list setting (inputs_in bytes p) starts stops (bind_set setting (inputs_in bytes p) size policy words)
+      {os : List Input} → r ≡ Ok os
+      → then_list setting os starts stops (bind_set setting os size policy words)
       ≡ start_stop_of setting sheet bytes size policy words starts stops
   unfolding defs.start_stop_of
-  sheet_listed l =
-      let ok = sheet_passed sheet bytes p t l in
-      rw (binds.bind_handed setting sheet bytes size p t policy words l, handed_in_lem t ok bytes)
+  sheet_listed is = rw (binds.bind_handed setting sheet bytes size t policy words is, (handed_good sheet bytes t is).1)

@@ -2,37 +2,31 @@
 -- (DT_INIT 12, DT_FINI 13, DT_INIT_ARRAY 25, DT_FINI_ARRAY 26, their sizes 27 and 28, DT_PREINIT_ARRAY 32 and its size 33); document 02, (g): "The
 -- service wants the start and stop functions as two lists of 64-bit addresses, each with its count, from a call of its own that binds first."
 -- Tags and counts are those of the placed file, words those of the bound arena. Assumes nothing.
-use Rattle.std.specs.Prelude.{Bool, not, List, [], ◌∷◌, ◌++◌, reverse, ℕ, ◌+◌, ◌-◌, ◌*◌, eqb, leb, length, get_or, replicate}
+use Rattle.std.specs.Prelude.{Bool, not, List, [], ◌∷◌, ◌++◌, reverse, ℕ, ◌+◌, ◌-◌, ◌*◌, eqb, leb, length, get_or, replicate, Option, None, Some, unwrap_or, Result, Ok, Err}
 use Rattle.words.specs.Choice.{pick, both, either}
 use Rattle.words.specs.Memory.{Mem, mem, tab, from}
 use Rattle.words.specs.Words.{le_at, sum64}
 use Rattle.model.specs.Objects.{Obj, Objs, obj}
-use Rattle.object.specs.DynamicArray.{no_field}
 use Rattle.object.specs.DynamicTags as DT
 use Rattle.object.specs.DynamicFields.{Fields, fields_of}
 use Rattle.object.specs.ProgramHeader.{dynamic_of}
 use Rattle.object.specs.Record.{entry_count}
-use Rattle.object.specs.declared.program_header.Dynamic.{Dynamic}
-use Rattle.object.specs.declared.program_header.Dynamic.TheVariants.{Missing, At}
 use Rattle.sheet.specs.Sheet.{Input, set_of}
 use Rattle.binder.specs.declared.Policy.{Policy}
-use Rattle.binder.specs.declared.Answer as answers
-use Rattle.binder.specs.declared.Verdict.{Verdict}
-use Rattle.binder.specs.declared.Verdict.TheVariants.{Passed, Refused}
+use Rattle.binder.specs.declared.Refused.{Refused}
+use Rattle.start_stop.specs.declared.Counts.{Counts}
 use Rattle.binder.specs.Setting.{Setting}
 use Rattle.binder.specs.Instance.{File, file_image}
-use Rattle.binder.specs.Verdict.{first, no_file}
+use Rattle.binder.specs.Verdict.{Verdict, passed, refused, first, no_file}
 use Rattle.binder.specs.SetOrder.{set_order}
 use Rattle.binder.specs.Bind.{files_of, names_of, objects_of, unless, Outcome, outcome, bind_of}
-use Rattle.start_stop.specs.declared.Lists.{Lists}
-use Rattle.start_stop.specs.declared.Lists as lists
 
 -- ---- what an object gives
 
 -- the fields of the dynamic array that stands there
-abbrev pub fields_at : List ℕ → Dynamic → Fields
-fields_at image Missing = λ tag. no_field
-fields_at image (At at) = fields_of image at
+abbrev pub fields_at : List ℕ → Option ℕ → Fields
+fields_at image None = λ tag. None
+fields_at image (Some at) = fields_of image at
 
 -- a file's, as it was placed
 abbrev pub placed_fields : File → Fields
@@ -45,7 +39,7 @@ pub record Array : Type 0 where
 
 -- "An array's count is its byte size divided by 8, 0 where size or pointer is missing"
 abbrev pub array_of : Fields → ℕ → ℕ → Array
-array_of f pointer size = record { at = (f pointer).value; count = entry_count (f pointer) (f size) 8 }
+array_of f pointer size = record { at = unwrap_or (f pointer) 0; count = entry_count (f pointer) (f size) 8 }
 
 -- what is called of an object: DT_INIT and DT_FINI by their values, 0 where there is none, and three arrays; `bytes` are the arena's from
 -- the object's offset on
@@ -65,8 +59,8 @@ calls_of o f arena =
       base = o.base;
       span = o.span;
       bytes = from o.offset (mem arena);
-      init = (f DT.INIT).value;
-      fini = (f DT.FINI).value;
+      init = unwrap_or (f DT.INIT) 0;
+      fini = unwrap_or (f DT.FINI) 0;
       preinits = array_of f DT.PREINIT_ARRAY DT.PREINIT_ARRAYSZ;
       inits = array_of f DT.INIT_ARRAY DT.INIT_ARRAYSZ;
       finis = array_of f DT.FINI_ARRAY DT.FINI_ARRAYSZ;
@@ -120,7 +114,7 @@ arrays_ok k c =
 
 -- "first such object in binding order"
 unfoldable pub arrays_verdict : (ℕ → Calls) → List ℕ → Verdict
-arrays_verdict calls [] = Passed
+arrays_verdict calls [] = passed
 arrays_verdict calls (k ∷ ks) = first (unless (arrays_ok k (calls k)) 26 k) (arrays_verdict calls ks)
 
 -- 26, then "27, a list slice too short (object 0)": of `starts` and `stops` words
@@ -131,6 +125,13 @@ lists_verdict calls order starts stops =
 
 -- ---- the call
 
+-- a refusal, or how many words each list has
+abbrev pub Lists : Type 0
+Lists = Result Counts Refused
+
+abbrev pub counted : ℕ → ℕ → Lists
+counted start stop = Ok (record { start = start; stop = stop })
+
 -- the answer, and what the call leaves in arena, report and lists
 pub data Listing : Type 0 where
   listing : (answer : Lists) (arena report start stop : List ℕ) → Listing
@@ -138,7 +139,7 @@ pub data Listing : Type 0 where
 -- "Any refusal leaves zeros in the lists too"
 abbrev pub refused_lists : ℕ → ℕ → ℕ → ℕ → ℕ → ℕ → Listing
 refused_lists size words starts stops n k =
-    listing (lists.TheVariants.Refused n k) (replicate size 0) (replicate words 0) (replicate starts 0) (replicate stops 0)
+    listing (refused n k) (replicate size 0) (replicate words 0) (replicate starts 0) (replicate stops 0)
 
 -- "Unused list words are 0"
 abbrev pub padded : ℕ → List ℕ → List ℕ
@@ -146,9 +147,9 @@ padded n ws = ws ++ replicate (n - length ws) 0
 
 -- a refusal; else the lists, each with its count
 unfoldable pub listing_of : ℕ → ℕ → Verdict → List ℕ → List ℕ → List ℕ → List ℕ → Listing
-listing_of starts stops (Refused n k) arena report start stop = refused_lists (length arena) (length report) starts stops n k
-listing_of starts stops Passed arena report start stop =
-    listing (lists.TheVariants.Listed (length start) (length stop)) arena report (padded starts start) (padded stops stop)
+listing_of starts stops (Err r) arena report start stop = refused_lists (length arena) (length report) starts stops r.number r.object
+listing_of starts stops passed arena report start stop =
+    listing (counted (length start) (length stop)) arena report (padded starts start) (padded stops stop)
 
 -- a refusal, or the lists, in slices of `starts` and `stops` words
 unfoldable pub list_by : (ℕ → Calls) → List ℕ → ℕ → ℕ → List ℕ → List ℕ → Listing
@@ -157,9 +158,9 @@ list_by calls order starts stops arena report =
 
 -- "a call of its own that binds first": a refusal of `bind`, or the lists of the set in the arena that it left
 unfoldable pub then_list : Setting → List Input → ℕ → ℕ → Outcome → Listing
-then_list setting os starts stops (outcome (answers.TheVariants.Refused n k) arena report) =
-    refused_lists (length arena) (length report) starts stops n k
-then_list setting os starts stops (outcome answers.TheVariants.Bound arena report) =
+then_list setting os starts stops (outcome (Err r) arena report) =
+    refused_lists (length arena) (length report) starts stops r.number r.object
+then_list setting os starts stops (outcome passed arena report) =
     list_by (calls_in (objects_of setting (files_of os)) (files_of os) arena) (set_order (files_of os) (names_of os)) starts stops arena report
 
 -- what `start_stop` answers for a sheet and its bytes

@@ -1,10 +1,10 @@
 // Refusal 26: the arrays that are listed lie in their objects' spans.
-ghost use Rattle.std.specs.Prelude.{◌≡◌, [], ◌≤◌, take};
+ghost use Rattle.std.specs.Prelude.{◌≡◌, []};
 ghost use Rattle.start_stop.specs.StartStop.{in_span, arrays_ok, arrays_verdict};
 ghost use Rattle.start_stop.specs.Steps.Rows.{calls_at};
 
-use binder::Verdict;
-use binder::order::Order;
+use binder::Refused;
+use words::refusal::Refusal;
 
 // Whether the `count` words at `at` lie in a span, where there are any.
 fn array_inside(span: usize, at: usize, count: usize) -> bool
@@ -53,22 +53,13 @@ fn arrays_inside(table: &[u64], rows: &[u64], k: usize) -> bool
 }
 
 // The objects of an order, one after another.
-pub(crate) fn check_arrays(table: &[u64], rows: &[u64], order: Order) -> Verdict
-    requires { order.count ≤ 64 }
-    ensures { result ≡ arrays_verdict (calls_at [] table.now rows.now) (take order.count order.list) }
+pub(crate) fn check_arrays(table: &[u64], rows: &[u64], order: &[u32]) -> Result<(), Refused>
+    ensures { result ≡ arrays_verdict (calls_at [] table.now rows.now) order.now }
 {
-    let list = order.list;
-    let n = order.count;
-    let mut i = 0;
-    while i < n {
-        let k = list[i];
-        if !arrays_inside(table, rows, k as usize) {
-            return Verdict::Refused {
-                number: 26,
-                object: k,
-            };
+    for k in order {
+        if !arrays_inside(table, rows, *k as usize) {
+            return Err(Refused::new(Refusal::Arrays, *k));
         }
-        i += 1;
     }
-    Verdict::Passed
+    Ok(())
 }

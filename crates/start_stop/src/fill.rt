@@ -1,11 +1,9 @@
 // Addresses go to a list from place `n` on; words that fall past its end are dropped, and counted all the same.
-ghost use Rattle.std.specs.Prelude.{◌≡◌, ◌+◌, ◌*◌, ◌^◌, ◌≤◌, ◌<◌, reverse, length, set, take};
+ghost use Rattle.std.specs.Prelude.{◌≡◌, ◌+◌, ◌*◌, ◌^◌, ◌≤◌, ◌<◌, reverse, length, set};
 ghost use Rattle.words.specs.Memory.{mem};
 ghost use Rattle.start_stop.specs.StartStop.{function_of, words_of, starts_of, stops_of, in_turn, start_list, stop_list};
 ghost use Rattle.start_stop.specs.Steps.Rows.{row_at, base_at, bytes_at, calls_at, FewWords, AllFew};
 ghost use Rattle.start_stop.specs.Steps.Listed.{Put};
-
-use binder::order::Order;
 
 fn set_word(list: &mut [u64], p: usize, w: u64)
     ensures { list.new ≡ set list.old p w }
@@ -24,7 +22,7 @@ fn put_function(list: &mut [u64], n: usize, base: u64, value: u64) -> usize
     if value == 0 {
         return n;
     }
-    set_word(list, n, words::bytes::sum_u64(base, value));
+    set_word(list, n, base.wrapping_add(value));
     n + 1
 }
 
@@ -35,7 +33,7 @@ fn put_array(list: &mut [u64], n: usize, part: &[u8], at: usize, count: usize) -
 {
     let mut i = 0;
     while i < count {
-        set_word(list, n + i, words::bytes::u64_off(part, at, 8 * i));
+        set_word(list, n + i, words::bytes::word_off::<u64>(part, at, 8 * i));
         i += 1;
     }
     n + count
@@ -51,7 +49,7 @@ fn put_backwards(list: &mut [u64], n: usize, part: &[u8], at: usize, count: usiz
         set_word(
             list,
             n + i,
-            words::bytes::u64_off(part, at, 8 * (count - 1 - i)),
+            words::bytes::word_off::<u64>(part, at, 8 * (count - 1 - i)),
         );
         i += 1;
     }
@@ -64,7 +62,7 @@ fn base_of(table: &[u64], k: usize) -> u64
     ensures { result ≡ base_at table.now k }
 {
     let s = scope::links::link_at(table, k);
-    words::bytes::sum_u64(scope::links::address_in(table), s.offset as u64)
+    scope::links::address_in(table).wrapping_add(s.offset as u64)
 }
 
 // The arena from the offset of object `k` on.
@@ -128,19 +126,14 @@ fn put_in_order(
     arena: &[u8],
     table: &[u64],
     rows: &[u64],
-    order: Order,
+    order: &[u32],
 ) -> usize
-    requires { (from ≤ 2 ^ 25) × (1026 ≤ length table.now) × (order.count ≤ 64) × AllFew rows.now (take order.count order.list) }
-    ensures { Put (in_turn (λ k. starts_of (calls_at arena.now table.now rows.now k)) (take order.count order.list)) from list.old list.new result }
+    requires { (from ≤ 2 ^ 25) × (1026 ≤ length table.now) × (length order.now ≤ 64) × AllFew rows.now order.now }
+    ensures { Put (in_turn (λ k. starts_of (calls_at arena.now table.now rows.now k)) order.now) from list.old list.new result }
 {
-    let objects = order.list;
-    let last = order.count;
     let mut n = from;
-    let mut i = 0;
-    while i < last {
-        let k = objects[i];
-        n = put_starts(list, n, arena, table, rows, k as usize);
-        i += 1;
+    for k in order {
+        n = put_starts(list, n, arena, table, rows, *k as usize);
     }
     n
 }
@@ -151,10 +144,10 @@ pub(crate) fn put_start(
     arena: &[u8],
     table: &[u64],
     rows: &[u64],
-    order: Order,
+    order: &[u32],
 ) -> usize
-    requires { (1026 ≤ length table.now) × (order.count ≤ 64) × (row_at rows.now 1 3 ≤ 2 ^ 25) × AllFew rows.now (take order.count order.list) }
-    ensures { Put (start_list (calls_at arena.now table.now rows.now) (take order.count order.list)) 0 list.old list.new result }
+    requires { (1026 ≤ length table.now) × (length order.now ≤ 64) × (row_at rows.now 1 3 ≤ 2 ^ 25) × AllFew rows.now order.now }
+    ensures { Put (start_list (calls_at arena.now table.now rows.now) order.now) 0 list.old list.new result }
 {
     let at = crate::rows::word(rows, 1, 2);
     let count = crate::rows::word(rows, 1, 3);
@@ -168,18 +161,14 @@ pub(crate) fn put_stop(
     arena: &[u8],
     table: &[u64],
     rows: &[u64],
-    order: Order,
+    order: &[u32],
 ) -> usize
-    requires { (1026 ≤ length table.now) × (order.count ≤ 64) × AllFew rows.now (take order.count order.list) }
-    ensures { Put (stop_list (calls_at arena.now table.now rows.now) (take order.count order.list)) 0 list.old list.new result }
+    requires { (1026 ≤ length table.now) × (length order.now ≤ 64) × AllFew rows.now order.now }
+    ensures { Put (stop_list (calls_at arena.now table.now rows.now) order.now) 0 list.old list.new result }
 {
-    let objects = order.list;
     let mut n = 0;
-    let mut i = order.count;
-    while 0 < i {
-        i -= 1;
-        let k = objects[i];
-        n = put_stops(list, n, arena, table, rows, k as usize);
+    for i in (0..order.len()).rev() {
+        n = put_stops(list, n, arena, table, rows, order[i] as usize);
     }
     n
 }

@@ -6,9 +6,9 @@ pub mod fill;
 pub mod rows;
 pub mod start_stop;
 
-// The answer of a call that binds a set and lists its functions: how many words each list has, or the refusal.
-#[derive(Clone, Copy)]
-pub enum Lists {
-    Listed { start: usize, stop: usize },
-    Refused { number: u32, object: u32 },
+// How many words each list has.
+#[derive(Clone, Copy, Debug, PartialEq, Eq)]
+pub struct Counts {
+    pub start: usize,
+    pub stop: usize,
 }

@@ -1,9 +1,8 @@
 // A flat table of the tags that name functions: eight words an object, by its number, read from the placed bytes.
-ghost use Rattle.std.specs.Prelude.{◌≡◌, ◌+◌, ◌*◌, ◌≤◌, ◌<◌, length};
+ghost use Rattle.std.specs.Prelude.{◌≡◌, ◌+◌, ◌*◌, ◌≤◌, ◌<◌, length, unwrap_or};
 ghost use Rattle.words.specs.Memory.{patch};
 ghost use Rattle.object.specs.Steps.Slots.{field_in, SameFields};
 ghost use Rattle.object.specs.ProgramHeader.{dynamic_of};
-ghost use Rattle.sheet.specs.Steps.Parts.{inputs_in};
 ghost use Rattle.start_stop.specs.StartStop.{fields_at, array_of};
 ghost use Rattle.start_stop.specs.Steps.Rows.{row_at, row_word, RowsRead};
 
@@ -11,8 +10,7 @@ use object::dynamic_array::{
     DT_FINI, DT_FINI_ARRAY, DT_FINI_ARRAYSZ, DT_INIT, DT_INIT_ARRAY, DT_INIT_ARRAYSZ,
     DT_PREINIT_ARRAY, DT_PREINIT_ARRAYSZ, Slots,
 };
-use object::program_header::Dynamic;
-use sheet::sheet::Parts;
+use sheet::sheet::Set;
 
 // Word `j` of object `k`; 0 past the table's end.
 pub(crate) fn word(rows: &[u64], k: usize, j: usize) -> usize
@@ -29,46 +27,42 @@ pub(crate) fn word(rows: &[u64], k: usize, j: usize) -> usize
 
 // The dynamic array of a file, in its placed bytes.
 fn slots_of(image: &[u8], file: &[u8]) -> Slots
-    ensures { SameFields (field_in image.now result) (fields_at image.now (dynamic_of file.now)) }
+    ensures { SameFields (field_in result) (fields_at image.now (dynamic_of file.now)) }
 {
-    let d = object::program_header::dynamic_at(file);
-    let Dynamic::At(at) = d else {
-        return [0usize; 38];
-    };
-    let a = object::dynamic_array::read_array(image, at);
-    let slots = a.slots;
-    slots
+    match object::program_header::dynamic_at(file) {
+        Some(at) => object::dynamic_array::read_array(image, at).slots,
+        None => [None; 38],
+    }
 }
 
-fn value_of(image: &[u8], slots: &Slots, tag: u64) -> u64
-    ensures { result ≡ (field_in image.now slots.now tag).value }
+fn value_of(slots: &Slots, tag: u64) -> u64
+    ensures { result ≡ unwrap_or (field_in slots.now tag) 0 }
 {
-    let f = object::dynamic_array::field_in(image, slots, tag);
-    f.value as u64
+    object::dynamic_array::field_in(slots, tag).unwrap_or(0) as u64
 }
 
 // How many words an array has.
-fn count_of(image: &[u8], slots: &Slots, pointer: u64, size: u64) -> u64
-    ensures { result ≡ (array_of (field_in image.now slots.now) pointer size).count }
+fn count_of(slots: &Slots, pointer: u64, size: u64) -> u64
+    ensures { result ≡ (array_of (field_in slots.now) pointer size).count }
 {
-    let at = object::dynamic_array::field_in(image, slots, pointer);
-    let bytes = object::dynamic_array::field_in(image, slots, size);
+    let at = object::dynamic_array::field_in(slots, pointer);
+    let bytes = object::dynamic_array::field_in(slots, size);
     object::dynamic_fields::entry_count(at, bytes, 8) as u64
 }
 
 // Word `j` of the row: DT_INIT, DT_FINI, then of the preinit, init and fini array where it starts and how many words it has.
-fn row_word(image: &[u8], slots: &Slots, j: usize) -> u64
-    ensures { result ≡ row_word (field_in image.now slots.now) j }
+fn row_word(slots: &Slots, j: usize) -> u64
+    ensures { result ≡ row_word (field_in slots.now) j }
 {
     match j {
-        0 => value_of(image, slots, DT_INIT),
-        1 => value_of(image, slots, DT_FINI),
-        2 => value_of(image, slots, DT_PREINIT_ARRAY),
-        3 => count_of(image, slots, DT_PREINIT_ARRAY, DT_PREINIT_ARRAYSZ),
-        4 => value_of(image, slots, DT_INIT_ARRAY),
-        5 => count_of(image, slots, DT_INIT_ARRAY, DT_INIT_ARRAYSZ),
-        6 => value_of(image, slots, DT_FINI_ARRAY),
-        _ => count_of(image, slots, DT_FINI_ARRAY, DT_FINI_ARRAYSZ),
+        0 => value_of(slots, DT_INIT),
+        1 => value_of(slots, DT_FINI),
+        2 => value_of(slots, DT_PREINIT_ARRAY),
+        3 => count_of(slots, DT_PREINIT_ARRAY, DT_PREINIT_ARRAYSZ),
+        4 => value_of(slots, DT_INIT_ARRAY),
+        5 => count_of(slots, DT_INIT_ARRAY, DT_INIT_ARRAYSZ),
+        6 => value_of(slots, DT_FINI_ARRAY),
+        _ => count_of(slots, DT_FINI_ARRAY, DT_FINI_ARRAYSZ),
     }
 }
 
@@ -80,17 +74,17 @@ fn read_row(rows: &mut [u64], k: usize, image: &[u8], file: &[u8])
     let slots = slots_of(image, file);
     let mut j = 0;
     while j < 8 {
-        rows[8 * k + j] = row_word(image, &slots, j);
+        rows[8 * k + j] = row_word(&slots, j);
         j += 1;
     }
 }
 
 // The rows of program and libraries; the host's is not read.
-pub(crate) fn read_rows(rows: &mut [u64], bytes: &[u8], parts: Parts, arena: &[u8], table: &[u64])
-    requires { (parts.count ≤ 64) × (512 ≤ length rows.old) }
-    ensures { RowsRead (inputs_in bytes.now parts) parts.count arena.now table.now rows.new }
+pub(crate) fn read_rows(rows: &mut [u64], set: &Set, arena: &[u8], table: &[u64])
+    requires { 512 ≤ length rows.old }
+    ensures { RowsRead set.now (length set.now) arena.now table.now rows.new }
 {
-    let count = parts.count;
+    let count = set.len();
     let mut k = 1;
     while k < count {
         let s = scope::links::link_at(table, k);
@@ -98,7 +92,7 @@ pub(crate) fn read_rows(rows: &mut [u64], bytes: &[u8], parts: Parts, arena: &[u
             rows,
             k,
             sheet::sheet::part_of(arena, s.offset, s.span),
-            sheet::sheet::file_of(bytes, parts, k),
+            set.file(k),
         );
         k += 1;
     }

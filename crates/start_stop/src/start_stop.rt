@@ -1,57 +1,43 @@
 // The public call that binds a set and lists what to call to start and to stop it.
-ghost use Rattle.std.specs.Prelude.{◌≡◌, List, ℕ, ◌≤◌, length, replicate, take};
-ghost use Rattle.sheet.specs.Steps.Parts.{inputs_in};
+ghost use Rattle.std.specs.Prelude.{◌≡◌, List, ℕ, ◌≤◌, length, replicate};
 ghost use Rattle.binder.specs.Setting.{setting_of};
 ghost use Rattle.binder.specs.Bind.{bind_set};
 ghost use Rattle.start_stop.specs.StartStop.{listing, then_list, start_stop_of};
 ghost use Rattle.start_stop.specs.Steps.Rows.{calls_at, InOrder};
 ghost use Rattle.start_stop.specs.Steps.Listed.{finished_of, ListsMade};
 
-use crate::Lists;
-use binder::order::Order;
-use binder::{Policy, Verdict};
-use sheet::sheet::Parts;
+use crate::Counts;
+use binder::{Policy, Refused};
+use sheet::sheet::Set;
+use words::refusal::Refusal;
 
 // Refusals 26 and 27 of a bound set, and the lists, which were all zeros.
 fn list_all(
     arena: &[u8],
     table: &[u64],
     rows: &[u64],
-    order: Order,
+    order: &[u32],
     start: &mut [u64],
     stop: &mut [u64],
-) -> Lists
-    requires { (1026 ≤ length table.now) × (order.count ≤ 64) × InOrder table.now (take order.count order.list) × (start.old ≡ replicate (length start.old) 0) × (stop.old ≡ replicate (length stop.old) 0) }
-    ensures { ListsMade (calls_at arena.now table.now rows.now) (take order.count order.list) arena.now start.new stop.new result }
+) -> Result<Counts, Refused>
+    requires { (1026 ≤ length table.now) × (length order.now ≤ 64) × InOrder table.now order.now × (start.old ≡ replicate (length start.old) 0) × (stop.old ≡ replicate (length stop.old) 0) }
+    ensures { ListsMade (calls_at arena.now table.now rows.now) order.now arena.now start.new stop.new result }
 {
-    let v = crate::arrays::check_arrays(table, rows, order);
-    if let Verdict::Refused { number, object } = v {
-        return Lists::Refused {
-            number: number,
-            object: object,
-        };
-    }
+    crate::arrays::check_arrays(table, rows, order)?;
     let n = crate::fill::put_start(start, arena, table, rows, order);
     let m = crate::fill::put_stop(stop, arena, table, rows, order);
     if start.len() < n {
-        return Lists::Refused {
-            number: 27,
-            object: 0,
-        };
+        return Err(Refused::new(Refusal::ListRoom, 0));
     }
     if stop.len() < m {
-        return Lists::Refused {
-            number: 27,
-            object: 0,
-        };
+        return Err(Refused::new(Refusal::ListRoom, 0));
     }
-    Lists::Listed { start: n, stop: m }
+    Ok(Counts { start: n, stop: m })
 }
 
-// Refusals 2 to 28 of the objects that the table of parts names; the rows are read before the objects are relocated.
+// Refusals 2 to 28 of the set's objects; the rows are read before the objects are relocated.
 fn list_set(
-    bytes: &[u8],
-    parts: Parts,
+    set: &Set,
     arena: &mut [u8],
     address: u64,
     policy: Policy,
@@ -59,52 +45,38 @@ fn list_set(
     report: &mut [u32],
     start: &mut [u64],
     stop: &mut [u64],
-) -> Lists
-    requires { (2 ≤ parts.count) × (parts.count ≤ 64) × (length (inputs_in bytes.now parts) ≡ parts.count) × (report.old ≡ replicate (length report.old) 0) × (start.old ≡ replicate (length start.old) 0) × (stop.old ≡ replicate (length stop.old) 0) }
-    ensures { finished_of result arena.new report.new start.new stop.new ≡ then_list (setting_of address types.now) (inputs_in bytes.now parts) (length start.old) (length stop.old) (bind_set (setting_of address types.now) (inputs_in bytes.now parts) (length arena.old) policy (length report.old)) }
+) -> Result<Counts, Refused>
+    requires two { 2 ≤ length set.now }
+    requires cleared { (report.old ≡ replicate (length report.old) 0) × (start.old ≡ replicate (length start.old) 0) × (stop.old ≡ replicate (length stop.old) 0) }
+    ensures { finished_of result arena.new report.new start.new stop.new ≡ then_list (setting_of address types.now) set.now (length start.old) (length stop.old) (bind_set (setting_of address types.now) set.now (length arena.old) policy (length report.old)) }
 {
     let mut table = [0u64; 1090];
     let t = binder::types::types_verdict(types);
-    let m = binder::prepare::prepare(bytes, parts, arena, address, t, &mut table);
-    if let Verdict::Refused { number, object } = m {
-        return Lists::Refused {
-            number: number,
-            object: object,
-        };
-    }
+    binder::prepare::prepare(set, arena, address, t, &mut table)?;
     binder::types::put_types(&mut table, types);
     let mut rows = [0u64; 512];
-    crate::rows::read_rows(&mut rows, bytes, parts, arena, &table);
-    let order = binder::needs::order_of(bytes, parts, arena, &table);
-    let b = binder::bind::bind_in(bytes, parts, arena, policy, report, &table, order);
-    if let Verdict::Refused { number, object } = b {
-        return Lists::Refused {
-            number: number,
-            object: object,
-        };
-    }
-    list_all(arena, &table, &rows, order, start, stop)
+    crate::rows::read_rows(&mut rows, set, arena, &table);
+    let order = binder::needs::order_of(set, arena, &table);
+    binder::bind::bind_in(set, arena, policy, report, &table, &order)?;
+    list_all(arena, &table, &rows, &order, start, stop)
 }
 
 // The answer; a refusal leaves zeros. No other function clears after a refusal.
+#[tactic(auto, using(crate::proofs::ListedIs::finish_listed, crate::proofs::ListedIs::keep_listed))]
 fn finish(
-    l: Lists,
+    l: Result<Counts, Refused>,
     arena: &mut [u8],
     report: &mut [u32],
     start: &mut [u64],
     stop: &mut [u64],
-) -> Lists
+) -> Result<Counts, Refused>
     ensures { listing result arena.new report.new start.new stop.new ≡ finished_of l arena.old report.old start.old stop.old }
 {
-    if let Lists::Refused {
-        number: _,
-        object: _,
-    } = l
-    {
-        words::bytes::clear(arena);
-        words::bytes::clear_words(report);
-        words::bytes::clear_addresses(start);
-        words::bytes::clear_addresses(stop);
+    if l.is_err() {
+        arena.fill(0);
+        report.fill(0);
+        start.fill(0);
+        stop.fill(0);
     }
     l
 }
@@ -121,22 +93,16 @@ pub fn start_stop(
     report: &mut [u32],
     start: &mut [u64],
     stop: &mut [u64],
-) -> Lists
+) -> Result<Counts, Refused>
     ensures { listing result arena.new report.new start.new stop.new ≡ start_stop_of (setting_of address types.now) sheet.now bytes.now (length arena.old) policy (length report.old) (length start.old) (length stop.old) }
 {
-    words::bytes::clear_words(report);
-    words::bytes::clear_addresses(start);
-    words::bytes::clear_addresses(stop);
-    let parts = sheet::sheet::parts_of(sheet, bytes.len());
-    if parts.count < 2 {
-        let one = Lists::Refused {
-            number: 1,
-            object: 0,
-        };
+    report.fill(0);
+    start.fill(0);
+    stop.fill(0);
+    let Ok(set) = Set::of(sheet, bytes) else {
+        let one = Err(Refused::new(Refusal::Sheet, 0));
         return finish(one, arena, report, start, stop);
-    }
-    let l = list_set(
-        bytes, parts, arena, address, policy, types, report, start, stop,
-    );
+    };
+    let l = list_set(&set, arena, address, policy, types, report, start, stop);
     finish(l, arena, report, start, stop)
 }

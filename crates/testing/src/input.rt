@@ -1,11 +1,51 @@
-// Parts of an input, and patches from it. A patch is a place (2 bytes), a length (1 byte, or 2 where lengths are `wide`) and so many bytes.
-ghost use Rattle.std.specs.Prelude.{◌≤◌};
+// Reading an input from its start on, and patches from it. A number's bytes are little-endian; those past the end are 0.
+ghost use Rattle.std.specs.Prelude.{◌≡◌, take, drop};
+ghost use Rattle.words.specs.Memory.{mem};
+ghost use Rattle.words.specs.Words.{le_at};
 
-// The `n` bytes of `s` that stand `k` places after `at`, as far as there are such.
-pub fn part<'a>(s: &'a [u8], at: usize, k: usize, n: usize) -> &'a [u8] {
-    let from = words::bytes::place(s.len(), at, k);
-    let left = words::bytes::smaller(n, s.len() - from);
-    &s[from..from + left]
+use words::word::Word;
+
+// What is left of an input.
+#[derive(Clone, Copy)]
+pub struct Input<'a> {
+    pub rest: &'a [u8],
+}
+
+impl<'a> Input<'a> {
+    // The next `n` bytes, as far as there are such.
+    pub fn take(&mut self, n: usize) -> &'a [u8]
+        ensures value { result.now ≡ take n self.old.rest.now }
+        ensures rest { self.new.rest.now ≡ drop n self.old.rest.now }
+    {
+        let (text, rest) = self.rest.split_at(n.min(self.rest.len()));
+        self.rest = rest;
+        text
+    }
+
+    pub fn u8(&mut self) -> u8
+        ensures value { result ≡ mem self.old.rest.now 0 }
+        ensures rest { self.new.rest.now ≡ drop 1 self.old.rest.now }
+    {
+        let n = words::bytes::byte_at(self.rest, 0, 0);
+        self.take(1);
+        n
+    }
+
+    pub fn word<T: Word>(&mut self) -> T
+        ensures value { T.value result ≡ le_at T.WIDTH (mem self.old.rest.now) 0 }
+        ensures rest { self.new.rest.now ≡ drop T.WIDTH self.old.rest.now }
+    {
+        let n = words::bytes::word_at(self.rest, 0);
+        self.take(T::WIDTH);
+        n
+    }
+}
+
+// The first `n` bytes, as far as there are such.
+pub fn head<'a>(s: &'a [u8], n: usize) -> &'a [u8]
+    ensures { result.now ≡ take n s.now }
+{
+    &s[..n.min(s.len())]
 }
 
 // The input's first bytes, other than zeros, so that what a call leaves shows.
@@ -14,42 +54,16 @@ pub fn stain(arena: &mut [u8], input: &[u8]) {
     words::bytes::copy(arena, 0, input, 0, n);
 }
 
-// How many bytes stand before those of a patch.
-fn head(wide: bool) -> usize
-    ensures { result ≤ 4 }
-{
-    if wide {
-        return 4;
+// The next `count` patches. A patch is a place (2 bytes), a length (1 byte, or 2 where lengths are `wide`) and so many bytes.
+pub fn patches(bytes: &mut [u8], input: &mut Input, count: u16, wide: bool) {
+    for _ in 0..count {
+        let to = input.word::<u16>() as usize;
+        let n = if wide {
+            input.word::<u16>() as usize
+        } else {
+            input.u8() as usize
+        };
+        let text = input.take(n);
+        words::bytes::copy(bytes, to, text, 0, n);
     }
-    3
-}
-
-// How many bytes the patch at `at` has.
-fn length_at(input: &[u8], at: usize, wide: bool) -> usize
-    ensures { result ≤ 65535 }
-{
-    if wide {
-        return words::bytes::u16_off(input, at, 2) as usize;
-    }
-    words::bytes::byte_at(input, at, 2) as usize
-}
-
-// One patch into the bytes; the answer is where the next one stands.
-fn patch(bytes: &mut [u8], input: &[u8], at: usize, wide: bool) -> usize {
-    let to = words::bytes::u16_off(input, at, 0) as usize;
-    let k = head(wide);
-    let n = length_at(input, at, wide);
-    words::bytes::copy(bytes, to, input, words::bytes::place(input.len(), at, k), n);
-    words::bytes::place(input.len(), at, k + n)
-}
-
-// `count` patches, the first of which stands at `start`; the answer is where they end.
-pub fn patches(bytes: &mut [u8], input: &[u8], start: usize, count: u16, wide: bool) -> usize {
-    let mut at = start;
-    let mut left = count;
-    while 0 < left {
-        at = patch(bytes, input, at, wide);
-        left -= 1;
-    }
-    at
 }

@@ -1,5 +1,4 @@
-// What the test programs share: printing, and reading their input.
+// What the test programs share: reading their input.
 #![tactic(auto)]
 
 pub mod input;
-pub mod show;

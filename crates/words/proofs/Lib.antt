@@ -2,8 +2,6 @@
 pub mod Choice
 pub mod Memory
 pub mod Slices
-pub mod WriteLoop
 pub mod Words
-pub mod HashLaws
 pub mod NameLaws
 pub mod Page

@@ -1,7 +1,11 @@
 -- The laws of names: the name at a place is the part up to its zero byte, and equal names are found to be equal. Assumes nothing.
-use Rattle.std.proofs.Common.{◌≡◌, ℕ, suc, ◌+◌, ◌-◌, ◌<◌, ◌≤◌, min, Bool, true, false, eqb, List, [], ◌∷◌, length, get_or, take, drop, sym, refl, ap, ◌∙◌, add-one, arith, length-drop, drop_of_length-le, drop-cons, eq-eqb, ne_eqb, eqb-true}
+use Rattle.std.proofs.Common.{◌≡◌, ℕ, suc, ◌+◌, ◌-◌, ◌<◌, ◌≤◌, min, Bool, true, false, eqb, ltb, List, [], ◌∷◌, length, get_or, take, drop, sym, refl, ap, ◌∙◌, add-one, arith, take_all, length-drop, drop_of_length-le, drop-cons, eq-eqb, ne_eqb, eqb-true}
+use Rattle.std.specs.Prelude.{cond, position, unwrap_or}
+use Rattle.std.specs.List.{position_or_len}
+use Rattle.std.specs.Cmp.Lexicographic.{pointwise}
+use Rattle.std.proofs.lemmas.List.Recursion.{is_position_or_len}
 use native.Mathlib.Decide.{dec_lt}
-use borrow.Author.Tests.{eqb-false}
+use borrow.Author.Tests.{eqb-false, ltb-false}
 use Rattle.words.specs.Choice.{pick, both}
 use Rattle.words.specs.Names.{until_zero, name_at, same_bytes}
 use Rattle.words.proofs.Choice.{both_true}
@@ -44,14 +48,24 @@ unfolding until_zero
 name_short [] = omega arith
 name_short (b ∷ bs) = short b bs (eqb b 0) (name_short bs)
 
--- so the part from a place to the name's end is the name, and lies within
-pub name_part : (xs : List ℕ) (at e : ℕ) → e ≡ at + length (name_at xs at) → take (e - at) (drop at xs) ≡ name_at xs at
-name_part xs at e end =
-    let k : e - at ≡ length (name_at xs at) = omega arith in
-    rw k (name_front (drop at xs))
+-- so the part up to the first 0, or to the end, is the name
+name_length : (l : List ℕ) → length (until_zero l) ≡ position_or_len (λ b. eqb b 0) l
+unfolding until_zero
+name_length = is_position_or_len (λ l. length (until_zero l)) (λ b. eqb b 0) refl (λ b bs. one b bs (eqb b 0))
+  where
+    one : (b : ℕ) (bs : List ℕ) (t : Bool) → length (pick t [] (b ∷ until_zero bs)) ≡ cond t 0 (1 + length (until_zero bs))
+    one b bs true = refl
+    one b bs false = omega arith
 
-pub name_within : (xs : List ℕ) (at : ℕ) → at ≤ length xs → at + length (name_at xs at) ≤ length xs
-name_within xs at l = omega (arith, name_short (drop at xs), length-drop at xs)
+name_end : (l : List ℕ) {n : ℕ} → n ≡ unwrap_or (position (λ b. eqb b 0) l) (length l) → n ≡ length (until_zero l)
+name_end l {n} e = go (ltb (position_or_len (λ b. eqb b 0) l) (length l)) refl
+  where
+    go : (t : Bool) → ltb (position_or_len (λ b. eqb b 0) l) (length l) ≡ t → n ≡ length (until_zero l)
+    go true h = rw h at e ∙ sym (name_length l)
+    go false h = let e' : n ≡ length l = rw h at e in omega (arith, name_length l, name_short l, ltb-false _ _ h)
+
+pub name_part : (l : List ℕ) {n : ℕ} → n ≡ unwrap_or (position (λ b. eqb b 0) l) (length l) → (n ≤ length l) × (take n l ≡ until_zero l)
+name_part l e = (omega (arith, name_end l e, name_short l), rw (name_end l e) (name_front l))
 
 -- a place past the end may as well be the end
 pub name_end_at : (xs : List ℕ) (at : ℕ) {p : ℕ} → p ≡ min at (length xs) → name_at xs p ≡ name_at xs at
@@ -60,6 +74,11 @@ name_end_at xs at {p} e = go (dec_lt at (length xs))
     go : Dec (at < length xs) → name_at xs p ≡ name_at xs at
     go (yes h) = let q : p ≡ at = omega arith in rw q
     go (no h) = name_none xs p (omega arith) ∙ sym (name_none xs at (omega arith))
+
+-- and what is there is all from that place on
+pub name_rest : (xs : List ℕ) (at : ℕ) {p : ℕ} → p ≡ min at (length xs) → until_zero (take (length xs - p) (drop p xs)) ≡ name_at xs at
+name_rest xs at {p} e =
+    ap until_zero (take_all (length xs - p) (drop p xs) (omega (arith, length-drop p xs))) ∙ name_end_at xs at e
 
 -- ---- equal names
 
@@ -99,35 +118,49 @@ same_lengths xs ys ne = go (same_bytes xs ys) refl
     go true e = absurd (ne (ap length (same_sound xs ys e)))
     go false e = e
 
--- ---- a name in an image against one that is given, from place `i` of the image and place `j` of the name on
+-- the test of slices
+pub same_test : (xs ys : List ℕ) → pointwise eqb xs ys ≡ same_bytes xs ys
+unfolding same_bytes
+same_test [] [] = refl
+same_test [] (y ∷ ys) = refl
+same_test (x ∷ xs) [] = refl
+same_test (x ∷ xs) (y ∷ ys) = grind (arith, same_test xs ys)
 
-module _ (xs ys : List ℕ) (i j : ℕ) where
+-- ---- a name in an image against one that is given, from place `i` of both on
+
+module _ (xs ys : List ℕ) (i : ℕ) where
   -- the same byte, and not 0: what follows decides
-  pub from_more : i < length xs → j < length ys → get_or xs i 0 ≡ get_or ys j 0 → (get_or xs i 0 ≡ 0 → ⊥)
-      → same_bytes (name_at xs i) (drop j ys) ≡ same_bytes (name_at xs (i + 1)) (drop (j + 1) ys)
+  pub from_more : i < length xs → i < length ys → get_or xs i 0 ≡ get_or ys i 0 → (get_or ys i 0 ≡ 0 → ⊥)
+      → same_bytes (name_at xs i) (drop i ys) ≡ same_bytes (name_at xs (i + 1)) (drop (i + 1) ys)
   unfolding same_bytes
-  from_more l l' e ne = rw (name_more xs i l ne, add-one j, drop-cons ys j 0 l', eq-eqb _ _ e)
+  from_more l l' e ne = rw (name_more xs i l (λ z. ne (sym e ∙ z)), add-one i, drop-cons ys i 0 l', eq-eqb _ _ e)
 
   -- the name in the image ended
-  pub from_zero : i < length xs → j < length ys → get_or xs i 0 ≡ 0 → same_bytes (name_at xs i) (drop j ys) ≡ false
+  from_zero : i < length xs → i < length ys → get_or xs i 0 ≡ 0 → same_bytes (name_at xs i) (drop i ys) ≡ false
   unfolding same_bytes
-  from_zero l l' z = rw (name_stop xs i l z, drop-cons ys j 0 l')
+  from_zero l l' z = rw (name_stop xs i l z, drop-cons ys i 0 l')
 
-  -- another byte
-  pub from_other : i < length xs → j < length ys → (get_or xs i 0 ≡ get_or ys j 0 → ⊥) → same_bytes (name_at xs i) (drop j ys) ≡ false
+  -- another byte, or a 0
+  pub from_other : i < length xs → i < length ys → (get_or xs i 0 ≡ get_or ys i 0 → get_or ys i 0 ≡ 0) → same_bytes (name_at xs i) (drop i ys) ≡ false
   unfolding same_bytes
-  from_other l l' ne = go (eqb (get_or xs i 0) 0) refl
+  from_other l l' other = go (eqb (get_or xs i 0) 0) refl
     where
-      go : (t : Bool) → eqb (get_or xs i 0) 0 ≡ t → same_bytes (name_at xs i) (drop j ys) ≡ false
+      go : (t : Bool) → eqb (get_or xs i 0) 0 ≡ t → same_bytes (name_at xs i) (drop i ys) ≡ false
       go true z = from_zero l l' (eqb-true _ _ z)
-      go false z = rw (name_more xs i l (eqb-false _ _ z), drop-cons ys j 0 l', ne_eqb _ _ ne)
+      go false z =
+          let ne = eqb-false _ _ z in
+          rw (name_more xs i l ne, drop-cons ys i 0 l', ne_eqb _ _ (λ e. ne (e ∙ other e)))
 
   -- the given name ended: so must the other
-  module _ (past : length ys ≤ j) where
-    pub from_end : name_at xs i ≡ [] → same_bytes (name_at xs i) (drop j ys) ≡ true
+  module _ (past : length ys ≤ i) where
+    pub from_end : name_at xs i ≡ [] → same_bytes (name_at xs i) (drop i ys) ≡ true
     unfolding same_bytes
     from_end e = rw (e, drop_of_length-le ys past)
 
-    pub from_longer : i < length xs → (get_or xs i 0 ≡ 0 → ⊥) → same_bytes (name_at xs i) (drop j ys) ≡ false
+    pub from_rest : i < length xs → same_bytes (name_at xs i) (drop i ys) ≡ eqb (get_or xs i 0) 0
     unfolding same_bytes
-    from_longer l ne = rw (name_more xs i l ne, drop_of_length-le ys past)
+    from_rest l = go (eqb (get_or xs i 0) 0) refl
+      where
+        go : (t : Bool) → eqb (get_or xs i 0) 0 ≡ t → same_bytes (name_at xs i) (drop i ys) ≡ t
+        go true z = from_end (name_stop xs i l (eqb-true _ _ z))
+        go false z = rw (name_more xs i l (eqb-false _ _ z), drop_of_length-le ys past)

@@ -1,5 +1,6 @@
 -- The bytes of slices: their memory, parts of them, and what a write leaves. Assumes nothing.
-use Rattle.std.proofs.Common.{◌≡◌, ℕ, zero, suc, ◌+◌, ◌-◌, ◌<◌, ◌≤◌, min, ◌⊎◌, List, ◌∷◌, ◌++◌, map, length, get_or, take, drop, set, replicate, sym, refl, ap, ◌∙◌, inl, inr, ⊎_elim, add-one, arith, length-append, length-drop, length-set, length-take, length-take-le, get_or-drop, take_all, get_or-set_other, get_or-take, get_or-set_same, get_or-append-add, ext_get_or}
+use Rattle.std.proofs.Common.{◌≡◌, ℕ, zero, suc, ◌+◌, ◌-◌, ◌<◌, ◌≤◌, min, ◌⊎◌, List, ◌∷◌, ◌++◌, map, length, get_or, take, drop, set, replicate, sym, refl, ap, ◌∙◌, inl, inr, ⊎_elim, arith, length-append, length-drop, length-set, length-take, length-take-le, get_or-drop, get_or-set_other, get_or-take, get_or-set_same, get_or-append-add, ext_get_or}
+use Rattle.std.proofs.lemmas.List.{length-replicate, get_or-replicate}
 use mathlib.Core.Path.{fun_ext}
 use native.Mathlib.Decide.{dec_lt, ℕ_discrete}
 use borrow.Rule.Slice.PartMut.{put_mid}
@@ -112,16 +113,20 @@ patch_cut xs at n n' f l past = patch_ext xs at n' f at n f (λ i h. go i h (in_
 
 -- as many of the bytes as there is room for
 pub patch_room :
-    (xs : List ℕ) (at n room : ℕ) (f : ℕ → ℕ) → at ≤ length xs → room ≡ min n (length xs - at) → patch xs at room f ≡ patch xs at n f
-patch_room xs at n room f l e = go (dec_lt room n)
+    (xs : List ℕ) (at n room : ℕ) (f : ℕ → ℕ) → room ≡ min n (length xs - at) → patch xs at room f ≡ patch xs at n f
+patch_room xs at n room f e = go (dec_lt room n)
   where
     go : Dec (room < n) → patch xs at room f ≡ patch xs at n f
     go (yes h) = patch_cut xs at n room f (omega arith) (omega arith)
     go (no h) = ap (λ (k : ℕ). patch xs at k f) (omega arith)
 
+-- a write for which there is no room
+pub patch_no_room : (xs : List ℕ) (at n : ℕ) (f : ℕ → ℕ) → min (at + n) (length xs) ≤ at → xs ≡ patch xs at n f
+patch_no_room xs at n f e = sym (patch_none xs at f) ∙ patch_room xs at n 0 f (omega arith)
+
 -- a write past the end
 pub patch_past : (xs : List ℕ) (at n : ℕ) (f : ℕ → ℕ) → length xs ≤ at → patch xs at n f ≡ xs
-patch_past xs at n f past = sym (patch_cut xs at n 0 f (omega arith) (omega arith)) ∙ patch_none xs at f
+patch_past xs at n f past = sym (patch_no_room xs at n f (omega arith))
 
 -- a write that goes on where another ended is one write
 pub patch_join :
@@ -150,33 +155,24 @@ patch_join xs at a b f g h ef eg =
             ∙ (mem_patch_at xs at a f i l ∙ sym (write_out (write (mem xs) at a f) (at + a) b g i v))
 
 -- a copy as two writes: the bytes that the source has, then zeros
-module _
-    (xs src : List ℕ)
-    (at start n room there : ℕ)
-    (l : at ≤ length xs)
-    (fits : room ≡ min n (length xs - at))
-    (has : there ≡ min room (length src - start))
+pub copy_both :
+    (xs src : List ℕ) (at start n : ℕ) {end from_src there : ℕ} {ys zs : List ℕ} → end ≡ min (at + n) (length xs) → at ≤ end
+    → from_src ≡ min start (length src) → there ≡ min (end - at) (length src - from_src)
+    → ys ≡ patch xs at there (from from_src (mem src)) → zs ≡ patch ys (at + there) (end - (at + there)) (λ _. 0)
+    → zs ≡ patch xs at n (from start (mem src))
+copy_both xs src at start n {end} {from_src} {there} {ys} {zs} e l f t p q =
+    q
+    ∙ (ap (λ (ys : List ℕ). patch ys (at + there) (end - (at + there)) (λ _. 0)) p
+    ∙ (patch_join xs at there (end - (at + there)) (from from_src (mem src)) (λ _. 0) (from start (mem src)) had past
+    ∙ patch_room xs at n (there + (end - (at + there))) (from start (mem src)) (omega arith)))
   where
-    past : (k : ℕ) → k < room - there → 0 ≡ mem src (start + (there + k))
+    had : (k : ℕ) → k < there → mem src (from_src + k) ≡ mem src (start + k)
+    had k h = ap (mem src) (omega arith)
+
+    past : (k : ℕ) → k < end - (at + there) → 0 ≡ mem src (start + (there + k))
     past k h = sym (mem_past src (start + (there + k)) (omega arith))
 
-    pub copy_none : there ≡ 0 → patch xs at room (λ _. 0) ≡ patch xs at n (from start (mem src))
-    copy_none none =
-        patch_same xs at room (λ _. 0) (from start (mem src))
-        (λ k h. past k (omega arith) ∙ ap (mem src) (omega arith))
-        ∙ patch_room xs at n room (from start (mem src)) l fits
-
-    pub copy_both :
-        {ys zs : List ℕ} → ys ≡ patch xs at there (from start (mem src)) → zs ≡ patch ys (at + there) (room - there) (λ _. 0)
-        → zs ≡ patch xs at n (from start (mem src))
-    copy_both e g =
-        g
-        ∙ (ap (λ (ys : List ℕ). patch ys (at + there) (room - there) (λ _. 0)) e
-        ∙ (patch_join xs at there (room - there) (from start (mem src)) (λ _. 0) (from start (mem src)) (λ k h. refl) past
-        ∙ (ap (λ (k : ℕ). patch xs at k (from start (mem src))) (omega arith)
-        ∙ patch_room xs at n room (from start (mem src)) l fits)))
-
--- one store is a write of one byte, and one more goes on where the others ended
+-- one store is a write of one byte
 pub patch_one : (xs : List ℕ) (at v : ℕ) → set xs at v ≡ patch xs at 1 (λ _. v)
 unfolding mem
 patch_one xs at v =
@@ -194,6 +190,7 @@ patch_one xs at v =
         get_or-set_other xs at i v 0 ne
         ∙ (sym (write_out (mem xs) at 1 (λ _. v) i (other i ne)) ∙ sym (mem_patch_at xs at 1 (λ _. v) i h))
 
+-- one more byte goes on where the others ended
 pub patch_next :
     (xs : List ℕ) (at n : ℕ) (f : ℕ → ℕ) {ys zs : List ℕ} → ys ≡ patch xs at n f → zs ≡ set ys (at + n) (f n)
     → zs ≡ patch xs at (n + 1) f
@@ -202,16 +199,6 @@ patch_next xs at n f p q =
     ∙ (ap (λ (l : List ℕ). set l (at + n) (f n)) p
     ∙ (patch_one (patch xs at n f) (at + n) (f n)
     ∙ patch_join xs at n 1 f (λ _. f n) f (λ k h. refl) (λ k h. ap f (omega arith))))
-
--- the stores of straight-line code, one after the other
-unfoldable pub stores : ℕ → List ℕ → ℕ → (ℕ → ℕ) → List ℕ
-stores zero xs at f = xs
-stores (suc n) xs at f = set (stores n xs at f) (at + n) (f n)
-
-pub stores_patch : (n : ℕ) (xs : List ℕ) (at : ℕ) (f : ℕ → ℕ) → stores n xs at f ≡ patch xs at n f
-unfolding stores
-stores_patch zero xs at f = sym (patch_none xs at f)
-stores_patch (suc n) xs at f = patch_next xs at n f (stores_patch n xs at f) refl ∙ ap (λ (k : ℕ). patch xs at k f) (add-one n)
 
 -- ---- a part of a slice, lent and given back
 
@@ -243,6 +230,41 @@ module _ (xs b : List ℕ) (off k : ℕ) (fits : off + k ≤ length xs) (as_many
 
 length_mid : (xs : List ℕ) (off k : ℕ) → off + k ≤ length xs → length (take k (drop off xs)) ≡ k
 length_mid xs off k fits = simp (length-take, length-drop) (omega arith)
+
+-- a part that holds `f 0`, `f 1`, .. is a write
+pub put_as :
+    (xs ys : List ℕ) (off k : ℕ) (f : ℕ → ℕ) → off + k ≤ length xs → length ys ≡ k → ((i : ℕ) → i < k → mem ys i ≡ f i)
+    → put_mid off k xs ys ≡ patch xs off k f
+put_as xs ys off k f fits many same =
+    mem_ext (put_mid off k xs ys) (patch xs off k f) (length_put xs ys off k fits many ∙ sym (length_patch xs off k f))
+    (λ i h. go i (omega (arith, length_put xs ys off k fits many)) (in_or_out off k i))
+  where
+    go : (i : ℕ) → i < length xs → In off k i ⊎ Out off k i → mem (put_mid off k xs ys) i ≡ mem (patch xs off k f) i
+    go i h (inl w) =
+        let z : off + (i - off) ≡ i = omega arith in
+        rw z at (mem_put_in xs ys off k fits many (i - off) (omega arith))
+        ∙ (same (i - off) (omega arith) ∙ (sym (write_in (mem xs) off k f i w) ∙ sym (mem_patch_at xs off k f i h)))
+    go i h (inr w) =
+        mem_put_out xs ys off k fits many i w ∙ (sym (write_out (mem xs) off k f i w) ∙ sym (mem_patch_at xs off k f i h))
+
+-- a part that is filled with zeros
+pub put_zeros :
+    (xs : List ℕ) (off k : ℕ) {ys : List ℕ} → off + k ≤ length xs → ys ≡ replicate (length (take k (drop off xs))) 0
+    → put_mid off k xs ys ≡ patch xs off k (λ _. 0)
+unfolding mem
+put_zeros xs off k {ys} fits e =
+    let z : ys ≡ replicate k 0 = rw (length_mid xs off k fits) at e in
+    put_as xs ys off k (λ _. 0) fits (ap length z ∙ length-replicate k 0)
+    (λ i h. ap (λ (l : List ℕ). get_or l i 0) z ∙ get_or-replicate k i 0 0 h)
+
+-- a part that is filled from another slice
+pub put_copied :
+    (xs src : List ℕ) (off start k : ℕ) {n n' : ℕ} {ys : List ℕ} → n ≡ k → n' ≡ k → off + k ≤ length xs → start + k ≤ length src
+    → ys ≡ take n' (drop start src) → put_mid off n xs ys ≡ patch xs off k (from start (mem src))
+put_copied xs src off start k {ys = ys} p q fits has e =
+    let z : ys ≡ take k (drop start src) = rw q at e in
+    rw p (put_as xs ys off k (from start (mem src)) fits (ap length z ∙ length_mid src start k has)
+    (λ i h. ap (λ (l : List ℕ). mem l i) z ∙ mem_part k start src i h))
 
 -- a write in a part is one in the whole, where what falls past the part's end falls past the write's
 put_part :
@@ -326,16 +348,3 @@ take_patch xs n f fits =
         mem_take n (patch xs 0 n f) i h
         ∙ (mem_patch_at xs 0 n f i (omega arith)
         ∙ (write_in (mem xs) 0 n f i (omega arith) ∙ (ap f (omega arith) ∙ sym (mem_tab n f i h))))
-
--- zeros over all of a slice
-tab_zeros : (n : ℕ) → tab n (λ _. 0) ≡ replicate n 0
-unfolding tab
-tab_zeros zero = refl
-tab_zeros (suc n) = ap (λ (l : List ℕ). 0 ∷ l) (tab_zeros n)
-
-pub patch_zeros : (xs : List ℕ) → patch xs 0 (length xs) (λ _. 0) ≡ replicate (length xs) 0
-patch_zeros xs =
-    let z : ℕ → ℕ = λ _. 0 in
-    sym (take_all (length xs) (patch xs 0 (length xs) z) (omega (arith, length_patch xs 0 (length xs) z)))
-    ∙ take_patch xs (length xs) z (omega arith)
-    ∙ tab_zeros (length xs)

@@ -1,12 +1,13 @@
 -- The laws of le_at and byte_of, each over the width. Assumes nothing.
-use Rattle.std.proofs.Common.{◌≡◌, ℕ, zero, suc, ◌+◌, ◌*◌, ◌/◌, ◌%◌, ◌^◌, ◌<◌, ◌≤◌, min, List, length, take, drop, sym, refl, ap, ◌∙◌, mod-eq_of_lt, mul_comm, add_comm, pow-suc, add-one, arith, lit<}
-use native.Mathlib.Nat.{div-div-eq-div-mul, pow-succ', mod-one, one-le-pow}
+use Rattle.std.proofs.Common.{◌≡◌, ℕ, zero, suc, ◌+◌, ◌*◌, ◌/◌, ◌%◌, ◌^◌, ◌<◌, ◌≤◌, min, List, length, get_or, take, drop, sym, refl, ap, ◌∙◌, div-one, add-zero, zero-add, mod-eq_of_lt, mul_comm, add_comm, arith, lit<}
+use native.Mathlib.Nat.{pow-succ', mod-one, one-le-pow}
 use native.Mathlib.Decide.{dec_lt}
 use lib.Arith.{mod-mul, digits_lt}
-use Rattle.words.specs.Memory.{Mem, mem, write}
+use Rattle.words.specs.Memory.{Mem, mem, from, write, patch}
 use Rattle.words.specs.Words.{le_at, byte_of}
+use Rattle.std.specs.Int.{w64, to_le_bytes, byte_at, bytes_low_first}
 use Rattle.words.proofs.Memory.{Out, write_in, write_out}
-use Rattle.words.proofs.Slices.{mem_past, mem_part}
+use Rattle.words.proofs.Slices.{mem_past, mem_part, mem_patch_at}
 
 -- a number goes by its bytes
 pub le_at_same :
@@ -71,10 +72,28 @@ le_at_end n xs at {p} e = go (dec_lt at (length xs))
     go (yes h) = ap (le_at n (mem xs)) (omega arith)
     go (no h) = le_at_past n xs p (omega arith) ∙ sym (le_at_past n xs at (omega arith))
 
--- the bytes of v, one after the other, by division
-pub byte_is : (v k w : ℕ) → w ≡ v / 256 ^ k → w % 256 ≡ byte_of v k
-unfolding byte_of
-byte_is v k w e = rw e
+-- the bytes that std's `to_le_bytes` gives
+pub mem_le_bytes : (v n : ℕ) (bs : List ℕ) → bs ≡ to_le_bytes w64 v → n ≤ 8 → (j : ℕ) → j < n → from 0 (mem bs) j ≡ byte_of v j
+unfolding mem byte_of
+mem_le_bytes v n bs e fits j h = rw (e, zero-add) (rw zero-add at (go 8 0 j (omega arith)))
+  where
+    first : (i : ℕ) → byte_at i v ≡ v / 256 ^ i % 256
+    first zero = rw (div-one v)
+    first (suc i) = refl
 
-pub byte_next : (v k w : ℕ) → w ≡ v / 256 ^ k → w / 256 ≡ v / 256 ^ (k + 1)
-byte_next v k w e = rw (e, div-div-eq-div-mul v (256 ^ k) 256, add-one k, pow-suc 256 k)
+    go : (k i j : ℕ) → j < k → get_or (bytes_low_first i k v) j 0 ≡ v / 256 ^ (i + j) % 256
+    go zero i j h = absurd (omega arith)
+    go (suc k) i zero h = rw (add-zero i) (first i)
+    go (suc k) i (suc j) h =
+        let e : suc i + j ≡ i + suc j = omega arith in
+        rw (← e) (go k (suc i) j (omega arith))
+
+-- a number whose bytes were copied to the start of a row
+pub le_at_copied :
+    (n : ℕ) (xs : List ℕ) (at : ℕ) (zs : List ℕ) {ys : List ℕ} → n ≤ length zs → ys ≡ patch zs 0 n (from at (mem xs)) → le_at n (mem ys) 0 ≡ le_at n (mem xs) at
+le_at_copied n xs at zs {ys} fits e =
+    le_at_same n (mem ys) (mem xs) 0 at
+    (λ j h.
+    ap (λ (l : List ℕ). mem l (0 + j)) e
+    ∙ (mem_patch_at zs 0 n (from at (mem xs)) (0 + j) (omega arith)
+    ∙ (write_in (mem zs) 0 n (from at (mem xs)) (0 + j) (omega arith) ∙ ap (mem xs) (omega arith))))

@@ -1,10 +1,6 @@
 -- The two hashes of a symbol's name, as folds over its bytes. Assumes nothing.
-use Rattle.std.specs.Prelude.{ℕ, ◌+◌, ◌-◌, ◌*◌, ◌/◌, ◌%◌, ◌^◌, List, [], ◌∷◌, bit_and, bit_xor}
-
--- `step` over the bytes, the first byte first, from `h`
-unfoldable pub hash_by : (ℕ → ℕ → ℕ) → ℕ → List ℕ → ℕ
-hash_by step h [] = h
-hash_by step h (b ∷ bs) = hash_by step (step h b) bs
+use Rattle.std.specs.Prelude.{ℕ, ◌+◌, ◌-◌, ◌*◌, ◌/◌, ◌%◌, ◌^◌, List, bit_and, bit_xor}
+use Rattle.std.specs.List.{fold}
 
 -- DT_GNU_HASH text, "Hash Function": h = h * 33 + c in 32 bits, from 5381.
 -- Document 01: "from 5381, hash times 33 plus the byte, modulo 2^32"
@@ -12,7 +8,7 @@ abbrev pub gnu_step : ℕ → ℕ → ℕ
 gnu_step h b = (h * 33 + b) % 2 ^ 32
 
 unfoldable pub gnu_hash : List ℕ → ℕ
-gnu_hash name = hash_by gnu_step 5381 name
+gnu_hash name = fold gnu_step 5381 name
 
 -- System V gABI, "Hash Table", the hashing function, in 32 bits:
 --     h = (h << 4) + *name++;  if (g = h & 0xf0000000) h ^= g >> 24;  h &= ~g;
@@ -23,4 +19,4 @@ abbrev pub elf_step : ℕ → ℕ → ℕ
 elf_step h b = elf_mix ((h * 2 ^ 4 % 2 ^ 32 + b) % 2 ^ 32)
 
 unfoldable pub elf_hash : List ℕ → ℕ
-elf_hash name = hash_by elf_step 0 name
+elf_hash name = fold elf_step 0 name

@@ -4,3 +4,4 @@ pub mod Words
 pub mod Names
 pub mod Hash
 pub mod Page
+pub mod Refusal

@@ -1,89 +1,57 @@
 // Names in an image: from string_table.rs.
-ghost use Rattle.std.specs.Prelude.{◌≡◌, ◌+◌, ◌≤◌, length};
-ghost use Rattle.words.specs.Names.{name_at, same_bytes};
+ghost use Rattle.std.specs.Prelude.{◌≡◌, ◌+◌, ◌==◌, position};
+ghost use Rattle.words.specs.Names.{until_zero, name_at, same_bytes};
 
-// Where the name at `at` ends.
-fn name_end(image: &[u8], at: usize) -> usize
-    ensures { result ≡ at + length (name_at image.now at) }
+use crate::bytes::place;
+
+fn first_zero(rest: &[u8]) -> Option<usize>
+    ensures { result ≡ position (λ b. b == 0) rest.now }
 {
-    let mut i = at;
-    while i < image.len() {
-        if image[i] == 0 {
-            return i;
-        }
-        i += 1;
-    }
-    i
+    rest.iter().position(|b| *b == 0)
 }
 
 // The part of the image from `at` up to its zero byte, or to the end; empty where `at` is past the end.
 pub fn name_at<'a>(image: &'a [u8], at: usize) -> &'a [u8]
     ensures { result.now ≡ name_at image.now at }
 {
-    if image.len() <= at {
-        return &image[..0];
-    }
-    let end = name_end(image, at);
-    &image[at..end]
+    name_off(image, at, 0)
 }
 
 // The same `k` places after `at`.
 pub fn name_off<'a>(image: &'a [u8], at: usize, k: usize) -> &'a [u8]
     ensures { result.now ≡ name_at image.now (at + k) }
 {
-    name_at(image, crate::bytes::place(image.len(), at, k))
+    let rest = &image[place(image.len(), at, k)..];
+    let end = first_zero(rest).unwrap_or(rest.len());
+    &rest[..end]
 }
 
 // Whether two names are equal, byte for byte.
+#[tactic(auto, using(crate::proofs::NameLaws::same_test))]
 pub fn same(a: &[u8], b: &[u8]) -> bool
     ensures { result ≡ same_bytes a.now b.now }
 {
-    if a.len() != b.len() {
-        return false;
-    }
-    let mut i = 0;
-    while i < a.len() {
-        if a[i] != b[i] {
-            return false;
-        }
-        i += 1;
-    }
-    true
+    a == b
 }
 
-// Whether the name at `at` is this one.
-fn same_from(image: &[u8], at: usize, name: &[u8]) -> bool
-    requires { at ≤ length image.now }
-    ensures { result ≡ same_bytes (name_at image.now at) name.now }
+// Whether the name at the start of `rest` is this one: its end is not sought first.
+fn starts_as(rest: &[u8], name: &[u8]) -> bool
+    ensures { result ≡ same_bytes (until_zero rest.now) name.now }
 {
-    let n = name.len();
-    let left = image.len() - at;
-    if left < n {
+    if rest.len() < name.len() {
         return false;
     }
-    let mut i = 0;
-    while i < n {
-        let b = image[at + i];
-        if b != name[i] {
+    for (i, b) in name.iter().enumerate() {
+        if rest[i] != *b || *b == 0 {
             return false;
         }
-        if b == 0 {
-            return false;
-        }
-        i += 1;
     }
-    if left == n {
-        return true;
-    }
-    if image[at + n] == 0 {
-        return true;
-    }
-    false
+    rest.len() == name.len() || rest[name.len()] == 0
 }
 
-// Whether the name `k` places after `at` is this one: its end is not sought first.
+// Whether the name `k` places after `at` is this one.
 pub fn same_at(image: &[u8], at: usize, k: usize, name: &[u8]) -> bool
     ensures { result ≡ same_bytes (name_at image.now (at + k)) name.now }
 {
-    same_from(image, crate::bytes::place(image.len(), at, k), name)
+    starts_as(&image[place(image.len(), at, k)..], name)
 }

@@ -20,5 +20,5 @@ pub fn get_page_offset(address: usize) -> usize
 pub fn get_page_end(address: usize) -> usize
     ensures { result ≡ page_end address % 2 ^ 64 }
 {
-    get_page_start(std::num::wrapping_add_usize(address, 4095))
+    get_page_start(address.wrapping_add(4095))
 }

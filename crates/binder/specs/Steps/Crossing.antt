@@ -1,8 +1,9 @@
 -- How the first copy that crosses an earlier one is found: by the sizes of the program's own symbols, where only the program copies; else in
 -- rounds, each of which compares all copies with 1,024 earlier ones. Document 02, (h). `Verdict` has what it comes to. Assumes nothing.
-use Rattle.std.specs.Prelude.{◌≡◌, ℕ, zero, suc, ◌+◌, ◌-◌, ◌*◌, ◌^◌, ◌<◌, ◌≤◌, min, Bool, true, false, ◌⊎◌, List, [], ◌∷◌, ◌++◌, length, get_or, take, drop, ◌==◌, ◌≢◌, nat_le, nat_lt, slice_index, slice_index_or, slice_set}
+use Rattle.std.specs.Prelude.{◌≡◌, ℕ, zero, suc, ◌+◌, ◌-◌, ◌*◌, ◌^◌, ◌<◌, ◌≤◌, min, Bool, true, false, ◌⊎◌, List, [], ◌∷◌, ◌++◌, length, get_or, take, drop, ◌==◌, ◌≢◌, nat_le, nat_lt, slice_index, slice_index_or, slice_set, Ok, Err, Result, Option, None, Some}
 use Rattle.words.specs.Choice.{pick, both, some}
 use Rattle.words.specs.Memory.{inside}
+use Rattle.words.specs.declared.refusal.Refusal.{Refusal}
 use Rattle.object.specs.RelocationTypes.{Row, ignored, passed_over, turned_away, marked_refuse, copies, writes}
 use Rattle.object.specs.Entries.{relas_from}
 use Rattle.object.specs.Symbol.{symbol_at}
@@ -10,13 +11,10 @@ use Rattle.object.specs.Record.{Record, checked_symbol, name_of}
 use Rattle.object.specs.declared.hash_tables.Definition.{Definition}
 use Rattle.object.specs.declared.symbol.Symbol.{Symbol}
 use Rattle.object.specs.declared.relocate.Rela.{Rela}
-use Rattle.object.specs.declared.entry_symbol.CheckedSymbol.{CheckedSymbol}
-use Rattle.object.specs.declared.entry_symbol.CheckedSymbol.TheVariants.{Refused, Checked}
 use Rattle.sheet.specs.Sheet.{Input, no_input}
 use Rattle.scope.specs.Steps.Links.{link_at}
 use Rattle.scope.specs.declared.links.Link.{Link}
-use Rattle.scope.specs.declared.scope.Resolved.{Resolved}
-use Rattle.scope.specs.declared.scope.Resolved.TheVariants.{Absent, Found}
+use Rattle.scope.specs.declared.scope.Found.{Found}
 use Rattle.binder.specs.Copies.{crosses}
 use Rattle.binder.specs.Steps.Relocating.{image_in, cut_to32, copy_fits, sought_for_copy, turn_of, again_refusal, again_record, row_at}
 use Rattle.binder.specs.declared.turn.Turn.{Turn}
@@ -45,14 +43,14 @@ unfoldable pub copy_linked : ℕ → Turn → ℕ → Link → Definition → �
 copy_linked size t to s d n =
     pick (copy_fits size t to s d n) (record { to = t.offset + to; source = s.offset + d.value; size = n }) empty_copy
 
-unfoldable pub copy_to : List ℕ → ℕ → Turn → Rela → Symbol → Resolved → Copy
-copy_to table size t e y Absent = empty_copy
-copy_to table size t e y (Found k d x) = copy_linked size t e.place (link_at table k) d (min y.size d.size)
+unfoldable pub copy_to : List ℕ → ℕ → Turn → Rela → Symbol → Option Found → Copy
+copy_to table size t e y None = empty_copy
+copy_to table size t e y (Some hit) = copy_linked size t e.place (link_at table hit.object) hit.definition (min y.size hit.definition.size)
 
 module _ (table a : List ℕ) where
-  unfoldable pub copy_checked : Turn → Record → Rela → CheckedSymbol → Copy
-  copy_checked t r e (Refused n) = empty_copy
-  copy_checked t r e (Checked y) = copy_to table (length a) t e y (sought_for_copy table a (name_of (image_in a t) r y))
+  unfoldable pub copy_checked : Turn → Record → Rela → Result Symbol Refusal → Copy
+  copy_checked t r e (Err x) = empty_copy
+  copy_checked t r e (Ok y) = copy_to table (length a) t e y (sought_for_copy table a (name_of (image_in a t) r y))
 
   -- the copy of an entry, by the row of its type
   unfoldable pub copy_seen : Turn → Record → Rela → Row → Copy

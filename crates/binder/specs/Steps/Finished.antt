@@ -1,17 +1,15 @@
 -- What each step of a call to `bind` answers. Document 01, "Refused, in checking order" (19 and 20); demand 1, "a refusal
 -- leaves zeros in arena and report". `Bind` has what it comes to. Assumes nothing.
-use Rattle.std.specs.Prelude.{◌≡◌, ℕ, ◌+◌, ◌<◌, true, false, not, List, length, take, replicate, ◌≢◌, slice_index, slice_index_or}
+use Rattle.std.specs.Prelude.{◌≡◌, ℕ, ◌+◌, ◌<◌, true, false, not, List, length, take, replicate, ◌≢◌, slice_index, slice_index_or, Ok, Err}
 use Rattle.sheet.specs.Sheet.{Input, no_input}
 use Rattle.binder.specs.Setting.{Setting}
-use Rattle.binder.specs.Verdict.{first, verdict}
-use Rattle.binder.specs.declared.Verdict.{Verdict}
-use Rattle.binder.specs.declared.Verdict.TheVariants.{Passed, Refused}
-use Rattle.binder.specs.Bind.{unless, allows, Outcome, outcome, bind_set}
+use Rattle.binder.specs.Verdict.{Verdict, passed, refused, first, verdict}
+use Rattle.binder.specs.Bind.{unless, allows, Outcome, outcome, Reply, Replied, replied, bind_set}
+use Rattle.binder.specs.QueryAll.{RepliedAll, replied_all}
 use Rattle.binder.specs.Steps.Relocating.{left, started, image_in, turn_of, again_refusal, run_order, run_until}
 use Rattle.binder.specs.Steps.Crossing.{Readable, CrossingIn}
 use Rattle.binder.specs.declared.crossing.Crossing.{Crossing}
 use Rattle.binder.specs.declared.Policy.{Policy}
-use Rattle.binder.specs.declared.Answer as answers
 use Rattle.binder.specs.declared.report.Progress.{Progress}
 
 -- 14 to 18, then 19, then 20
@@ -22,9 +20,18 @@ ends_by policy p =
 
 -- the answer; a refusal leaves zeros
 unfoldable pub finished_of : Verdict → List ℕ → List ℕ → Outcome
-finished_of Passed arena report = outcome answers.TheVariants.Bound arena report
-finished_of (Refused n k) arena report =
-    outcome (answers.TheVariants.Refused n k) (replicate (length arena) 0) (replicate (length report) 0)
+finished_of passed arena report = outcome passed arena report
+finished_of (Err r) arena report =
+    outcome (Err r) (replicate (length arena) 0) (replicate (length report) 0)
+
+-- the same of a query, and of a query for many names
+unfoldable pub replied_by : Reply → List ℕ → Replied
+replied_by (Ok f) arena = replied (Ok f) arena
+replied_by (Err r) arena = replied (Err r) (replicate (length arena) 0)
+
+unfoldable pub replied_all_by : Verdict → List ℕ → List ℕ → RepliedAll
+replied_all_by passed arena words = replied_all passed arena words
+replied_all_by (Err r) arena words = replied_all (Err r) (replicate (length arena) 0) (replicate (length words) 0)
 
 -- 14 to 20 of loaded objects, relocated in an order: how far it came, what it leaves, and the refusal
 pub record Relocated
@@ -48,12 +55,12 @@ pub record Crossed (os : List Input) (table ks : List ℕ) (i j : ℕ) (arena re
   pub before : List ℕ
   pub notes : List ℕ
   pub leaves : left progress before notes ≡ run_order table os (take i ks) (left started arena report)
-  pub stopped : (progress.refusal ≢ 0) → m ≡ Refused progress.refusal progress.object
+  pub stopped : (progress.refusal ≢ 0) → m ≡ refused progress.refusal progress.object
   pub until :
       progress.refusal ≡ 0
       → (q : Progress) × (a' : List ℕ) × (notes' : List ℕ)
       × (left q a' notes' ≡ run_until table (slice_index ks i) (slice_index_or os (slice_index ks i) no_input).file (j + 1) progress before notes)
-      × (m ≡ first (verdict q.refusal q.object) (Refused 28 (slice_index ks i)))
+      × (m ≡ first (verdict q.refusal q.object) (refused 28 (slice_index ks i)))
 
 -- 14 to 20 and 28 of loaded objects
 abbrev pub RelocatedOr : List Input → List ℕ → List ℕ → List ℕ → Policy → List ℕ → List ℕ → List ℕ → Verdict → Type 0

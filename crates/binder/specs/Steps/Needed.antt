@@ -1,27 +1,24 @@
 -- The table of needs that the code fills, from the needs' names, and the order that comes of it. Document 01, "Order": "Needs match library
 -- names byte for byte; unlisted ones are ignored". `SetOrder` has what it comes to. Assumes nothing.
-use Rattle.std.specs.Prelude.{◌≡◌, ℕ, ◌+◌, ◌-◌, ◌*◌, ◌<◌, ◌≤◌, List, [], map, length, take, replicate, slice_index, slice_index_or}
+use Rattle.std.specs.Prelude.{◌≡◌, ℕ, ◌+◌, ◌-◌, ◌*◌, ◌<◌, ◌≤◌, List, [], map, length, replicate, slice_index, slice_index_or, Option, None, Some}
 use Rattle.words.specs.Memory.{mem, patch}
 use Rattle.words.specs.Names.{name_at}
 use Rattle.model.specs.Order.{order_of}
 use Rattle.object.specs.DynamicFields as fields
 use Rattle.object.specs.ProgramHeader.{dynamic_of}
-use Rattle.object.specs.declared.program_header.Dynamic.{Dynamic}
-use Rattle.object.specs.declared.program_header.Dynamic.TheVariants.{Missing, At}
 use Rattle.sheet.specs.Sheet.{Input, no_input}
 use Rattle.scope.specs.Steps.Links.{link_at}
 use Rattle.scope.specs.Steps.ScopeCode.{image_at}
 use Rattle.binder.specs.SetOrder.{number_of}
 use Rattle.binder.specs.Bind.{names_of}
-use Rattle.binder.specs.declared.order.Order.{Order}
 
--- the offsets of the needs' names in an image whose dynamic array stands there
-abbrev pub needed_at : List ℕ → Dynamic → List ℕ
-needed_at image Missing = []
-needed_at image (At at) = fields.needed_offsets image at
+-- the offsets of the needs' names in an image whose dynamic array stands there, where there is one
+abbrev pub needed_at : List ℕ → Option ℕ → List ℕ
+needed_at image None = []
+needed_at image (Some at) = fields.needed_offsets image at
 
 -- the libraries that they name, in file order
-unfoldable pub numbers_at : List Input → List ℕ → ℕ → Dynamic → List ℕ
+unfoldable pub numbers_at : List Input → List ℕ → ℕ → Option ℕ → List ℕ
 numbers_at os image strings d = map (λ n. number_of (name_at image (strings + n)) 2 (names_of os)) (needed_at image d)
 
 -- the row of library `k` has them; all other bytes are as they were
@@ -48,6 +45,6 @@ NeedsFilled os count arena table before after =
     → (k : ℕ) → 2 ≤ k → k < count → (i : ℕ) → i < 64 → mem after (64 * k + i) ≡ slice_index (needs_at os arena table k) i
 
 -- the order of `count` objects
-pub record Arranged (os : List Input) (count : ℕ) (arena table : List ℕ) (r : Order) : Type 0 where
-  pub order : FewNeeds os count arena table → take r.count r.list ≡ order_of (needs_at os arena table) (count - 2)
-  pub few : r.count ≤ 64
+pub record Arranged (os : List Input) (count : ℕ) (arena table order : List ℕ) : Type 0 where
+  pub is : FewNeeds os count arena table → order ≡ order_of (needs_at os arena table) (count - 2)
+  pub few : length order ≤ 64

@@ -1,5 +1,5 @@
 -- Whether an order that is handed in may be taken, as the code finds it in a loaded set. `OwnOrder` has what it comes to. Assumes nothing.
-use Rattle.std.specs.Prelude.{◌≡◌, ℕ, ◌-◌, ◌≤◌, Bool, false, not, List, take, ◌==◌, slice_index_or}
+use Rattle.std.specs.Prelude.{◌≡◌, ℕ, ◌-◌, Bool, false, not, List, ◌==◌, slice_index_or}
 use Rattle.words.specs.Choice.{pick, both, either, some}
 use Rattle.words.specs.Names.{same_bytes}
 use Rattle.model.specs.Order.{up_from}
@@ -8,19 +8,13 @@ use Rattle.object.specs.Record.{Record}
 use Rattle.sheet.specs.Sheet.{Input, no_input}
 use Rattle.scope.specs.Steps.Links.{link_at}
 use Rattle.scope.specs.Steps.ScopeCode.{image_at}
-use Rattle.binder.specs.declared.order.Order.{Order}
 use Rattle.binder.specs.Setting.{Setting}
 use Rattle.binder.specs.declared.Policy.{Policy}
-use Rattle.binder.specs.declared.Verdict.{Verdict}
 use Rattle.binder.specs.OwnOrder.{is_order, is_copy, bind_ordered_set}
 use Rattle.binder.specs.Steps.Needed.{Arranged}
 use Rattle.binder.specs.Steps.Relocating.{cut_to32, again_refusal, again_record}
 use Rattle.binder.specs.Steps.Finished.{finished_of}
-
--- a list of numbers as the code holds it
-pub record Held (order : List ℕ) (r : Order) : Type 0 where
-  pub list : take r.count r.list ≡ order
-  pub few : r.count ≤ 64
+use Rattle.binder.specs.Verdict.{Verdict}
 
 -- an entry of type 5 in RELA or PLT
 abbrev pub copy_in : List ℕ → Record → Bool
@@ -41,11 +35,9 @@ copies_at os count arena table = some (copy_at os arena table) (up_from 2 (count
 
 -- the order of the set, and whether the one that was handed in may be taken
 pub record Taken (os : List Input) (count : ℕ) (arena table order : List ℕ) (r : Bool) : Type 0 where
-  pub own : Order
+  pub own : List ℕ
   pub arranged : Arranged os count arena table own
-  pub is :
-      r
-      ≡ both (is_order (count - 2) order) (either (same_bytes order (take own.count own.list)) (not (copies_at os count arena table)))
+  pub is : r ≡ both (is_order (count - 2) order) (either (same_bytes order own) (not (copies_at os count arena table)))
 
 -- what is left of a set: finished, it is `bind_ordered_set`
 abbrev pub BoundOrdered : Setting → List Input → ℕ → Policy → ℕ → List ℕ → List ℕ → List ℕ → Verdict → Type 0

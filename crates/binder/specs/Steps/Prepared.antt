@@ -1,7 +1,7 @@
 -- Preparing a set: refusals 2 to 12 and 21, and its objects loaded one after another, in the code's order. Document 01, "Refused, in checking
 -- order"; "Placed bytes": "Host at arena offset 0, then each object at the next free offset"; document 02, (a). `Bind` has what it comes to.
 -- Assumes nothing.
-use Rattle.std.specs.Prelude.{◌≡◌, ℕ, ◌+◌, ◌-◌, ◌≤◌, Bool, List, [], ◌∷◌, length, ◌≢◌}
+use Rattle.std.specs.Prelude.{◌≡◌, ℕ, ◌+◌, ◌-◌, ◌≤◌, Bool, List, [], ◌∷◌, length, Result, Ok, Err}
 use Rattle.words.specs.Memory.{Mem, mem, write, patch}
 use Rattle.object.specs.Placed.{object_span, object_bytes}
 use Rattle.object.specs.Record.{view_of}
@@ -9,18 +9,16 @@ use Rattle.object.specs.Loaded.{object_refusal}
 use Rattle.sheet.specs.Sheet.{Input}
 use Rattle.binder.specs.Setting.{Setting}
 use Rattle.binder.specs.Instance.{File, file_record, offset_of}
-use Rattle.binder.specs.Verdict.{first, verdict}
+use Rattle.binder.specs.Verdict.{Verdict, passed, first, verdict}
 use Rattle.binder.specs.Bind.{files_of, prepare_verdict}
 use Rattle.scope.specs.Steps.Links.{link_at, count_in, address_in, FilteredBelow, Filtered}
 use Rattle.scope.specs.declared.links.Link.{Link}
-use Rattle.binder.specs.declared.Verdict.{Verdict}
-use Rattle.binder.specs.declared.Verdict.TheVariants.{Passed}
-use Rattle.binder.specs.declared.prepare.Loaded.{Loaded}
-use Rattle.binder.specs.declared.prepare.Loaded as loads
+use Rattle.words.specs.Refusal.{number_of}
+use Rattle.words.specs.declared.refusal.Refusal.{Refusal}
 
 -- 4 to 12 and 21 of the files from object `k` on, in an arena of `size` bytes whose next free offset is `free`
 unfoldable pub load_from : Setting → ℕ → ℕ → ℕ → List File → Verdict
-load_from setting size k free [] = Passed
+load_from setting size k free [] = passed
 load_from setting size k free (f ∷ fs) =
     first (verdict (object_refusal f.host (size - offset_of setting f free) f.bytes) k)
     (load_from setting size (k + 1) (offset_of setting f free + object_span f.host f.bytes) fs)
@@ -51,33 +49,32 @@ pub record LinkedAt (host : Bool) (file : List ℕ) (off : ℕ) (before after : 
   pub fits : off + object_span host file ≤ length before
 
 -- what loading a file at an offset answers and leaves
-abbrev pub LoadedAt : Bool → List ℕ → ℕ → List ℕ → List ℕ → Loaded → Type 0
-LoadedAt host file off before after (loads.TheVariants.Refused n) = (n ≡ object_refusal host (length before - off) file) × (n ≢ 0)
-LoadedAt host file off before after (loads.TheVariants.At s) = LinkedAt host file off before after s
+abbrev pub LoadedAt : Bool → List ℕ → ℕ → List ℕ → List ℕ → Result Link Refusal → Type 0
+LoadedAt host file off before after (Err e) = number_of e ≡ object_refusal host (length before - off) file
+LoadedAt host file off before after (Ok s) = LinkedAt host file off before after s
 
 -- the arena with zeros from the next free offset to an object's
 abbrev pub gapped : List ℕ → ℕ → ℕ → List ℕ
 gapped before free off = patch before free (off - free) (λ _. 0)
 
 -- what loading a file where it goes answers and leaves
-abbrev pub LoadedNext : Setting → File → ℕ → List ℕ → List ℕ → Loaded → Type 0
-LoadedNext setting f free before after (loads.TheVariants.Refused n) =
-    (n ≡ object_refusal f.host (length before - offset_of setting f free) f.bytes) × (n ≢ 0)
-LoadedNext setting f free before after (loads.TheVariants.At s) =
+abbrev pub LoadedNext : Setting → File → ℕ → List ℕ → List ℕ → Result Link Refusal → Type 0
+LoadedNext setting f free before after (Err e) = number_of e ≡ object_refusal f.host (length before - offset_of setting f free) f.bytes
+LoadedNext setting f free before after (Ok s) =
     LinkedAt f.host f.bytes (offset_of setting f free) (gapped before free (offset_of setting f free)) after s
 
 -- what loading a list of files leaves: their bytes, and zeros elsewhere, whatever the arena held before
 pub record LoadedFiles (setting : Setting) (files : List File) (before after links : List ℕ) (r : Verdict) : Type 0 where
   pub met : r ≡ load_from setting (length before) 0 0 files
-  pub arena : r ≡ Passed → mem after ≡ place_files setting files 0 (λ _. 0)
-  pub table : r ≡ Passed → Linked setting links 0 0 files
-  pub filtered : r ≡ Passed → FilteredBelow links (length files)
+  pub arena : r ≡ passed → mem after ≡ place_files setting files 0 (λ _. 0)
+  pub table : r ≡ passed → Linked setting links 0 0 files
+  pub filtered : r ≡ passed → FilteredBelow links (length files)
 
 -- what preparing a set leaves, where `types` is met between 2 and 3
 pub record Prepared (setting : Setting) (types : Verdict) (os : List Input) (before after links : List ℕ) (r : Verdict) : Type 0 where
   pub met : r ≡ prepare_verdict setting types os (length before)
-  pub arena : r ≡ Passed → mem after ≡ place_files setting (files_of os) 0 (λ _. 0)
-  pub table : r ≡ Passed → Linked setting links 0 0 (files_of os)
-  pub filtered : r ≡ Passed → Filtered links
-  pub counted : r ≡ Passed → count_in links ≡ length os
-  pub addressed : r ≡ Passed → address_in links ≡ setting.address
+  pub arena : r ≡ passed → mem after ≡ place_files setting (files_of os) 0 (λ _. 0)
+  pub table : r ≡ passed → Linked setting links 0 0 (files_of os)
+  pub filtered : r ≡ passed → Filtered links
+  pub counted : r ≡ passed → count_in links ≡ length os
+  pub addressed : r ≡ passed → address_in links ≡ setting.address

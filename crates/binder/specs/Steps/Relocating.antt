@@ -1,11 +1,14 @@
 -- Relocating the objects of a set, one after another: what the code does, in its own order, over the arena as it is at each step. Document
 -- 01, "Relocated bytes and report", "Refused, in checking order" (14 to 18, 22, 25). `Bind` has what it comes to, from the placed bytes alone;
 -- proofs/RelocatedIs joins the two. Assumes nothing.
-use Rattle.std.specs.Prelude.{ℕ, zero, suc, ◌+◌, ◌-◌, ◌*◌, ◌/◌, ◌%◌, ◌^◌, ◌≤◌, min, Bool, true, false, not, ◌⊎◌, List, [], ◌∷◌, ◌++◌, length, take, drop, ◌==◌, nat_le, nat_lt, slice_index, slice_index_or, slice_set}
+use Rattle.std.specs.Prelude.{ℕ, zero, suc, ◌+◌, ◌-◌, ◌*◌, ◌/◌, ◌%◌, ◌^◌, ◌≤◌, min, Bool, true, false, not, ◌⊎◌, List, [], ◌∷◌, ◌++◌, length, take, drop, ◌==◌, nat_le, nat_lt, slice_index, slice_index_or, slice_set, Ok, Err, Result, Option, None, Some}
 use Rattle.words.specs.Choice.{pick, both, either}
 use Rattle.words.specs.Memory.{mem, from, patch}
 use Rattle.words.specs.Words.{le_at, byte_of, sum64}
 use Rattle.words.specs.Hash.{gnu_hash, elf_hash}
+use Rattle.words.specs.Refusal.{number_of}
+use Rattle.words.specs.declared.refusal.Refusal.{Refusal}
+use Rattle.words.specs.declared.refusal.Refusal.TheVariants as refusals
 use Rattle.object.specs.TableBytes.{in_writable}
 use Rattle.object.specs.Symbol.{binding_of}
 use Rattle.object.specs.ProgramHeader.{loads_of, dynamic_of}
@@ -18,19 +21,15 @@ use Rattle.object.specs.declared.symbol.Symbol.{Symbol}
 use Rattle.object.specs.declared.relocate.Rela.{Rela}
 use Rattle.object.specs.declared.relocate.Relr.{Relr}
 use Rattle.object.specs.declared.relocate.Relr.TheVariants.{Address, Bitmap}
-use Rattle.object.specs.declared.entry_symbol.CheckedSymbol.{CheckedSymbol}
-use Rattle.object.specs.declared.entry_symbol.CheckedSymbol.TheVariants.{Refused, Checked}
 use Rattle.sheet.specs.Sheet.{Input, no_input}
 use Rattle.scope.specs.Steps.Links.{link_at, address_in}
 use Rattle.scope.specs.Steps.ScopeCode.{resolve_links, resolve_copy_links}
 use Rattle.scope.specs.declared.links.Link.{Link}
-use Rattle.scope.specs.declared.scope.Resolved.{Resolved}
-use Rattle.scope.specs.declared.scope.Resolved.TheVariants.{Absent, Found}
+use Rattle.scope.specs.declared.scope.Found.{Found}
 use Rattle.binder.specs.declared.report.Progress.{Progress}
 use Rattle.binder.specs.declared.turn.Turn.{Turn}
-use Rattle.binder.specs.declared.relr.Moved.{Moved}
 use Rattle.binder.specs.declared.relocate.Sought.{Sought}
-use Rattle.binder.specs.declared.relocate.Sought.TheVariants.{Stopped, Known, Searched, Missing}
+use Rattle.binder.specs.declared.relocate.Sought.TheVariants.{Known, Searched, Missing}
 
 -- ---- what a function of the code leaves
 
@@ -159,6 +158,11 @@ far = 2 ^ 62
 abbrev pub cut_to32 : ℕ → ℕ
 cut_to32 n = min n (2 ^ 32 - 1)
 
+-- the refusal, 0 for none, and the location after an entry
+pub record Moved : Type 0 where
+  pub refusal : ℕ
+  pub location : ℕ
+
 -- the refusal, 0 for none, and the part, or the arena; the same with the location after an entry
 pub data Summed : Type 0 where
   summed : (refusal : ℕ) (bytes : List ℕ) → Summed
@@ -223,29 +227,24 @@ field_of t e f S p a =
 unfoldable pub fixed_of : Turn → List Segment → Rela → Calculation → Progress → List ℕ → Wrote
 fixed_of t segments e f p a = pick (in_writable segments e.place f.width) (field_of t e f 0 p a) (wrote (refused_by t 17 p) a)
 
--- 14 or 15; 0 is none
-abbrev pub symbol_refusal : CheckedSymbol → ℕ
-symbol_refusal (Refused n) = n
-symbol_refusal (Checked y) = 0
-
 -- absence is kept where the symbol's binding is 2: as the address 0, since no report word tells the two apart
 abbrev pub keeps_weak : ℕ → Symbol → Noted → Noted
 keeps_weak last y (noted p report) = noted (pick (binding_of y == 2) (keeps last 0 p) p) report
 
 -- what a search for the symbol `y` comes to
-abbrev pub sought_by : Symbol → Resolved → Sought
-sought_by y Absent = Missing y
-sought_by y (Found k d x) = Searched x
+abbrev pub sought_by : Symbol → Option Found → Result Sought Refusal
+sought_by y None = Ok (Missing y)
+sought_by y (Some hit) = Ok (Searched hit.address)
 
 abbrev pub field_noted : Turn → Rela → Calculation → List ℕ → Noted → Left
 field_noted t e f a (noted p report) = with_report report (field_of t e f 0 p a)
 
 -- the write by what the entry's symbol came to: by the address that a search found, which is kept, or by 0, and a report word
-unfoldable pub write_sought : Turn → Rela → Calculation → ℕ → Sought → Progress → List ℕ → List ℕ → Left
-write_sought t e f i (Stopped n) p a report = left (refused_by t n p) a report
-write_sought t e f i (Known S) p a report = with_report report (field_of t e f S p a)
-write_sought t e f i (Searched S) p a report = with_report report (field_of t e f S (keeps (e.symbol + 1) S p) a)
-write_sought t e f i (Missing y) p a report = field_noted t e f a (keeps_weak (e.symbol + 1) y (unresolved_of y t.number i p report))
+unfoldable pub write_sought : Turn → Rela → Calculation → ℕ → Result Sought Refusal → Progress → List ℕ → List ℕ → Left
+write_sought t e f i (Err x) p a report = left (refused_by t (number_of x) p) a report
+write_sought t e f i (Ok (Known S)) p a report = with_report report (field_of t e f S p a)
+write_sought t e f i (Ok (Searched S)) p a report = with_report report (field_of t e f S (keeps (e.symbol + 1) S p) a)
+write_sought t e f i (Ok (Missing y)) p a report = field_noted t e f a (keeps_weak (e.symbol + 1) y (unresolved_of y t.number i p report))
 
 -- the `n` bytes of the definition `d`, in the object at the link `s`, may be copied to the place `to` of the object whose turn it is: the
 -- tests of refusal 18, and both ranges end inside an arena of `size` bytes
@@ -269,10 +268,10 @@ copy_bytes t segments to s d n p a =
     (pick (copy_fits (length a) t to s d n) (wrote p (patch a (t.offset + to) n (from (s.offset + d.value) (mem a)))) (wrote (refused_by t 18 p) a))
     (wrote (refused_by t 17 p) a))
 
-unfoldable pub copy_of : List ℕ → Turn → List Segment → Rela → ℕ → Symbol → Resolved → Progress → List ℕ → List ℕ → Left
-copy_of table t segments e i y Absent p a report = with_arena a (unresolved_of y t.number i p report)
-copy_of table t segments e i y (Found k d x) p a report =
-    with_report report (copy_bytes t segments e.place (link_at table k) d (min y.size d.size) p a)
+unfoldable pub copy_of : List ℕ → Turn → List Segment → Rela → ℕ → Symbol → Option Found → Progress → List ℕ → List ℕ → Left
+copy_of table t segments e i y None p a report = with_arena a (unresolved_of y t.number i p report)
+copy_of table t segments e i y (Some hit) p a report =
+    with_report report (copy_bytes t segments e.place (link_at table hit.object) hit.definition (min y.size hit.definition.size) p a)
 
 -- ---- an object's turn
 
@@ -298,25 +297,25 @@ row_at table rtype = row_under (slice_index table (1026 + rtype)) rtype
 
 module _ (table : List ℕ) where
   -- the search for a symbol's name, and COPY's
-  abbrev pub sought_for : Turn → List ℕ → List ℕ → Resolved
+  abbrev pub sought_for : Turn → List ℕ → List ℕ → Option Found
   sought_for t a name = resolve_links a table t.number name (gnu_hash name) (elf_hash name)
 
-  abbrev pub sought_for_copy : List ℕ → List ℕ → Resolved
+  abbrev pub sought_for_copy : List ℕ → List ℕ → Option Found
   sought_for_copy a name = resolve_copy_links a table name (gnu_hash name) (elf_hash name)
 
   -- what the symbol of an entry comes to: 14, 15 or 17; 0, where it is not searched; the kept answer, where it is the symbol's; or a search
-  unfoldable pub sought_of : Turn → Record → Rela → (ℕ → Bool) → Calculation → Progress → List ℕ → CheckedSymbol → Sought
-  sought_of t r e searched f p a (Refused n) = Stopped n
-  sought_of t r e searched f p a (Checked y) =
+  unfoldable pub sought_of : Turn → Record → Rela → (ℕ → Bool) → Calculation → Progress → List ℕ → Result Symbol Refusal → Result Sought Refusal
+  sought_of t r e searched f p a (Err x) = Err x
+  sought_of t r e searched f p a (Ok y) =
       pick (in_writable r.segments e.place f.width)
       (pick (searched e.symbol)
-      (pick (p.last == e.symbol + 1) (Known p.address) (sought_by y (sought_for t a (name_of (image_in a t) r y))))
-      (Known 0))
-      (Stopped 17)
+      (pick (p.last == e.symbol + 1) (Ok (Known p.address)) (sought_by y (sought_for t a (name_of (image_in a t) r y))))
+      (Ok (Known 0)))
+      (Err refusals.NotWritable)
 
-  unfoldable pub copying_of : Turn → Record → Rela → ℕ → CheckedSymbol → Progress → List ℕ → List ℕ → Left
-  copying_of t r e i (Refused n) p a report = left (refused_by t n p) a report
-  copying_of t r e i (Checked y) p a report = copy_of table t r.segments e i y (sought_for_copy a (name_of (image_in a t) r y)) p a report
+  unfoldable pub copying_of : Turn → Record → Rela → ℕ → Result Symbol Refusal → Progress → List ℕ → List ℕ → Left
+  copying_of t r e i (Err x) p a report = left (refused_by t (number_of x) p) a report
+  copying_of t r e i (Ok y) p a report = copy_of table t r.segments e i y (sought_for_copy a (name_of (image_in a t) r y)) p a report
 
   -- an entry, by the row of its type
   unfoldable pub run_action : Turn → Record → ℕ → Rela → Row → Progress → List ℕ → List ℕ → Left

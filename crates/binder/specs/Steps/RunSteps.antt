@@ -1,6 +1,8 @@
 -- What the loops without tests leave, each against the steps of Relocating: entries with words that are Relative or Symbolic one after another, and the words of a
 -- bitmap, where all places lie in one writable segment. Nothing that is stated of `bind` and `query` rests on it. Assumes nothing.
-use Rattle.std.specs.Prelude.{◌≡◌, ℕ, zero, suc, ◌+◌, ◌-◌, ◌*◌, ◌<◌, ◌≤◌, true, List, length}
+use Rattle.std.specs.Prelude.{◌≡◌, ℕ, zero, suc, ◌+◌, ◌-◌, ◌*◌, ◌<◌, ◌≤◌, true, List, length, Option, None, Some, Result, Ok, Err}
+use Rattle.words.specs.declared.refusal.Refusal.{Refusal}
+use Rattle.words.specs.Refusal.{number_of}
 use Rattle.object.specs.TableBytes.{Agree}
 use Rattle.object.specs.Steps.WritableRange.{WritableRange}
 use Rattle.object.specs.Steps.FineRange.{FineOf}
@@ -12,8 +14,7 @@ use Rattle.object.specs.Entries.{rela_at}
 use Rattle.object.specs.Steps.Actions.{row_by, field_by, searched_by}
 use Rattle.object.specs.declared.relocate.Field.{Field}
 use Rattle.object.specs.declared.relocate.Action.TheVariants.{Symbolic}
-use Rattle.scope.specs.declared.scope.Resolved.{Resolved}
-use Rattle.scope.specs.declared.scope.Resolved.TheVariants.{Absent, Found}
+use Rattle.scope.specs.declared.scope.Found.{Found}
 use Rattle.binder.specs.declared.report.Progress.{Progress}
 use Rattle.binder.specs.declared.turn.Turn.{Turn}
 use Rattle.binder.specs.declared.relocate.Symbols.{Symbols}
@@ -22,7 +23,7 @@ use Rattle.binder.specs.declared.relocate.SymbolEntry.{SymbolEntry}
 use Rattle.binder.specs.declared.relocate.SymbolEntry.TheVariants.{Other, Here}
 use Rattle.binder.specs.declared.relocate.Address.{Address}
 use Rattle.binder.specs.declared.relocate.Address.TheVariants.{Nowhere, At}
-use Rattle.binder.specs.Steps.Relocating.{left, keeps, image_in, summed, add_bits, run_table, row_at}
+use Rattle.binder.specs.Steps.Relocating.{left, keeps, image_in, Summed, summed, Shifted, then_relr, add_bits, run_table, row_at}
 
 -- the table bytes of an object at its turn are in the arena `b` as they were in `a`
 pub record TablesKept (t : Turn) (r : Record) (a b : List ℕ) : Type 0 where
@@ -85,9 +86,9 @@ EntryRead table a t y k low high Other = Unit {0}
 EntryRead table a t y k low high (Here field place index name addend) = EntryHere table a t y k low high field place index name addend
 
 -- what a search found
-abbrev pub address_found : Resolved → Address
-address_found Absent = Nowhere
-address_found (Found k d x) = At x
+abbrev pub address_found : Option Found → Address
+address_found None = Nowhere
+address_found (Some hit) = At hit.address
 
 -- as EntriesPassed, with the answers that are kept: `s` before, `s'` after
 abbrev pub SymbolsPassed : List ℕ → Turn → Symbols → ℕ → ℕ → ℕ → ℕ → Run → List ℕ → Run → List ℕ → Type 0
@@ -99,6 +100,14 @@ SymbolsPassed table t y at n low high s a s' b =
     → (run_table table t r at first (n - s'.next) s'.next (left (keeps s'.last s'.address p) b report)
     ≡ run_table table t r at first (n - s.next) s.next (left (keeps s.last s.address p) a report))
     × TablesKept t r a b
+
+-- an entry's location, or its refusal: what follows goes on from it, or is not done
+abbrev pub go_on : (ℕ → List ℕ → Summed) → Result ℕ Refusal → List ℕ → Summed
+go_on next (Ok location) x = next location x
+go_on next (Err r) x = summed (number_of r) x
+
+abbrev pub Moves : Result ℕ Refusal → List ℕ → Shifted → Type 0
+Moves result x s = (next : ℕ → List ℕ → Summed) → go_on next result x ≡ then_relr next s
 
 -- the words of a bitmap are added: the part `x` becomes `y`, where the 63 words from `location` on are writable
 abbrev pub BitsPassed : ℕ → ℕ → ℕ → List ℕ → List ℕ → Type 0

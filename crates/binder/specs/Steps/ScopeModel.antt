@@ -1,13 +1,12 @@
 -- The searches over the table of links, against the model's objects: what an answer stands for, and when a link is that of its object. Document
 -- 01, "An address for a name": "A lookup yields an object, a symbol index and an address, or absence". The searches are scope/specs/Steps/ScopeCode,
 -- the model's own are model/specs/Scope; proofs/ScopeIs joins the two. Assumes nothing.
-use Rattle.std.specs.Prelude.{◌≡◌, ℕ, ◌+◌, ◌^◌, ◌<◌, List}
+use Rattle.std.specs.Prelude.{◌≡◌, ℕ, ◌+◌, ◌^◌, ◌<◌, List, Option, None, Some}
 use Rattle.words.specs.Hash.{gnu_hash, elf_hash}
 use Rattle.model.specs.Symbols as model
 use Rattle.model.specs.Objects.{Obj, Objs, obj, count}
 use Rattle.scope.specs.declared.links.Link.{Link}
-use Rattle.scope.specs.declared.scope.Resolved.{Resolved}
-use Rattle.scope.specs.declared.scope.Resolved.TheVariants.{Absent, Found}
+use Rattle.scope.specs.declared.scope.Found.{Found}
 use Rattle.scope.specs.Steps.Links.{link_at}
 use Rattle.scope.specs.Steps.ScopeCode.{answer_at}
 use Rattle.binder.specs.Instance.{definition_of, exported_of}
@@ -15,9 +14,9 @@ use Rattle.binder.specs.Instance.{definition_of, exported_of}
 -- ---- what the code's enum stands for
 
 -- what a search yields
-unfoldable pub scoped_of : Resolved → model.Resolved
-scoped_of Absent = model.absent
-scoped_of (Found k d a) = model.answer k (definition_of d) a
+unfoldable pub scoped_of : Option Found → model.Resolved
+scoped_of None = model.absent
+scoped_of (Some hit) = model.answer hit.object (definition_of hit.definition) hit.address
 
 -- ---- against the model's objects
 

@@ -6,5 +6,5 @@ use Rattle.export.proofs.lugwormpin_query.Goals as goal
 
 pub returns : goal.returns
 returns c =
-    rw (c.store_reply.ensures.value, c.store_reply.ensures.answer_after)
+    rw (c.answer_number.ensures, c.store_reply.ensures)
     (ap (asked_of (length c.args.answer.now)) c.query-reply.ensures)

@@ -6,5 +6,5 @@ use Rattle.export.proofs.lugwormpin_query_all.Goals as goal
 
 pub returns : goal.returns
 returns c =
-    ap (λ (n : ℕ). asked n c.query_all-reply.new.arena c.query_all-reply.new.words) c.reply_all_number.ensures
+    ap (λ (n : ℕ). asked n c.query_all-reply.new.arena c.query_all-reply.new.words) c.answer_number.ensures
     ∙ ap asked_all_of c.query_all-reply.ensures

@@ -5,5 +5,5 @@ use Rattle.export.proofs.lugwormpin_start_stop.Goals as goal
 
 pub returns : goal.returns
 returns c =
-    rw (c.store_counts.ensures.value, c.store_counts.ensures.counts_after)
+    rw (c.answer_number.ensures, c.store_counts.ensures)
     (ap (called_lists_of (length c.args.counts.now)) (rw c.policy_of-policy.ensures at c.start_stop-l.ensures))

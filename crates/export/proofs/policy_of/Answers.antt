@@ -8,7 +8,7 @@ unfolding policy_of
 returns-then-strict-eq0 c =
     rw (eq-eqb _ _ c.if-strict-eq0.true)
 
-pub returns : goal.returns
+pub returns-else-strict-eq0 : goal.returns-else-strict-eq0
 unfolding policy_of
-returns c =
+returns-else-strict-eq0 c =
     rw (ne_eqb _ _ c.if-strict-eq0.false)

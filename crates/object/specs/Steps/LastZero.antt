@@ -1,6 +1,6 @@
 -- The last zero byte before a place, and runs of table bytes, for the check that reads no name twice. Only private functions and
 -- `table_bytes` cite it. Assumes nothing.
-use Rattle.std.specs.Prelude.{Bool, true, false, List, ◌⊎◌, ◌≡◌, ℕ, ◌-◌, ◌≤◌, ◌<◌, min, get_or}
+use Rattle.std.specs.Prelude.{Bool, true, false, List, ◌⊎◌, ◌≡◌, ℕ, ◌-◌, ◌≤◌, ◌<◌, min, length, get_or}
 use Rattle.words.specs.Choice.{both}
 use Rattle.words.specs.Memory.{Mem}
 use Rattle.object.specs.declared.program_header.Segment.{Segment}
@@ -16,9 +16,9 @@ pub record LastZero (m : Mem) (end r : ℕ) : Type 0 where
 abbrev pub none_segment : Segment
 none_segment = record { vaddr = 0; memsz = 0; offset = 0; filesz = 0; flags = 0; align = 0 }
 
-abbrev pub LastZeros : Mem → ℕ → List Segment → List ℕ → Type 0
-LastZeros m span segments zeros =
-    ((i : ℕ) → i < 16 → LastZero m (min (get_or segments i none_segment).vaddr span) (get_or zeros i 0)) × LastZero m span (get_or zeros 16 0)
+abbrev pub LastZeros : Mem → ℕ → List Segment → List ℕ → ℕ → Type 0
+LastZeros m span segments zeros end =
+    ((i : ℕ) → i < length segments → LastZero m (min (get_or segments i none_segment).vaddr span) (get_or zeros i 0)) × LastZero m span end
 
 -- the byte at `i` is in the segment, and it is writable
 abbrev pub spoils : Segment → ℕ → Bool

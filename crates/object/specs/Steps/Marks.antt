@@ -1,11 +1,10 @@
 -- Marks of symbols whose walk is known to pass, for the check that walks no chain twice. Only private functions cite it. Assumes nothing.
-use Rattle.std.specs.Prelude.{Bool, true, false, List, ◌⊎◌, ◌≡◌, ℕ, ◌+◌, ◌-◌, ◌*◌, ◌/◌, ◌%◌, ◌^◌, ◌≤◌, ◌<◌, length, take, get_or}
+use Rattle.std.specs.Prelude.{Bool, true, false, List, ◌⊎◌, ◌≡◌, ℕ, ◌+◌, ◌-◌, ◌*◌, ◌/◌, ◌%◌, ◌^◌, ◌≤◌, ◌<◌, length, get_or}
 use Rattle.words.specs.Choice.{both, every}
 use Rattle.object.specs.declared.hash_tables.HashTable.{HashTable}
 use Rattle.object.specs.declared.hash_tables.HashTable.TheVariants.{Without, SysV, Gnu}
 use Rattle.object.specs.declared.hash_tables.View.{View}
 use Rattle.object.specs.declared.table_bytes.Bounds.{Bounds}
-use Rattle.object.specs.declared.check.Shortcuts.{Shortcuts}
 use Rattle.object.specs.declared.check.Walked.{Walked}
 use Rattle.object.specs.declared.check.Walked.TheVariants.{Ended, Failed, Cut}
 use Rattle.object.specs.TableBytes.{is_table}
@@ -62,14 +61,13 @@ lowest (Gnu at n symoffset b shift) = symoffset
 
 -- what is asked of each symbol
 abbrev pub step_in : Bounds → List ℕ → View → ℕ → Bool
-step_in b m v = step_ok (is_table b.span (take b.count b.segments)) m v.symbols v.strings v.table
+step_in b m v = step_ok (is_table b.span (b.segments.now)) m v.symbols v.strings v.table
 
 -- the first `chained` symbols of the chain pass as far as the chain goes
 abbrev pub ChainedOk : (ℕ → Bool) → HashTable → ℕ → Type 0
 ChainedOk is_t t chained = (s : ℕ) → s - lowest t < chained → chain_ok is_t t s ≡ true
 
-pub record ShortcutsOk (b : Bounds) (m : List ℕ) (v : View) (q : Shortcuts) : Type 0 where
-  pub tables : TablesFine (is_table b.span (take b.count b.segments)) m v.symbols v.strings b.span q.fits q.ends
-  pub chained : ChainedOk (is_table b.span (take b.count b.segments)) v.table q.chained
-  pub low : q.low ≡ lowest v.table
-  pub step : 0 < q.step
+pub record ShortcutsOk (b : Bounds) (m : List ℕ) (v : View) (fits ends chained low : ℕ) : Type 0 where
+  pub tables : TablesFine (is_table b.span b.segments.now) m v.symbols v.strings b.span fits ends
+  pub chain : ChainedOk (is_table b.span b.segments.now) v.table chained
+  pub start : low ≡ lowest v.table

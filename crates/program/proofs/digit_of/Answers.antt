@@ -8,7 +8,7 @@ unfolding digit
 returns-then-d-lt10 c =
     rw (lt-ltb _ _ c.if-d-lt10.true)
 
-pub returns : goal.returns
+pub returns-else-d-lt10 : goal.returns-else-d-lt10
 unfolding digit
-returns c =
+returns-else-d-lt10 c =
     rw (le-ltb _ _ c.if-d-lt10.false)

@@ -12,5 +12,5 @@ returns c =
     let out = c.args.out.now in
     let bytes : length {A = ℕ} (replicate arena_bytes 0) ≡ arena_bytes = length-replicate {A = ℕ} arena_bytes 0 in
     let words : length {A = ℕ} (replicate report_words 0) ≡ report_words = length-replicate {A = ℕ} report_words 0 in
-    c.put_answer.ensures
+    c.print_answer.ensures
     ∙ ap (λ (l : List ℕ). print (written out 0) l) (rw (bytes, words) at (ap lines_of c.bind_input-answer.ensures))

@@ -1,9 +1,7 @@
 -- What the code leaves in a list, word by word, and what it answers. Assumes nothing.
-use Rattle.std.specs.Prelude.{List, ◌≡◌, ℕ, ◌+◌, length}
+use Rattle.std.specs.Prelude.{List, ◌≡◌, ℕ, ◌+◌, length, Ok, Err}
 use Rattle.words.specs.Memory.{mem, patch}
-use Rattle.start_stop.specs.StartStop.{Calls, Listing, listing, refused_lists, list_by}
-use Rattle.start_stop.specs.declared.Lists.{Lists}
-use Rattle.start_stop.specs.declared.Lists as lists
+use Rattle.start_stop.specs.StartStop.{Lists, Calls, Listing, listing, refused_lists, list_by}
 
 -- the words `ws` went to the list `xs` from place `n` on, and left `ys`; what falls past its end is dropped. `r` is the place after them
 pub record Put (ws : List ℕ) (n : ℕ) (xs ys : List ℕ) (r : ℕ) : Type 0 where
@@ -12,9 +10,9 @@ pub record Put (ws : List ℕ) (n : ℕ) (xs ys : List ℕ) (r : ℕ) : Type 0 w
 
 -- the answer; a refusal leaves zeros
 unfoldable pub finished_of : Lists → List ℕ → List ℕ → List ℕ → List ℕ → Listing
-finished_of (lists.TheVariants.Listed n m) arena report start stop = listing (lists.TheVariants.Listed n m) arena report start stop
-finished_of (lists.TheVariants.Refused n k) arena report start stop =
-    refused_lists (length arena) (length report) (length start) (length stop) n k
+finished_of (Ok c) arena report start stop = listing (Ok c) arena report start stop
+finished_of (Err r) arena report start stop =
+    refused_lists (length arena) (length report) (length start) (length stop) r.number r.object
 
 -- what is left of a bound set, finished, whatever its report
 abbrev pub ListsMade : (ℕ → Calls) → List ℕ → List ℕ → List ℕ → List ℕ → Lists → Type 0

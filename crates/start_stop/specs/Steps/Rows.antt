@@ -1,5 +1,5 @@
 -- The table of rows: the tags that name functions, eight words an object, as the code reads them before binding. Assumes nothing.
-use Rattle.std.specs.Prelude.{List, ◌≡◌, ℕ, ◌+◌, ◌*◌, ◌^◌, ◌≤◌, ◌<◌, eqb, length, get_or}
+use Rattle.std.specs.Prelude.{List, ◌≡◌, ℕ, ◌+◌, ◌*◌, ◌^◌, ◌≤◌, ◌<◌, eqb, length, get_or, unwrap_or}
 use Rattle.words.specs.Choice.{pick}
 use Rattle.words.specs.Memory.{Mem, mem, from}
 use Rattle.words.specs.Words.{sum64}
@@ -14,13 +14,13 @@ use Rattle.start_stop.specs.StartStop.{fields_at, Array, array_of, Calls}
 -- word `j` of a row: DT_INIT, DT_FINI, then of the preinit, init and fini array where it starts and how many words it has
 unfoldable pub row_word : Fields → ℕ → ℕ
 row_word f j =
-    pick (eqb j 0) (f DT.INIT).value
-    (pick (eqb j 1) (f DT.FINI).value
-    (pick (eqb j 2) (f DT.PREINIT_ARRAY).value
+    pick (eqb j 0) (unwrap_or (f DT.INIT) 0)
+    (pick (eqb j 1) (unwrap_or (f DT.FINI) 0)
+    (pick (eqb j 2) (unwrap_or (f DT.PREINIT_ARRAY) 0)
     (pick (eqb j 3) (array_of f DT.PREINIT_ARRAY DT.PREINIT_ARRAYSZ).count
-    (pick (eqb j 4) (f DT.INIT_ARRAY).value
+    (pick (eqb j 4) (unwrap_or (f DT.INIT_ARRAY) 0)
     (pick (eqb j 5) (array_of f DT.INIT_ARRAY DT.INIT_ARRAYSZ).count
-    (pick (eqb j 6) (f DT.FINI_ARRAY).value (array_of f DT.FINI_ARRAY DT.FINI_ARRAYSZ).count))))))
+    (pick (eqb j 6) (unwrap_or (f DT.FINI_ARRAY) 0) (array_of f DT.FINI_ARRAY DT.FINI_ARRAYSZ).count))))))
 
 -- word `j` of object `k`; 0 past the table's end
 abbrev pub row_at : List ℕ → ℕ → ℕ → ℕ

@@ -1,7 +1,6 @@
 -- `binder::bind::bind_in` meets its contract. Assumes nothing.
-use Rattle.std.proofs.Common.{take, sym, ◌∙◌, true≢false}
+use Rattle.std.proofs.Common.{sym, ◌∙◌, true≢false}
 use Rattle.binder.proofs.UntilLaws.{crossing_index}
-use Rattle.sheet.specs.Steps.Parts.{inputs_in}
 use Rattle.binder.proofs.bind.bind_in.Goals as goal
 
 pub crossing_in-m-requires : goal.crossing_in-m-requires
@@ -29,12 +28,12 @@ returns-then-m c =
       c.crossing_in-m.result,
       c.crossing_in-m.ensures.1 r,
       (λ e. absurd (true≢false (sym c.if-m.true ∙ e))),
-      (λ e. c.crossed.ensures (u c.crossing_in-m.result.index (crossing_index a.table.now (inputs_in a.bytes.now a.parts) a.arena.now (take a.order.count a.order.list) c.crossing_in-m.result (c.crossing_in-m.ensures.1 r) e))),
+      (λ e. c.crossed.ensures (u c.crossing_in-m.result.index (crossing_index a.table.now a.set.now a.arena.now a.order.now c.crossing_in-m.result (c.crossing_in-m.ensures.1 r) e))),
     )
 
 pub run_order-p-requires : goal.run_order-p-requires
 run_order-p-requires c =
-    c.requires
+    c.requires.1
 
 pub shape_of-arena : goal.shape_of-arena
 shape_of-arena c =

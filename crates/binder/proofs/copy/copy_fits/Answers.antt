@@ -1,5 +1,5 @@
 -- `binder::copy::copy_fits` meets its contract. Assumes nothing.
-use Rattle.std.proofs.Common.{◌≡◌, ℕ, ◌+◌, ◌^◌, ◌<◌, ◌≤◌, Bool, true, false, leb, sym, refl, ◌∙◌, arith, le-leb, leb-false, leb-true}
+use Rattle.std.proofs.Common.{◌≡◌, ℕ, ◌+◌, ◌<◌, ◌≤◌, Bool, true, false, leb, sym, refl, ◌∙◌, arith, le-leb, leb-false, leb-true}
 use borrow.Author.Tests.{lt-leb}
 use Rattle.object.specs.declared.hash_tables.Definition.{Definition}
 use Rattle.scope.specs.declared.links.Link.{Link}
@@ -13,13 +13,6 @@ told {b} x size e h = leb-true x size (sym e ∙ h)
 
 not_told : {b : Bool} (x size : ℕ) → b ≡ leb x size → b ≡ false → size < x
 not_told {b} x size e h = leb-false x size (sym e ∙ h)
-
--- the sums fit
-sum_fits : (x y n size : ℕ) → x + y + n ≤ size → size < 2 ^ 64 → x + y < 2 ^ 64
-sum_fits x y n size h k = omega arith
-
-sums_fit : (x y n size : ℕ) → x + y + n ≤ size → size < 2 ^ 64 → x + y + n < 2 ^ 64
-sums_fit x y n size h k = omega arith
 
 -- the tests, in order
 module _ (size : ℕ) (t : Turn) (to : ℕ) (s : Link) (d : Definition) (n : ℕ) where
@@ -47,17 +40,10 @@ module _ (size : ℕ) (t : Turn) (to : ℕ) (s : Link) (d : Definition) (n : ℕ
           unfolding copy_fits
           to_first h = rw (a, le-leb _ _ b, le-leb _ _ e, le-leb _ _ f, le-leb _ _ h) refl
 
-          from_first :
-              s.offset + d.value < t.offset + to + n → s.offset + d.value + n ≤ t.offset + to
-              → true ≡ copy_fits size t to s d n
+          to_last :
+              s.offset + d.value < t.offset + to + n → leb (s.offset + d.value + n) (t.offset + to) ≡ copy_fits size t to s d n
           unfolding copy_fits
-          from_first g h = rw (a, le-leb _ _ b, le-leb _ _ e, le-leb _ _ f, lt-leb _ _ g, le-leb _ _ h) refl
-
-          overlap :
-              s.offset + d.value < t.offset + to + n → t.offset + to < s.offset + d.value + n
-              → false ≡ copy_fits size t to s d n
-          unfolding copy_fits
-          overlap g h = rw (a, le-leb _ _ b, le-leb _ _ e, le-leb _ _ f, lt-leb _ _ g, lt-leb _ _ h) refl
+          to_last h = rw (a, le-leb _ _ b, le-leb _ _ e, le-leb _ _ f, lt-leb _ _ h) refl
 
 pub returns-then-d : goal.returns-then-d
 returns-then-d c =
@@ -78,47 +64,12 @@ returns-then-not-ends_inside-3 c =
     let a = c.args in
     from_past_end a.size a.t a.to a.s a.d a.n c.if-d.false (omega (arith, told (0 + a.d.value + a.n) a.s.span c.ends_inside.ensures c.if-not-ends_inside.false)) (told (a.t.offset + a.to + a.n) a.size c.ends_inside-2.ensures c.if-not-ends_inside-2.false) (not_told (a.s.offset + a.d.value + a.n) a.size c.ends_inside-3.ensures c.if-not-ends_inside-3.true)
 
-pub overflow_add-t : goal.overflow_add-t
-overflow_add-t c =
-    let a = c.args in
-    record { fits = sum_fits a.t.offset a.to a.n a.size (told (a.t.offset + a.to + a.n) a.size c.ends_inside-2.ensures c.if-not-ends_inside-2.false) (omega arith) }
-
-pub overflow_add-t-2 : goal.overflow_add-t-2
-overflow_add-t-2 c =
-    let a = c.args in
-    record { fits = sums_fit a.t.offset a.to a.n a.size (told (a.t.offset + a.to + a.n) a.size c.ends_inside-2.ensures c.if-not-ends_inside-2.false) (omega arith) }
-
-pub overflow_add-s : goal.overflow_add-s
-overflow_add-s c =
-    let a = c.args in
-    record { fits = sum_fits a.s.offset a.d.value a.n a.size (told (a.s.offset + a.d.value + a.n) a.size c.ends_inside-3.ensures c.if-not-ends_inside-3.false) (omega arith) }
-
 pub returns-then-t-to : goal.returns-then-t-to
 returns-then-t-to c =
     let a = c.args in
-    to_first a.size a.t a.to a.s a.d a.n c.if-d.false (omega (arith, told (0 + a.d.value + a.n) a.s.span c.ends_inside.ensures c.if-not-ends_inside.false)) (told (a.t.offset + a.to + a.n) a.size c.ends_inside-2.ensures c.if-not-ends_inside-2.false) (told (a.s.offset + a.d.value + a.n) a.size c.ends_inside-3.ensures c.if-not-ends_inside-3.false) c.if-t-to.true
+    rw (le-leb _ _ c.if-t-to.true) (to_first a.size a.t a.to a.s a.d a.n c.if-d.false (omega (arith, told (0 + a.d.value + a.n) a.s.span c.ends_inside.ensures c.if-not-ends_inside.false)) (told (a.t.offset + a.to + a.n) a.size c.ends_inside-2.ensures c.if-not-ends_inside-2.false) (told (a.s.offset + a.d.value + a.n) a.size c.ends_inside-3.ensures c.if-not-ends_inside-3.false) c.if-t-to.true)
 
-pub overflow_add-s-2 : goal.overflow_add-s-2
-overflow_add-s-2 c =
+pub returns-else-t-to : goal.returns-else-t-to
+returns-else-t-to c =
     let a = c.args in
-    record { fits = sum_fits a.s.offset a.d.value a.n a.size (told (a.s.offset + a.d.value + a.n) a.size c.ends_inside-3.ensures c.if-not-ends_inside-3.false) (omega arith) }
-
-pub overflow_add-s-3 : goal.overflow_add-s-3
-overflow_add-s-3 c =
-    let a = c.args in
-    record { fits = sums_fit a.s.offset a.d.value a.n a.size (told (a.s.offset + a.d.value + a.n) a.size c.ends_inside-3.ensures c.if-not-ends_inside-3.false) (omega arith) }
-
-pub overflow_add-t-3 : goal.overflow_add-t-3
-overflow_add-t-3 c =
-    let a = c.args in
-    record { fits = sum_fits a.t.offset a.to a.n a.size (told (a.t.offset + a.to + a.n) a.size c.ends_inside-2.ensures c.if-not-ends_inside-2.false) (omega arith) }
-
-pub returns-then-s-value : goal.returns-then-s-value
-returns-then-s-value c =
-    let a = c.args in
-    from_first a.size a.t a.to a.s a.d a.n c.if-d.false (omega (arith, told (0 + a.d.value + a.n) a.s.span c.ends_inside.ensures c.if-not-ends_inside.false)) (told (a.t.offset + a.to + a.n) a.size c.ends_inside-2.ensures c.if-not-ends_inside-2.false) (told (a.s.offset + a.d.value + a.n) a.size c.ends_inside-3.ensures c.if-not-ends_inside-3.false) c.if-t-to.false c.if-s-value.true
-
-pub returns : goal.returns
-returns c =
-    let a = c.args in
-    overlap a.size a.t a.to a.s a.d a.n c.if-d.false (omega (arith, told (0 + a.d.value + a.n) a.s.span c.ends_inside.ensures c.if-not-ends_inside.false)) (told (a.t.offset + a.to + a.n) a.size c.ends_inside-2.ensures c.if-not-ends_inside-2.false) (told (a.s.offset + a.d.value + a.n) a.size c.ends_inside-3.ensures c.if-not-ends_inside-3.false) c.if-t-to.false c.if-s-value.false
+    to_last a.size a.t a.to a.s a.d a.n c.if-d.false (omega (arith, told (0 + a.d.value + a.n) a.s.span c.ends_inside.ensures c.if-not-ends_inside.false)) (told (a.t.offset + a.to + a.n) a.size c.ends_inside-2.ensures c.if-not-ends_inside-2.false) (told (a.s.offset + a.d.value + a.n) a.size c.ends_inside-3.ensures c.if-not-ends_inside-3.false) c.if-t-to.false

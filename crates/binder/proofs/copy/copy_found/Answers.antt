@@ -1,5 +1,5 @@
 -- `binder::copy::copy_found` meets its contract. Assumes nothing.
-use Rattle.std.proofs.Common.{◌≡◌, ℕ, ◌+◌, ◌^◌, ◌<◌, ◌≤◌, true, false, not, leb, List, length, take, sym, refl, ◌∙◌, inl, inr, ⊎_elim, arith, eq-eqb, ne_eqb, leb-true}
+use Rattle.std.proofs.Common.{◌≡◌, ℕ, ◌+◌, ◌^◌, ◌<◌, ◌≤◌, true, false, not, leb, List, length, sym, refl, ◌∙◌, inl, inr, ⊎_elim, arith, eq-eqb, ne_eqb, leb-true}
 use Rattle.words.specs.Memory.{mem, from, patch}
 use Rattle.words.proofs.Choice.{both_true, either_true}
 use Rattle.object.specs.TableBytes.{in_writable}
@@ -55,17 +55,17 @@ module _ (t : Turn) (ss : List Segment) (to : ℕ) (s : Link) (d : Definition) (
 pub returns-then-n-eq0 : goal.returns-then-n-eq0
 returns-then-n-eq0 c =
     let a = c.args in
-    nothing a.t (take a.b.count a.b.segments) a.to a.s a.d a.n a.p a.arena.now c.if-n-eq0.true
+    nothing a.t (a.b.segments.now) a.to a.s a.d a.n a.p a.arena.now c.if-n-eq0.true
 
 pub returns-then-not-in_writable : goal.returns-then-not-in_writable
 returns-then-not-in_writable c =
     let a = c.args in
-    refused_17 a.t (take a.b.count a.b.segments) a.to a.s a.d a.n a.p a.arena.now c.if-n-eq0.false (sym c.in_writable.ensures ∙ c.if-not-in_writable.true) c.refused.ensures
+    refused_17 a.t (a.b.segments.now) a.to a.s a.d a.n a.p a.arena.now c.if-n-eq0.false (sym c.in_writable.ensures ∙ c.if-not-in_writable.true) c.refused.ensures
 
 pub returns-then-not-copy_fits : goal.returns-then-not-copy_fits
 returns-then-not-copy_fits c =
     let a = c.args in
-    refused_18 a.t (take a.b.count a.b.segments) a.to a.s a.d a.n a.p a.arena.now c.if-n-eq0.false (sym c.in_writable.ensures ∙ c.if-not-in_writable.false) (sym c.copy_fits.ensures ∙ c.if-not-copy_fits.true) c.refused-then-not-copy_fits.ensures
+    refused_18 a.t (a.b.segments.now) a.to a.s a.d a.n a.p a.arena.now c.if-n-eq0.false (sym c.in_writable.ensures ∙ c.if-not-in_writable.false) (sym c.copy_fits.ensures ∙ c.if-not-copy_fits.true) c.refused-then-not-copy_fits.ensures
 
 pub overflow_add-s : goal.overflow_add-s
 overflow_add-s c =
@@ -83,4 +83,4 @@ shape_of-arena c = c.copy_part.auto.arena
 pub returns : goal.returns
 returns c =
     let a = c.args in
-    copied a.t (take a.b.count a.b.segments) a.to a.s a.d a.n a.p a.arena.now c.if-n-eq0.false (sym c.in_writable.ensures ∙ c.if-not-in_writable.false) (sym c.copy_fits.ensures ∙ c.if-not-copy_fits.false) c.copy_part.ensures
+    copied a.t (a.b.segments.now) a.to a.s a.d a.n a.p a.arena.now c.if-n-eq0.false (sym c.in_writable.ensures ∙ c.if-not-in_writable.false) (sym c.copy_fits.ensures ∙ c.if-not-copy_fits.false) c.copy_part.ensures

@@ -5,14 +5,14 @@ use Rattle.object.specs.Entries as entries
 use Rattle.object.specs.Symbol as symbols
 use Rattle.binder.proofs.crossing.claim_at.Goals as goal
 
-pub returns-then-u32_off-ne5 : goal.returns-then-u32_off-ne5
+pub returns-then-word_off-ne5 : goal.returns-then-word_off-ne5
 unfolding crossing-specs.claim_of entries.rela_at
-returns-then-u32_off-ne5 c =
-    rw (c.no_claim.ensures, ne_eqb _ _ (λ e. c.if-u32_off-ne5.true (c.u32_off.ensures ∙ e)))
+returns-then-word_off-ne5 c =
+    rw (c.no_claim.ensures, ne_eqb _ _ (λ e. c.if-word_off-ne5.true (c.word_off.ensures ∙ e)))
 
 pub returns : goal.returns
 unfolding crossing-specs.claim_of entries.rela_at symbols.symbol_from
 returns c =
     let a = c.args in
-    let z : a.symbols + (24 * c.u32_off-s.result + 16) ≡ a.symbols + 24 * c.u32_off-s.result + 16 = omega arith in
-    rw (← c.u32_off-s.ensures, ← z, ← c.u64_off.ensures, ← c.u64_off-2.ensures, eq-eqb _ _ (sym c.u32_off.ensures ∙ c.if-u32_off-ne5.false))
+    let z : a.symbols + (24 * c.word_off-s.result + 16) ≡ a.symbols + 24 * c.word_off-s.result + 16 = omega arith in
+    rw (← c.word_off-s.ensures, ← z, ← c.word_off-2.ensures, ← c.word_off-3.ensures, eq-eqb _ _ (sym c.word_off.ensures ∙ c.if-word_off-ne5.false))

@@ -8,19 +8,19 @@ use Rattle.binder.proofs.crossing.copy_of.Goals as goal
 pub returns-then-not-is_copy : goal.returns-then-not-is_copy
 returns-then-not-is_copy c =
     let a = c.args in
-    c.no_copy.ensures ∙ no_copies_row a.table.now a.arena.now a.t (held_by a.o) a.e (row_at a.table.now a.e.rtype) (sym c.is_copy.ensures ∙ c.if-not-is_copy.true)
+    c.no_copy.ensures ∙ no_copies_row a.table.now a.arena.now a.t (held_by a.o.now) a.e (row_at a.table.now a.e.rtype) (sym c.is_copy.ensures ∙ c.if-not-is_copy.true)
 
 pub returns-in_default : goal.returns-in_default
 returns-in_default c =
     let a = c.args in
-    c.no_copy-in_default.ensures ∙ copy_refused a.table.now a.arena.now a.t (held_by a.o) a.e (copies_row_lem (row_at a.table.now a.e.rtype) (sym c.is_copy.ensures ∙ c.if-not-is_copy.false)) c.symbol_of-c.ensures c.in_default.is
+    c.no_copy-in_default.ensures ∙ copy_refused a.table.now a.arena.now a.t (held_by a.o.now) a.e (copies_row_lem (row_at a.table.now a.e.rtype) (sym c.is_copy.ensures ∙ c.if-not-is_copy.false)) c.symbol_of.ensures c.in_default.is
 
-pub returns-in_default-s : goal.returns-in_default-s
-returns-in_default-s c =
+pub returns-in_default-search_copy : goal.returns-in_default-search_copy
+returns-in_default-search_copy c =
     let a = c.args in
-    c.no_copy-in_default-s.ensures ∙ copy_absent a.table.now a.arena.now a.t (held_by a.o) a.e (copies_row_lem (row_at a.table.now a.e.rtype) (sym c.is_copy.ensures ∙ c.if-not-is_copy.false)) c.symbol_of-c.ensures c.in-Checked.is c.search_copy-s.ensures c.in_default-s.is
+    c.no_copy-in_default-search_copy.ensures ∙ copy_absent a.table.now a.arena.now a.t (held_by a.o.now) a.e (copies_row_lem (row_at a.table.now a.e.rtype) (sym c.is_copy.ensures ∙ c.if-not-is_copy.false)) c.symbol_of.ensures c.in-Ok.is c.search_copy.ensures c.in_default-search_copy.is
 
 pub returns : goal.returns
 returns c =
     let a = c.args in
-    copy_found a.table.now a.arena.now a.t (held_by a.o) a.e (copies_row_lem (row_at a.table.now a.e.rtype) (sym c.is_copy.ensures ∙ c.if-not-is_copy.false)) c.symbol_of-c.ensures c.in-Checked.is c.search_copy-s.ensures c.in-Found.is c.smaller-n.ensures c.link_at-link.ensures c.copy_range.ensures
+    copy_found a.table.now a.arena.now a.t (held_by a.o.now) a.e (copies_row_lem (row_at a.table.now a.e.rtype) (sym c.is_copy.ensures ∙ c.if-not-is_copy.false)) c.symbol_of.ensures c.in-Ok.is c.search_copy.ensures c.in-Some.is c.min-n.ensures c.link_at-link.ensures c.copy_range.ensures

@@ -1,5 +1,4 @@
-use Rattle.std.proofs.Common.{take, arith, rules}
-use Rattle.sheet.specs.Steps.Parts.{inputs_in}
+use Rattle.std.proofs.Common.{length, arith, rules}
 use Rattle.binder.proofs.CrossCode.{earlier_bounded, earlier_less}
 use Rattle.binder.proofs.WalkLaws.{search_begin, search_goes, search_ends}
 use Rattle.binder.proofs.crossing.first_crossing.Goals as goal
@@ -16,7 +15,7 @@ loop-first-init c =
       s.0,
       s.1,
       λ r.
-          search_begin a.table.now (inputs_in a.bytes.now a.parts) a.arena.now (take a.order.count a.order.list)
+          search_begin a.table.now a.set.now a.arena.now a.order.now
           c.scan_order-m.result (s.3 r),
     )
 
@@ -38,11 +37,11 @@ loop-first-preserved c =
     let l = c.loop-first in
     let s = c.scan_order-q.ensures in (
       s.2,
-      rw c.earlier_of-m.ensures (earlier_bounded a.order.count l.m c.scan_order-q.result l.invariant.1 s.0),
+      rw c.earlier_of-m.ensures (earlier_bounded (length a.order.now) l.m c.scan_order-q.result l.invariant.1 s.0),
       omega (arith, earlier_less l.m c.scan_order-q.result c.earlier_of-m.ensures, l.invariant.2),
       λ r.
           rw c.earlier_of-m.ensures
-          (search_goes a.table.now (inputs_in a.bytes.now a.parts) a.arena.now (take a.order.count a.order.list)
+          (search_goes a.table.now a.set.now a.arena.now a.order.now
           l.first l.m c.scan_order-q.result (l.invariant.3 r) (s.3 r)),
     )
 
@@ -52,6 +51,6 @@ returns c =
     let l = c.loop-first in (
       l.invariant.1,
       λ r.
-          search_ends a.table.now (inputs_in a.bytes.now a.parts) a.arena.now (take a.order.count a.order.list)
+          search_ends a.table.now a.set.now a.arena.now a.order.now
           l.first l.m (l.invariant.3 r) c.loop-first-test.false,
     )

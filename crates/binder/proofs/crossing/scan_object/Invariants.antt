@@ -8,9 +8,5 @@ use Rattle.binder.proofs.crossing.scan_object.Given as goal
 
 abbrev pub invariant-loop-i : goal.invariant-loop-i
 invariant-loop-i l =
-    (length l.kept ≡ 3 * round) × (l.n ≡ length (entries_of (image_in l.arena l.t) (held_by l.o))) × (l.n ≤ 2 ^ 33 - 2) × (l.i ≤ l.n) × (l.s ≤ l.seen + l.i)
+    (length l.kept ≡ 3 * round) × (l.n ≡ length (entries_of (image_in l.arena l.t) (held_by l.o))) × (l.n ≤ 2 ^ 33 - 2) × (l.s ≤ l.seen + l.i)
     × Walking l.first l.seen l.initial.kept (seen_of l.table l.arena l.t (held_by l.o)) (entries_of (image_in l.arena l.t) (held_by l.o)) l.i l.s l.kept
-
-abbrev pub decreases-loop-i : goal.decreases-loop-i
-decreases-loop-i l =
-    l.n - l.i

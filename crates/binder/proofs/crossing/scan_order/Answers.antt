@@ -1,27 +1,21 @@
-use Rattle.std.proofs.Common.{◌≡◌, length, take, sym, ◌∙◌, arith, rules}
-use Rattle.sheet.specs.Steps.Parts.{inputs_in}
-use Rattle.binder.proofs.LoopLaws.{counts_down}
+use Rattle.std.proofs.Common.{sym, ◌∙◌, arith}
 use Rattle.binder.proofs.ApartLaws.{bool_clash}
-use Rattle.binder.proofs.CrossCode.{take_long}
 use Rattle.binder.proofs.WalkLaws.{scan_begin, scan_goes, scan_stops, scan_ends, walk_here}
 use Rattle.binder.proofs.crossing.scan_order.Goals as goal
 
 pub loop-i-init : goal.loop-i-init
 loop-i-init c =
-    let a = c.args in
-    let whole : length a.order.list ≡ 64 = search rules in (
+    let a = c.args in (
       c.requires.2,
-      omega (arith, c.requires.0),
-      omega arith,
       omega arith,
       λ _.
-          scan_begin a.table.now (inputs_in a.bytes.now a.parts) a.arena.now (take a.order.count a.order.list) a.first
+          scan_begin a.table.now a.set.now a.arena.now a.order.now a.first
           a.kept.now c.requires.2,
     )
 
 pub scan_at-s-requires : goal.scan_at-s-requires
 scan_at-s-requires c =
-    (c.requires.1, c.loop-i.invariant.0, omega (arith, c.loop-i.invariant.3, c.loop-i.invariant.2, c.requires.0))
+    (c.requires.1, c.loop-i.invariant.0, omega (arith, c.loop-i.invariant.1, c.loop-i-test.true, c.requires.0))
 
 pub shape_of-kept-then-s : goal.shape_of-kept-then-s
 shape_of-kept-then-s c =
@@ -32,35 +26,29 @@ returns-then-s c =
     let a = c.args in
     let l = c.loop-i in (
       (c.scan_at-s.ensures.1, λ _. c.loop-i-test.true),
-      omega (arith, c.scan_at-s.ensures.0, l.invariant.3, l.invariant.2, c.requires.0),
+      omega (arith, c.scan_at-s.ensures.0, l.invariant.1, c.loop-i-test.true, c.requires.0),
       c.scan_at-s.ensures.2,
       λ r.
-          scan_stops a.table.now (inputs_in a.bytes.now a.parts) a.arena.now (take a.order.count a.order.list) a.first
-          l.i l.seen l.kept (l.invariant.4 r)
-          (omega (arith, take_long a.order.list a.order.count l.invariant.1, c.loop-i-test.true)) c.scan_at-s.result _
-          (walk_here a.table.now (inputs_in a.bytes.now a.parts) a.arena.now a.order.list a.order.count l.i l.invariant.1
-          c.loop-i-test.true a.first l.seen l.kept _ c.scan_at-s.result c.file_of-file.ensures c.scan_at-s.ensures.3 r)
+          scan_stops a.table.now a.set.now a.arena.now a.order.now a.first
+          l.i l.seen l.kept (l.invariant.2 r)
+          c.loop-i-test.true c.scan_at-s.result _
+          (walk_here a.table.now a.set.now a.arena.now a.order.now l.i
+          c.loop-i-test.true a.first l.seen l.kept _ c.scan_at-s.result c.file-file.ensures c.scan_at-s.ensures.3 r)
           c.if-s.true,
     )
-
-pub loop-i-smaller : goal.loop-i-smaller
-loop-i-smaller c =
-    counts_down c.loop-i-test.true
 
 pub loop-i-preserved : goal.loop-i-preserved
 loop-i-preserved c =
     let a = c.args in
     let l = c.loop-i in (
       c.scan_at-s.ensures.2,
-      l.invariant.1,
-      omega arith,
-      omega (arith, c.scan_at-s.ensures.0, l.invariant.3),
+      omega (arith, c.scan_at-s.ensures.0, l.invariant.1),
       λ r.
-          scan_goes a.table.now (inputs_in a.bytes.now a.parts) a.arena.now (take a.order.count a.order.list) a.first
-          l.i l.seen l.kept (l.invariant.4 r)
-          (omega (arith, take_long a.order.list a.order.count l.invariant.1, c.loop-i-test.true)) c.scan_at-s.result _
-          (walk_here a.table.now (inputs_in a.bytes.now a.parts) a.arena.now a.order.list a.order.count l.i l.invariant.1
-          c.loop-i-test.true a.first l.seen l.kept _ c.scan_at-s.result c.file_of-file.ensures c.scan_at-s.ensures.3 r)
+          scan_goes a.table.now a.set.now a.arena.now a.order.now a.first
+          l.i l.seen l.kept (l.invariant.2 r)
+          c.loop-i-test.true c.scan_at-s.result _
+          (walk_here a.table.now a.set.now a.arena.now a.order.now l.i
+          c.loop-i-test.true a.first l.seen l.kept _ c.scan_at-s.result c.file-file.ensures c.scan_at-s.ensures.3 r)
           c.if-s.false,
     )
 
@@ -73,10 +61,10 @@ returns c =
     let a = c.args in
     let l = c.loop-i in (
       (omega arith, λ e. bool_clash (sym e)),
-      omega (arith, l.invariant.3, l.invariant.2, c.requires.0),
+      omega (arith, l.invariant.1, c.loop-i.auto.i-end, c.requires.0),
       l.invariant.0,
       λ r.
-          scan_ends a.table.now (inputs_in a.bytes.now a.parts) a.arena.now (take a.order.count a.order.list) a.first
-          l.i _ l.seen l.kept (l.invariant.4 r)
-          (omega (arith, take_long a.order.list a.order.count l.invariant.1, c.loop-i-test.false)),
+          scan_ends a.table.now a.set.now a.arena.now a.order.now a.first
+          l.i _ l.seen l.kept (l.invariant.2 r)
+          c.loop-i-test.false,
     )

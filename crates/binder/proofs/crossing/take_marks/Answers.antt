@@ -1,5 +1,4 @@
 use Rattle.std.proofs.Common.{sym}
-use Rattle.binder.proofs.LoopLaws.{counts_down}
 use Rattle.binder.proofs.ClaimLaws.{clash, taking_begins, taking_goes, taking_ends}
 use Rattle.binder.proofs.crossing.take_marks.Goals as goal
 
@@ -14,10 +13,6 @@ shape_of-marks-then-marks-i-ne0 c =
 pub returns-then-marks-i-ne0 : goal.returns-then-marks-i-ne0
 returns-then-marks-i-ne0 c =
     (c.loop-i.invariant.long, λ e. clash (sym e))
-
-pub loop-i-smaller : goal.loop-i-smaller
-loop-i-smaller c =
-    counts_down c.loop-i-test.true
 
 pub loop-i-preserved : goal.loop-i-preserved
 loop-i-preserved c =

@@ -18,11 +18,11 @@ loop-i-init t c = first_turn (room_mark c.args.k (read c.args.seen.now c.args.k 
 
 -- a turn
 pub loop-i-preserved : goal.loop-i-preserved
-loop-i-preserved t c = next_turn c.loop-i-test.true c.need_at.ensures c.loop-i.invariant c.visit-n.ensures
+loop-i-preserved t c = next_turn c.loop-i-test.true c.need_at.ensures c.loop-i.invariant c.visit.ensures
 
 -- k is put at the end
-pub bounds-list-n : goal.bounds-list-n
-bounds-list-n t c = place (read c.args.seen.now c.args.k (omega (arith, c.requires.marks)) c.if-seen-k.false) c.requires c.loop-i.invariant
+pub push-requires : goal.push-requires
+push-requires t c = (omega arith, place (read c.args.seen.now c.args.k (omega (arith, c.requires.marks)) c.if-seen-k.false) c.requires c.loop-i.invariant)
 
 pub returns : goal.returns
-returns t c = finish c.if-depth-eq0.false c.if-k-ge64.false (read c.args.seen.now c.args.k (omega (arith, c.requires.marks)) c.if-seen-k.false) c.requires c.loop-i-test.false c.loop-i.invariant
+returns t c = rw c.push.ensures.items (finish c.if-depth-eq0.false c.if-k-ge64.false (read c.args.seen.now c.args.k (omega (arith, c.requires.marks)) c.if-seen-k.false) c.requires c.loop-i-test.false c.loop-i.invariant)

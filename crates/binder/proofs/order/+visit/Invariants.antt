@@ -9,7 +9,4 @@ abbrev pub decreases-visit : goal.decreases-visit
 decreases-visit l = l.depth
 
 abbrev pub invariant-loop-i : goal.invariant-loop-i
-invariant-loop-i l = Turn l.needs l.depth l.k (state_of l.initial.list l.initial.n l.initial.seen) (state_of l.list l.n l.seen) l.i
-
-abbrev pub decreases-loop-i : goal.decreases-loop-i
-decreases-loop-i l = l.i
+invariant-loop-i l = Turn l.needs l.depth l.k (state_of l.initial.order.items l.initial.seen) (state_of l.order.items l.seen) l.i

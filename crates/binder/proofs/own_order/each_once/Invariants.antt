@@ -1,12 +1,8 @@
-use Rattle.std.proofs.Common.{◌≡◌, ◌+◌, ◌-◌, ◌≤◌, eqb}
+use Rattle.std.proofs.Common.{◌≡◌, ◌+◌, ◌-◌, eqb}
 use Rattle.model.specs.Order.{up_from, times}
 use Rattle.words.specs.Choice.{every}
 use Rattle.binder.proofs.own_order.each_once.Given as goal
 
 abbrev pub invariant-loop-k : goal.invariant-loop-k
 invariant-loop-k l =
-    (l.libraries ≤ 62) × (2 ≤ l.k) × (l.k ≤ l.libraries + 2) × (every (λ j. eqb (times j l.list) 1) (up_from l.k (l.libraries + 2 - l.k)) ≡ every (λ j. eqb (times j l.list) 1) (up_from 2 l.libraries))
-
-abbrev pub decreases-loop-k : goal.decreases-loop-k
-decreases-loop-k l =
-    l.libraries + 2 - l.k
+    every (λ j. eqb (times j l.list) 1) (up_from l.k (l.libraries + 2 - l.k)) ≡ every (λ j. eqb (times j l.list) 1) (up_from 2 l.libraries)

@@ -1,23 +1,28 @@
-use Rattle.binder.proofs.OwnOrderLaws.{other_length, program_elsewhere, not_once, all_tested}
-use Rattle.std.proofs.Common.{sym, ◌∙◌, arith, length-take-le}
+use Rattle.std.proofs.Common.{sym, ◌∙◌, arith, true≢false, eq-eqb, ne_eqb}
+use Rattle.binder.proofs.OwnOrderLaws.{other_length, order_tests, every_is}
+use Rattle.model.specs.Order.{listed}
 use Rattle.binder.proofs.own_order.is_order.Goals as goal
+use Rattle.binder.proofs.own_order.is_order.Goals.{then-last-eq1, else-last-eq1}
 
-pub returns-then-order-libraries : goal.returns-then-order-libraries
-returns-then-order-libraries c =
-    sym (other_length c.args.libraries c.args.order.now c.if-order-libraries.true)
+pub returns-in_default : goal.returns-in_default
+returns-in_default c =
+    sym (other_length c.args.libraries c.args.order.now (λ e. omega (arith, c.in_default.ensures.cases, e)))
 
-pub returns-then-order-libraries-ne1 : goal.returns-then-order-libraries-ne1
-returns-then-order-libraries-ne1 c =
-    program_elsewhere c.args.libraries c.args.order.now c.if-order-libraries.false c.if-order-libraries-ne1.true
+pub returns-then-front-libraries : goal.returns-then-front-libraries
+returns-then-front-libraries c =
+    sym (other_length c.args.libraries c.args.order.now (λ e. c.if-front-libraries.true (omega (arith, c.in-Some.ensures.cases.1, e))))
 
-pub slice_bounds-front-end : goal.slice_bounds-front-end
-slice_bounds-front-end c =
-    sym (length-take-le c.args.libraries c.args.order.now (omega (arith, c.if-order-libraries.false)))
+pub returns-then-each_once : goal.returns-then-each_once
+returns-then-each_once c =
+    elim c.if-last-eq1.branch [
+      | then-last-eq1 w ↦ rw (order_tests c.args.libraries c.in-Some.last.now c.in-Some.front.now c.in-Some.ensures.cases.0 c.if-front-libraries.false, eq-eqb _ _ w.if-last-eq1.true, sym w.each_once.ensures ∙ (sym w.value-is ∙ c.if-each_once.true))
+          (every_is (listed c.args.libraries) c.in-Some.front.now c.only_libraries.ensures)
+      | else-last-eq1 w ↦ absurd (true≢false (sym c.if-each_once.true ∙ (w.value-is ∙ ne_eqb _ _ w.if-last-eq1.false)))
+    ]
 
-pub returns-then-not-each_once : goal.returns-then-not-each_once
-returns-then-not-each_once c =
-    not_once c.args.libraries c.args.order.now c.if-order-libraries.false c.if-order-libraries-ne1.false (sym c.each_once.ensures ∙ c.if-not-each_once.true)
-
-pub returns : goal.returns
-returns c =
-    all_tested c.args.libraries c.args.order.now c.if-order-libraries.false c.if-order-libraries-ne1.false (sym c.each_once.ensures ∙ c.if-not-each_once.false) c.only_libraries.ensures
+pub returns-else-each_once : goal.returns-else-each_once
+returns-else-each_once c =
+    elim c.if-last-eq1.branch [
+      | then-last-eq1 w ↦ rw (order_tests c.args.libraries c.in-Some.last.now c.in-Some.front.now c.in-Some.ensures.cases.0 c.if-front-libraries.false, eq-eqb _ _ w.if-last-eq1.true, sym w.each_once.ensures ∙ (sym w.value-is ∙ c.if-each_once.false)) c.if-each_once.false
+      | else-last-eq1 w ↦ rw (order_tests c.args.libraries c.in-Some.last.now c.in-Some.front.now c.in-Some.ensures.cases.0 c.if-front-libraries.false, ne_eqb _ _ w.if-last-eq1.false) c.if-each_once.false
+    ]

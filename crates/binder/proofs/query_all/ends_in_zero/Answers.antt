@@ -1,20 +1,14 @@
 -- `binder::query_all::ends_in_zero` meets its contract. Assumes nothing.
-use Rattle.std.proofs.Common.{◌≡◌, suc, ◌-◌, length, sym, ◌∙◌, arith, eq-eqb, ne_eqb}
+use Rattle.std.proofs.Common.{◌≡◌, suc, ◌-◌, length, sym, arith}
 use Rattle.binder.proofs.AllNamesLaws.{ends_none, ends_last}
 use Rattle.binder.proofs.query_all.ends_in_zero.Goals as goal
 
-pub returns-then-n-eq0 : goal.returns-then-n-eq0
-returns-then-n-eq0 c =
-    sym (ends_none c.args.list.now c.if-n-eq0.true)
+pub returns-in-None : goal.returns-in-None
+returns-in-None c =
+    sym (ends_none c.args.list.now (omega (arith, c.in-None.ensures.item.3)))
 
-pub returns-then-list-n-eq0 : goal.returns-then-list-n-eq0
-returns-then-list-n-eq0 c =
+pub returns-in-Some : goal.returns-in-Some
+returns-in-Some c =
     let xs = c.args.list.now in
-    let n : length xs ≡ suc (length xs - 1) = omega (arith, c.if-n-eq0.false) in
-    sym (ends_last xs (length xs - 1) n ∙ eq-eqb _ 0 c.if-list-n-eq0.true)
-
-pub returns : goal.returns
-returns c =
-    let xs = c.args.list.now in
-    let n : length xs ≡ suc (length xs - 1) = omega (arith, c.if-n-eq0.false) in
-    sym (ends_last xs (length xs - 1) n ∙ ne_eqb _ 0 c.if-list-n-eq0.false)
+    let n : length xs ≡ suc (length xs - 1) = omega (arith, c.in-Some.ensures.item.3.0) in
+    rw (c.in-Some.ensures.item.3.1 0) (sym (ends_last xs (length xs - 1) n))

@@ -1,19 +1,15 @@
 -- `binder::query_all::list_ok` meets its contract. Assumes nothing.
-use Rattle.std.proofs.Common.{sym, ◌∙◌, eq-eqb, ne_eqb}
+use Rattle.std.proofs.Common.{sym, ◌∙◌}
+use Rattle.binder.proofs.AllNamesLaws.{zeros_counted}
 use Rattle.binder.specs.QueryAll.{list_ok}
 use Rattle.binder.proofs.query_all.list_ok.Goals as goal
 
-pub returns-then-not-ends_in_zero : goal.returns-then-not-ends_in_zero
+pub returns-then-ends_in_zero : goal.returns-then-ends_in_zero
 unfolding list_ok
-returns-then-not-ends_in_zero c =
-    rw (sym c.ends_in_zero.ensures ∙ c.if-not-ends_in_zero.true)
+returns-then-ends_in_zero c =
+    rw (sym c.ends_in_zero.ensures ∙ c.if-ends_in_zero.true, c.zero_bytes.ensures, zeros_counted c.args.list.now)
 
-pub returns-then-zero_bytes-words : goal.returns-then-zero_bytes-words
+pub returns-else-ends_in_zero : goal.returns-else-ends_in_zero
 unfolding list_ok
-returns-then-zero_bytes-words c =
-    rw (sym c.ends_in_zero.ensures ∙ c.if-not-ends_in_zero.false, ← c.zero_bytes.ensures, ne_eqb _ _ c.if-zero_bytes-words.true)
-
-pub returns : goal.returns
-unfolding list_ok
-returns c =
-    rw (sym c.ends_in_zero.ensures ∙ c.if-not-ends_in_zero.false, ← c.zero_bytes.ensures, eq-eqb _ _ c.if-zero_bytes-words.false)
+returns-else-ends_in_zero c =
+    rw (c.if-ends_in_zero.false, sym c.ends_in_zero.ensures ∙ c.if-ends_in_zero.false)

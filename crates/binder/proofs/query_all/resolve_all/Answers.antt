@@ -1,6 +1,6 @@
-use Rattle.std.proofs.Common.{refl, ap, ◌∙◌, arith, length-set}
+use Rattle.std.proofs.Common.{refl, ap, ◌∙◌, arith, length-set, Option}
 use Rattle.model.specs.Relocation.{address_or0}
-use Rattle.scope.specs.declared.scope.Resolved.{Resolved}
+use Rattle.scope.specs.declared.scope.Found.{Found}
 use Rattle.binder.specs.Steps.ScopeModel.{scoped_of}
 use Rattle.binder.specs.Steps.AllNames.{link_address, link_addresses}
 use Rattle.binder.proofs.AllNamesLaws.{fill_begin, fill_end, fill_inside, fill_room, fill_turn}
@@ -41,7 +41,7 @@ loop-at-smaller c =
 
 pub loop-at-preserved : goal.loop-at-preserved
 loop-at-preserved c =
-    let v = c.address_or_0.ensures ∙ ap (λ (s : Resolved). address_or0 (scoped_of s)) (rw c.gnu_hash-gnu.ensures at c.resolve-s.ensures) in
+    let v = c.address_or_0.ensures ∙ ap (λ (s : Option Found). address_or0 (scoped_of s)) (rw c.gnu_hash-gnu.ensures at c.resolve-s.ensures) in
     (fill_turn _ _ _ _ _ c.loop-at.invariant.0 c.loop-at-test.true _ c.name_at-name.ensures _ v, simp length-set c.loop-at.invariant.1)
 
 pub shape_of-words : goal.shape_of-words

@@ -6,10 +6,10 @@ pub returns-then-last-number : goal.returns-then-last-number
 returns-then-last-number c =
     rw (eq-eqb _ _ c.if-last-number.true)
 
-pub returns-in-Absent : goal.returns-in-Absent
-returns-in-Absent c =
-    rw (ne_eqb _ _ c.if-last-number.false, ← c.search-s.ensures, c.in-Absent.is)
+pub returns-in-None : goal.returns-in-None
+returns-in-None c =
+    rw (ne_eqb _ _ c.if-last-number.false, ← c.search.ensures, c.in-None.is)
 
-pub returns-in-Found : goal.returns-in-Found
-returns-in-Found c =
-    rw (ne_eqb _ _ c.if-last-number.false, ← c.search-s.ensures, c.in-Found.is)
+pub returns-in-Some : goal.returns-in-Some
+returns-in-Some c =
+    rw (ne_eqb _ _ c.if-last-number.false, ← c.search.ensures, c.in-Some.is)

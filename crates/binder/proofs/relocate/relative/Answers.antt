@@ -13,4 +13,4 @@ shape_of-arena c = c.write_word.auto.arena
 pub returns : goal.returns
 unfolding fixed_of field_of
 returns c =
-    rw (← c.in_writable.ensures, c.if-not-in_writable.false, ← c.sum_u64.ensures, c.write_word.ensures)
+    rw (← c.in_writable.ensures, c.if-not-in_writable.false, c.write_word.ensures)

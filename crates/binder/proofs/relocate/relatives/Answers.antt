@@ -9,11 +9,11 @@ loop-i-init c =
     let g = c.requires in
     (refl, omega arith, g.0, refl, g.1, omega (arith, g.2), g.3, relatives_none a.base a.at a.low a.high a.start a.part.now)
 
-pub shape_of-part-then-u32_in-ne8 : goal.shape_of-part-then-u32_in-ne8
-shape_of-part-then-u32_in-ne8 c = c.loop-i.invariant.0
+pub shape_of-part-then-load-ne8 : goal.shape_of-part-then-load-ne8
+shape_of-part-then-load-ne8 c = c.loop-i.invariant.0
 
-pub returns-then-u32_in-ne8 : goal.returns-then-u32_in-ne8
-returns-then-u32_in-ne8 c = (c.loop-i.invariant.1, c.loop-i.invariant.2, c.loop-i.invariant.7)
+pub returns-then-load-ne8 : goal.returns-then-load-ne8
+returns-then-load-ne8 c = (c.loop-i.invariant.1, c.loop-i.invariant.2, c.loop-i.invariant.7)
 
 pub shape_of-part-then-place-low : goal.shape_of-part-then-place-low
 shape_of-part-then-place-low c = c.loop-i.invariant.0
@@ -43,7 +43,7 @@ loop-i-preserved c =
       l.invariant.5,
       l.invariant.6,
       relatives_next a.base a.at a.low a.high a.start l.i a.part.now l.part s.new.s l.invariant.1 l.invariant.7
-          (relative_written a.base a.at a.low a.high l.i l.part l.invariant.3 c.u32_in.ensures c.if-u32_in-ne8.false c.u64_in-place.ensures (omega (arith, c.if-place-low.false)) (omega (arith, c.if-last-place.false, l.invariant.5)) c.u64_in.ensures c.sum_u64-v.ensures s.ensures),
+          (relative_written a.base a.at a.low a.high l.i l.part l.invariant.3 c.load.ensures c.if-load-ne8.false c.load-place.ensures (omega (arith, c.if-place-low.false)) (omega (arith, c.if-last-place.false, l.invariant.5)) c.load-in-loop-i.ensures refl s.ensures),
     )
 
 pub shape_of-part : goal.shape_of-part

@@ -1,6 +1,6 @@
 -- `binder::relocate::run_action` meets its contract. Assumes nothing.
 use Rattle.std.proofs.Common.{ap}
-use Rattle.binder.specs.Steps.Relocating.{with_arena, with_report, run_action}
+use Rattle.binder.specs.Steps.Relocating.{write_sought, with_arena, with_report, run_action}
 use Rattle.binder.proofs.relocate.run_action.Goals as goal
 
 pub returns-in-Ignored : goal.returns-in-Ignored
@@ -36,18 +36,15 @@ unfolding run_action
 returns-in-Relative c =
     rw (← c.action_at-a.ensures, c.in-Relative.is, ← c.bounds_of.ensures.segments) (ap (with_report _) c.relative.ensures)
 
-pub shape_of-arena-in-Symbolic : goal.shape_of-arena-in-Symbolic
-shape_of-arena-in-Symbolic c =
-    c.write_sought.auto.arena
-
-pub shape_of-report-in-Symbolic : goal.shape_of-report-in-Symbolic
-shape_of-report-in-Symbolic c =
-    c.write_sought.auto.report
-
-pub returns-in-Symbolic : goal.returns-in-Symbolic
+pub returns-in-Ok : goal.returns-in-Ok
 unfolding run_action
-returns-in-Symbolic c =
-    rw (← c.action_at-a.ensures, c.in-Symbolic.is, ← c.seek-s.ensures) c.write_sought.ensures
+returns-in-Ok c =
+    rw (← c.action_at-a.ensures, c.in-Symbolic.is, ← c.seek.ensures, c.in-Ok.is) c.write_sought.ensures
+
+pub returns-in-Err : goal.returns-in-Err
+unfolding run_action write_sought
+returns-in-Err c =
+    rw (← c.action_at-a.ensures, c.in-Symbolic.is, ← c.seek.ensures, c.in-Err.is, ← c.from.ensures, c.refused-in-Err.ensures)
 
 pub shape_of-arena-in-Copy : goal.shape_of-arena-in-Copy
 shape_of-arena-in-Copy c =

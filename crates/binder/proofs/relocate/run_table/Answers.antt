@@ -27,17 +27,17 @@ shape_of-report-then-n-j c = c.loop-i.invariant.1
 pub returns-then-n-j : goal.returns-then-n-j
 returns-then-n-j c =
     let passed :
-    (entries_left c.args.table.now c.args.t (held_by c.args.o) c.args.x.at c.args.x.first c.args.x.count c.symbolics-r.result.next (left c.keep-q.result c.symbolics-r.new.arena c.loop-i.report)
-    ≡ run_table c.args.table.now c.args.t (held_by c.args.o) c.args.x.at c.args.x.first c.args.x.count 0 (left c.args.p c.args.arena.now c.args.report.now))
-    × SymbolsOf c.args.t (held_by c.args.o) c.symbols_of-y.result c.symbolics-r.new.arena =
+    (entries_left c.args.table.now c.args.t (held_by c.args.o.now) c.args.x.at c.args.x.first c.args.x.count c.symbolics-r.result.next (left c.keep-q.result c.symbolics-r.new.arena c.loop-i.report)
+    ≡ run_table c.args.table.now c.args.t (held_by c.args.o.now) c.args.x.at c.args.x.first c.args.x.count 0 (left c.args.p c.args.arena.now c.args.report.now))
+    × SymbolsOf c.args.t (held_by c.args.o.now) c.symbols_of-y.result c.symbolics-r.new.arena =
     let a = c.args in
     let l = c.loop-i in
     let f = c.run_relatives in
     let g = c.symbolics-r in
     rw c.keep-q.ensures
-    (runs_passed a.table.now a.t (held_by a.o) c.symbols_of-y.result a.x.at a.x.first a.x.count l.w.low l.w.high l.q l.arena f.new.arena g.new.arena l.report l.i f.result g.result f.ensures.2 g.ensures.2 (rw c.bounds_of-b.ensures.segments at l.invariant.3) l.invariant.4 l.invariant.5 l.invariant.6) in
+    (runs_passed a.table.now a.t (held_by a.o.now) c.symbols_of-y.result a.x.at a.x.first a.x.count l.w.low l.w.high l.q l.arena f.new.arena g.new.arena l.report l.i f.result g.result f.ensures.2 g.ensures.2 (rw c.bounds_of-b.ensures.segments at l.invariant.3) l.invariant.4 l.invariant.5 l.invariant.6) in
     let a = c.args in
-    entries_end a.table.now a.t (held_by a.o) a.x.at a.x.first a.x.count c.symbolics-r.result.next c.if-n-j.true passed.0
+    entries_end a.table.now a.t (held_by a.o.now) a.x.at a.x.first a.x.count c.symbolics-r.result.next c.if-n-j.true passed.0
 
 pub run_action-q-requires : goal.run_action-q-requires
 run_action-q-requires c = c.requires
@@ -51,20 +51,20 @@ shape_of-report-then-q-ne0 c = c.run_action-q.auto.report ∙ c.loop-i.invariant
 pub returns-then-q-ne0 : goal.returns-then-q-ne0
 returns-then-q-ne0 c =
     let passed :
-    (entries_left c.args.table.now c.args.t (held_by c.args.o) c.args.x.at c.args.x.first c.args.x.count c.symbolics-r.result.next (left c.keep-q.result c.symbolics-r.new.arena c.loop-i.report)
-    ≡ run_table c.args.table.now c.args.t (held_by c.args.o) c.args.x.at c.args.x.first c.args.x.count 0 (left c.args.p c.args.arena.now c.args.report.now))
-    × SymbolsOf c.args.t (held_by c.args.o) c.symbols_of-y.result c.symbolics-r.new.arena =
+    (entries_left c.args.table.now c.args.t (held_by c.args.o.now) c.args.x.at c.args.x.first c.args.x.count c.symbolics-r.result.next (left c.keep-q.result c.symbolics-r.new.arena c.loop-i.report)
+    ≡ run_table c.args.table.now c.args.t (held_by c.args.o.now) c.args.x.at c.args.x.first c.args.x.count 0 (left c.args.p c.args.arena.now c.args.report.now))
+    × SymbolsOf c.args.t (held_by c.args.o.now) c.symbols_of-y.result c.symbolics-r.new.arena =
     let a = c.args in
     let l = c.loop-i in
     let f = c.run_relatives in
     let g = c.symbolics-r in
     rw c.keep-q.ensures
-    (runs_passed a.table.now a.t (held_by a.o) c.symbols_of-y.result a.x.at a.x.first a.x.count l.w.low l.w.high l.q l.arena f.new.arena g.new.arena l.report l.i f.result g.result f.ensures.2 g.ensures.2 (rw c.bounds_of-b.ensures.segments at l.invariant.3) l.invariant.4 l.invariant.5 l.invariant.6) in
+    (runs_passed a.table.now a.t (held_by a.o.now) c.symbols_of-y.result a.x.at a.x.first a.x.count l.w.low l.w.high l.q l.arena f.new.arena g.new.arena l.report l.i f.result g.result f.ensures.2 g.ensures.2 (rw c.bounds_of-b.ensures.segments at l.invariant.3) l.invariant.4 l.invariant.5 l.invariant.6) in
     let a = c.args in
     let l = c.loop-i in
     let g = c.symbolics-r in
     let k = c.run_action-q in
-    entry_stops a.table.now a.t (held_by a.o) a.x.at a.x.first a.x.count g.result.next c.keep-q.result g.new.arena l.report {b = k.new.arena} {noted = k.new.report}
+    entry_stops a.table.now a.t (held_by a.o.now) a.x.at a.x.first a.x.count g.result.next c.keep-q.result g.new.arena l.report {b = k.new.arena} {noted = k.new.report}
     (omega (arith, c.if-n-j.false)) c.rela_in-e.ensures refl c.wrapping_add_u32-number.ensures.value k.ensures passed.0 c.if-q-ne0.true
 
 pub range_after-w-requires : goal.range_after-w-requires
@@ -79,15 +79,15 @@ loop-i-smaller c = omega (arith, c.run_relatives.ensures.0, c.symbolics-r.ensure
 pub loop-i-preserved : goal.loop-i-preserved
 loop-i-preserved c =
     let passed :
-    (entries_left c.args.table.now c.args.t (held_by c.args.o) c.args.x.at c.args.x.first c.args.x.count c.symbolics-r.result.next (left c.keep-q.result c.symbolics-r.new.arena c.loop-i.report)
-    ≡ run_table c.args.table.now c.args.t (held_by c.args.o) c.args.x.at c.args.x.first c.args.x.count 0 (left c.args.p c.args.arena.now c.args.report.now))
-    × SymbolsOf c.args.t (held_by c.args.o) c.symbols_of-y.result c.symbolics-r.new.arena =
+    (entries_left c.args.table.now c.args.t (held_by c.args.o.now) c.args.x.at c.args.x.first c.args.x.count c.symbolics-r.result.next (left c.keep-q.result c.symbolics-r.new.arena c.loop-i.report)
+    ≡ run_table c.args.table.now c.args.t (held_by c.args.o.now) c.args.x.at c.args.x.first c.args.x.count 0 (left c.args.p c.args.arena.now c.args.report.now))
+    × SymbolsOf c.args.t (held_by c.args.o.now) c.symbols_of-y.result c.symbolics-r.new.arena =
     let a = c.args in
     let l = c.loop-i in
     let f = c.run_relatives in
     let g = c.symbolics-r in
     rw c.keep-q.ensures
-    (runs_passed a.table.now a.t (held_by a.o) c.symbols_of-y.result a.x.at a.x.first a.x.count l.w.low l.w.high l.q l.arena f.new.arena g.new.arena l.report l.i f.result g.result f.ensures.2 g.ensures.2 (rw c.bounds_of-b.ensures.segments at l.invariant.3) l.invariant.4 l.invariant.5 l.invariant.6) in
+    (runs_passed a.table.now a.t (held_by a.o.now) c.symbols_of-y.result a.x.at a.x.first a.x.count l.w.low l.w.high l.q l.arena f.new.arena g.new.arena l.report l.i f.result g.result f.ensures.2 g.ensures.2 (rw c.bounds_of-b.ensures.segments at l.invariant.3) l.invariant.4 l.invariant.5 l.invariant.6) in
     let a = c.args in
     let l = c.loop-i in
     let f = c.run_relatives in
@@ -99,8 +99,8 @@ loop-i-preserved c =
       omega (arith, c.if-n-j.false),
       c.range_after-w.ensures,
       λ h. c.if-q-ne0.false,
-      kept_symbols a.t (held_by a.o) c.symbols_of-y.result g.new.arena k.new.arena (entry_kept a.t (held_by a.o) a.table.now c.wrapping_add_u32-number.result c.rela_in-e.result c.keep-q.result g.new.arena l.report (row_at a.table.now c.rela_in-e.result.rtype) k.result k.new.arena k.new.report k.ensures) x.1,
-      entry_goes a.table.now a.t (held_by a.o) a.x.at a.x.first a.x.count g.result.next c.keep-q.result g.new.arena l.report {b = k.new.arena} {noted = k.new.report}
+      kept_symbols a.t (held_by a.o.now) c.symbols_of-y.result g.new.arena k.new.arena (entry_kept a.t (held_by a.o.now) a.table.now c.wrapping_add_u32-number.result c.rela_in-e.result c.keep-q.result g.new.arena l.report (row_at a.table.now c.rela_in-e.result.rtype) k.result k.new.arena k.new.report k.ensures) x.1,
+      entry_goes a.table.now a.t (held_by a.o.now) a.x.at a.x.first a.x.count g.result.next c.keep-q.result g.new.arena l.report {b = k.new.arena} {noted = k.new.report}
           (omega (arith, c.if-n-j.false)) c.rela_in-e.ensures refl c.wrapping_add_u32-number.ensures.value k.ensures x.0 c.if-q-ne0.false,
     )
 
@@ -114,4 +114,4 @@ pub returns : goal.returns
 returns c =
     let a = c.args in
     let l = c.loop-i in
-    entries_end a.table.now a.t (held_by a.o) a.x.at a.x.first a.x.count l.i c.loop-i-test.false l.invariant.6
+    entries_end a.table.now a.t (held_by a.o.now) a.x.at a.x.first a.x.count l.i c.loop-i-test.false l.invariant.6

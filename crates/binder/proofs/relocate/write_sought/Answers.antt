@@ -3,11 +3,6 @@ use Rattle.std.proofs.Common.{ap}
 use Rattle.binder.specs.Steps.Relocating.{with_report, write_sought}
 use Rattle.binder.proofs.relocate.write_sought.Goals as goal
 
-pub returns-in-Stopped : goal.returns-in-Stopped
-unfolding write_sought
-returns-in-Stopped c =
-    rw (c.in-Stopped.is, c.refused.ensures)
-
 pub shape_of-arena-in-Known : goal.shape_of-arena-in-Known
 shape_of-arena-in-Known c =
     c.write_field.auto.arena

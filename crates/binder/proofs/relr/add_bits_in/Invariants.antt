@@ -1,15 +1,11 @@
 -- `binder::relr::add_bits_in` meets its contract. Assumes nothing.
-use Rattle.std.proofs.Common.{◌≡◌, ◌+◌, ◌*◌, ◌≤◌, List, length}
+use Rattle.std.proofs.Common.{◌≡◌, ◌+◌, ◌-◌, ◌*◌, ◌≤◌, List, length}
 use Rattle.object.specs.declared.program_header.Segment.{Segment}
 use Rattle.object.specs.Steps.WritableRange.{WritableRange}
 use Rattle.binder.specs.Steps.Relocating.{add_bits}
 use Rattle.binder.proofs.relr.add_bits_in.Given as goal
 
-abbrev pub invariant-loop-n : goal.invariant-loop-n
-invariant-loop-n l =
-    (length l.part ≡ length l.initial.part) × (l.n ≤ 63) × (l.p + 8 * l.n ≡ l.location + 504) × (l.location + 504 ≤ length l.initial.part)
-    × ((ss : List Segment) → WritableRange ss l.location (l.location + 504) → add_bits l.base ss l.n l.p l.left l.part ≡ add_bits l.base ss 63 l.location l.bits l.initial.part)
-
-abbrev pub decreases-loop-n : goal.decreases-loop-n
-decreases-loop-n l =
-    l.n
+abbrev pub invariant-loop-i : goal.invariant-loop-i
+invariant-loop-i l =
+    (length l.part ≡ length l.initial.part) × (l.i ≤ 63) × (l.p + 8 * (63 - l.i) ≡ l.location + 504) × (l.location + 504 ≤ length l.initial.part)
+    × ((ss : List Segment) → WritableRange ss l.location (l.location + 504) → add_bits l.base ss (63 - l.i) l.p l.left l.part ≡ add_bits l.base ss 63 l.location l.bits l.initial.part)

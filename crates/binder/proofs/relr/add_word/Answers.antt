@@ -3,9 +3,9 @@ use Rattle.binder.specs.Steps.Relocating.{word_added}
 use Rattle.binder.proofs.relr.add_word.Goals as goal
 
 pub shape_of-part : goal.shape_of-part
-shape_of-part c = c.store_u64.auto.s
+shape_of-part c = c.store.auto.s
 
 pub returns : goal.returns
 unfolding word_added
 returns c =
-    rw (c.store_u64.ensures, c.sum_u64.ensures, c.u64_at-w.ensures)
+    rw (c.store.ensures, c.word_at-w.ensures)

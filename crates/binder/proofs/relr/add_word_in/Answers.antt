@@ -5,4 +5,4 @@ use Rattle.binder.proofs.relr.add_word_in.Goals as goal
 pub returns : goal.returns
 unfolding word_added
 returns c =
-    rw (c.store_in.ensures, c.sum_u64.ensures, c.u64_in-w.ensures)
+    rw (c.store_in.ensures, c.load-w.ensures)

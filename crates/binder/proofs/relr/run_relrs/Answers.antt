@@ -1,4 +1,5 @@
 -- `binder::relr::run_relrs` meets its contract. Assumes nothing.
+use Rattle.words.specs.Refusal.{refused_by}
 use Rattle.object.specs.Record.{held_by}
 use Rattle.binder.proofs.PartLaws.{relrs_in}
 use Rattle.binder.proofs.relr.run_relrs.Goals as goal
@@ -7,4 +8,4 @@ pub returns : goal.returns
 returns c =
     let a = c.args in
     let s = c.add_relrs in
-    relrs_in a.t (held_by a.o) a.arena.now s.new.part s.result c.smaller-off.ensures s.ensures
+    relrs_in a.t (held_by a.o.now) a.arena.now s.new.part (refused_by s.result) c.min-off.ensures s.ensures

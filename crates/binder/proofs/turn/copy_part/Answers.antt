@@ -1,47 +1,25 @@
-use Rattle.std.proofs.Common.{◌≡◌, ℕ, ◌+◌, ◌<◌, ◌≤◌, ◌⊎◌, List, length, set, sym, refl, ap, ◌∙◌, inl, inr, arith}
-use Rattle.binder.proofs.LoopLaws.{counts_down}
-use Rattle.words.specs.Memory.{mem, from, patch}
-use Rattle.words.proofs.Memory.{Out, write_out}
-use Rattle.words.proofs.Slices.{mem_patch, patch_none, patch_next}
-use Rattle.binder.specs.Steps.Relocating.{CopyApart}
+-- `binder::turn::copy_part` meets its contract: the bytes that are read are not among those that are written. Assumes nothing.
+use Rattle.std.proofs.Common.{◌≡◌, ℕ, ◌+◌, ◌-◌, ◌≤◌, ◌⊎◌, List, length, sym, ap, ◌∙◌, inl, inr, arith}
+use Rattle.std.specs.List.{CopiedTo, SameBelow, SameFrom}
+use Rattle.words.specs.Memory.{In, mem, from, write, patch}
+use Rattle.words.proofs.Memory.{Out, in_or_out, write_in, write_out}
+use Rattle.words.proofs.Slices.{mem_ext, mem_patch, length_patch}
 use Rattle.binder.proofs.turn.copy_part.Goals as goal
 
--- one turn: the byte that is read is still the one of the start
-module _ (xs : List ℕ) (off to start n i : ℕ) (ok : CopyApart (length xs) (off + to) start n) (h : i < n) where
-  apart : (off + to + n ≤ start) ⊎ (start + n ≤ off + to) → Out (off + to) i (start + i)
-  apart (inl a) = inr (omega arith)
-  apart (inr a) = inl (omega arith)
+module _ (xs ys : List ℕ) (start to n m : ℕ) (e : m ≡ n) (copied : CopiedTo xs ys start to m) (below : SameBelow xs ys to) (behind : SameFrom xs ys (to + m)) where
+  byte : (i : ℕ) → In to n i ⊎ Out to n i → mem ys i ≡ write (mem xs) to n (from start (mem xs)) i
+  unfolding mem
+  byte i (inl h) = copied i 0 h.0 (omega arith) ∙ sym (write_in (mem xs) to n (from start (mem xs)) i h)
+  byte i (inr (inl h)) = below i 0 h ∙ sym (write_out (mem xs) to n (from start (mem xs)) i (inl h))
+  byte i (inr (inr h)) = behind i 0 (omega arith) ∙ sym (write_out (mem xs) to n (from start (mem xs)) i (inr h))
 
-  turn : {ys zs : List ℕ} → ys ≡ patch xs (off + to) i (from start (mem xs)) → zs ≡ set ys (off + (to + i)) (mem ys (start + i))
-      → zs ≡ patch xs (off + to) (i + 1) (from start (mem xs))
-  turn {ys} {zs} e g =
-      let b : mem ys (start + i) ≡ mem xs (start + i)
-      = ap (λ (l : List ℕ). mem l (start + i)) e
-      ∙ (ap (λ (m : ℕ → ℕ). m (start + i)) (mem_patch xs (off + to) i (from start (mem xs)) (omega arith))
-      ∙ write_out (mem xs) (off + to) i (from start (mem xs)) (start + i) (apart ok.2)) in
-      let at : off + (to + i) ≡ off + to + i = omega arith in
-      patch_next xs (off + to) i (from start (mem xs)) e (g ∙ (ap (set ys (off + (to + i))) b ∙ ap (λ (k : ℕ). set ys k (mem xs (start + i))) at))
-
-pub loop-i-init : goal.loop-i-init
-loop-i-init c = (refl, omega arith, sym (patch_none _ _ _))
-
-pub loop-i-smaller : goal.loop-i-smaller
-loop-i-smaller c = counts_down c.loop-i-test.true
-
-pub loop-i-preserved : goal.loop-i-preserved
-unfolding mem
-loop-i-preserved c =
-    let a = c.args in
-    let l = c.loop-i in (
-      c.write_byte.auto.arena ∙ l.invariant.0,
-      omega arith,
-      turn a.arena.now a.off a.to a.start a.n l.i c.requires (omega arith) l.invariant.2 c.write_byte.ensures,
-    )
-
-pub shape_of-arena : goal.shape_of-arena
-shape_of-arena c = c.loop-i.invariant.0
+  patched : length ys ≡ length xs → to + n ≤ length xs → ys ≡ patch xs to n (from start (mem xs))
+  patched len room =
+      mem_ext ys (patch xs to n (from start (mem xs))) (len ∙ sym (length_patch xs to n (from start (mem xs))))
+      (λ i l. byte i (in_or_out to n i) ∙ sym (ap (λ (b : ℕ → ℕ). b i) (mem_patch xs to n (from start (mem xs)) room)))
 
 pub returns : goal.returns
 returns c =
-    let e : c.loop-i.i ≡ c.args.n = omega arith in
-    rw e at c.loop-i.invariant.2
+    let a = c.args in
+    let r = c.copy_within.ensures in
+    patched a.arena.now c.copy_within.new.self a.start (a.off + a.to) a.n (a.start + a.n - a.start) (omega arith) r.by_index.0 r.by_index.1 r.by_index.2 r.len c.requires.0

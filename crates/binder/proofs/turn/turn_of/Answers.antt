@@ -5,4 +5,4 @@ pub address_in-requires : goal.address_in-requires
 address_in-requires c = c.requires.long
 
 pub returns : goal.returns
-returns c = rw (c.sum_u64.ensures, c.address_in.ensures, c.link_at-s.ensures)
+returns c = rw (c.address_in.ensures, c.link_at-s.ensures)

@@ -10,4 +10,4 @@ returns-then-arena-off c = sym (patch_past _ _ _ _ (omega arith))
 pub returns : goal.returns
 returns c =
     let a = c.args in
-    put_tail a.arena.now a.off a.place 4 (byte_of a.v) (omega arith) c.store_u32.ensures
+    put_tail a.arena.now a.off a.place 4 (byte_of a.v) (omega arith) c.store.ensures

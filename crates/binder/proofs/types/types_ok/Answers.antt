@@ -1,4 +1,4 @@
-use Rattle.std.proofs.Common.{sym, refl, ◌∙◌, arith, rules}
+use Rattle.std.proofs.Common.{sym, refl, ◌∙◌, arith}
 use Rattle.binder.proofs.TypeWords.{words_count, words_turn, words_stop, words_end}
 use Rattle.binder.proofs.types.types_ok.Goals as goal
 
@@ -8,20 +8,16 @@ returns-then-types-ne64 c =
 
 pub loop-i-init : goal.loop-i-init
 loop-i-init c =
-    (omega arith, c.if-types-ne64.false, refl)
-
-pub bounds-types-i : goal.bounds-types-i
-bounds-types-i c =
-    search (rules, c.loop-i.invariant.1, c.loop-i-test.true)
+    refl
 
 pub returns-then-not-word_ok : goal.returns-then-not-word_ok
 returns-then-not-word_ok c =
-    words_stop c.args.types.now c.loop-i.invariant.1 c.loop-i.i (omega arith) c.loop-i.invariant.2 (sym c.word_ok.ensures ∙ c.if-not-word_ok.true)
+    words_stop c.args.types.now c.if-types-ne64.false c.loop-i.i (omega arith) c.loop-i.invariant (sym c.word_ok.ensures ∙ c.if-not-word_ok.true)
 
 pub loop-i-preserved : goal.loop-i-preserved
 loop-i-preserved c =
-    (omega arith, c.loop-i.invariant.1, words_turn c.args.types.now c.loop-i.invariant.1 c.loop-i.i (omega arith) c.loop-i.invariant.2 (sym c.word_ok.ensures ∙ c.if-not-word_ok.false))
+    words_turn c.args.types.now c.if-types-ne64.false c.loop-i.i (omega arith) c.loop-i.invariant (sym c.word_ok.ensures ∙ c.if-not-word_ok.false)
 
 pub returns : goal.returns
 returns c =
-    words_end c.args.types.now c.loop-i.invariant.1 c.loop-i.i (omega (arith, c.loop-i.invariant.0)) c.loop-i.invariant.2
+    words_end c.args.types.now c.if-types-ne64.false c.loop-i.i (omega arith) c.loop-i.invariant

@@ -21,10 +21,12 @@ returns-then-bucket_count-eq0 c =
     rw (sym c.numbers_ok.ensures ∙ c.if-not-numbers_ok.false, sym c.table_fits.ensures ∙ c.if-not-table_fits.false, sym c.bucket_count.ensures ∙ c.if-bucket_count-eq0.true)
 
 pub walks_ok-requires : goal.walks_ok-requires
-walks_ok-requires c =
-    (c.last_zeros.ensures, c.shortcuts_of-q.ensures, λ j g. absurd (unmarked 2048 j g))
+walks_ok-requires c = record { low = c.of-walks.result.shortcuts.start; marked = λ j g. absurd (unmarked 2048 j g) }
 
 pub returns : goal.returns
 unfolding table_ok
 returns c =
-    rw (sym c.numbers_ok.ensures ∙ c.if-not-numbers_ok.false, sym c.table_fits.ensures ∙ c.if-not-table_fits.false) c.walks_ok.ensures
+    let z = c.of.ensures in
+    let w = c.of-walks.ensures in
+    rw (sym c.numbers_ok.ensures ∙ c.if-not-numbers_ok.false, sym c.table_fits.ensures ∙ c.if-not-table_fits.false)
+    (rw (w.0, w.1, z.0, z.1) at c.walks_ok.ensures)

@@ -11,4 +11,4 @@ returns-then-not-table_off c =
 pub returns : goal.returns
 unfolding symbol_ok
 returns c =
-    rw (sym c.table_off.ensures ∙ c.if-not-table_off.false, ← c.u32_off-w.ensures) c.name_ok.ensures
+    rw (sym c.table_off.ensures ∙ c.if-not-table_off.false, ← c.word_off-w.ensures) c.name_ok.ensures

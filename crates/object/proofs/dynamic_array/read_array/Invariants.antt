@@ -1,8 +1,7 @@
+use Prim.Native.Nat.{◌+◌, ◌-◌, ◌*◌}
+use Rattle.object.specs.DynamicArray.{item_room}
 use Rattle.object.proofs.FieldLaws.{Walk}
 use Rattle.object.proofs.dynamic_array.read_array.Given as goal
 
-abbrev pub invariant-loop-left : goal.invariant-loop-left
-invariant-loop-left l = Walk l.image l.at l.slots l.needs l.i l.left
-
-abbrev pub decreases-loop-left : goal.decreases-loop-left
-decreases-loop-left l = l.left
+abbrev pub invariant-loop-k : goal.invariant-loop-k
+invariant-loop-k l = Walk l.image l.at l.slots l.needs (l.at + 16 * l.k) (item_room l.image l.at - l.k)

@@ -1,63 +1,46 @@
-use mathlib.Core.Path.{refl, sym, ◌∙◌}
-use native.Mathlib.Omega.{arith}
-use Rattle.object.specs.Steps.LoadTable.{segments_in}
-use Rattle.object.proofs.ReadLaws.{read_none, read_fields_lem, read_many, read_record}
+use mathlib.Core.Path.{◌≡◌, refl, sym, ap, ◌∙◌}
+use mathlib.Core.Bool.{Bool, true}
+use Rattle.std.specs.Prelude.{Some, None}
+use Rattle.std.proofs.lemmas.Result.{err_from_is_err_and}
+use Rattle.words.specs.Refusal.{number_of, refused_by}
+use Rattle.object.proofs.RefusalLaws.{number_some}
+use Rattle.object.proofs.ReadLaws.{read_none, read_refused, read_many, read_record}
 use Rattle.object.proofs.dynamic_fields.read_fields.Goals as goal
 
-pub returns-in_default : goal.returns-in_default
-returns-in_default c =
+pub returns-in_err-at : goal.returns-in_err-at
+returns-in_err-at c =
     let a = c.args in
-    record {
-      refused = λ _ host. rw c.in_default.is (read_none host a.image.now (segments_in a.l) ∙ sym c.refused.ensures.0);
-      none = λ _. c.refused.ensures.1;
-      tables = λ z. absurd (omega (arith, c.refused.ensures.0));
-      object = λ z. absurd (omega (arith, c.refused.ensures.0));
-      needs = λ z. absurd (omega (arith, c.refused.ensures.0));
-      counts = λ z. absurd (omega (arith, c.refused.ensures.0));
-    }
+    let r = err_from_is_err_and c.from_residual.result c.from_residual.ensures.1 in
+    let none : a.d ≡ None = c.in_err-at.ensures.ok_part in
+    let n : number_of r.0 ≡ 9 = ap number_of r.2 ∙ (ap refused_by c.in_err-at.ensures.value ∙ rw none) in
+    rw r.1 (λ host. rw (none, n) (read_none host a.image.now a.loads.items))
 
-pub returns-then-number-ne0 : goal.returns-then-number-ne0
-returns-then-number-ne0 c =
+pub returns-in_err-check_fields : goal.returns-in_err-check_fields
+returns-in_err-check_fields c =
     let a = c.args in
-    record {
-      refused = λ _ host.
-          rw c.in-At.is
-          (read_fields_lem host a.image.now (segments_in a.l) _ _ c.read_array-a.ensures _ c.fields_refusal-number.ensures c.if-number-ne0.true
-          ∙ sym c.refused-then-number-ne0.ensures.0);
-      none = λ _. c.refused-then-number-ne0.ensures.1;
-      tables = λ z. absurd (c.if-number-ne0.true (sym c.refused-then-number-ne0.ensures.0 ∙ z));
-      object = λ z. absurd (c.if-number-ne0.true (sym c.refused-then-number-ne0.ensures.0 ∙ z));
-      needs = λ z. absurd (c.if-number-ne0.true (sym c.refused-then-number-ne0.ensures.0 ∙ z));
-      counts = λ z. absurd (c.if-number-ne0.true (sym c.refused-then-number-ne0.ensures.0 ∙ z));
-    }
+    let r = err_from_is_err_and c.from_residual-in_err-check_fields.result c.from_residual-in_err-check_fields.ensures.1 in
+    let some : a.d ≡ Some c.in_ok-at.at = c.in_ok-at.ensures.ok_part in
+    rw r.1
+    (λ host.
+    rw some
+    (read_refused host a.image.now a.loads.items _ _ c.read_array-needs.ensures _ c.in_err-check_fields.ensures (number_some c.in_err-check_fields.field-0.0))
+    ∙ sym (ap number_of r.2))
 
-pub returns-then-n-gt64 : goal.returns-then-n-gt64
-returns-then-n-gt64 c =
+pub returns-in_err-needed : goal.returns-in_err-needed
+returns-in_err-needed c =
     let a = c.args in
-    record {
-      refused = λ _ host.
-          rw c.in-At.is
-          (read_many host a.image.now (segments_in a.l) _ _ c.read_array-a.ensures _ c.fields_refusal-number.ensures c.if-number-ne0.false c.if-n-gt64.true
-          ∙ sym c.refused-then-n-gt64.ensures.0);
-      none = λ _. c.refused-then-n-gt64.ensures.1;
-      tables = λ z. absurd (omega (arith, c.refused-then-n-gt64.ensures.0));
-      object = λ z. absurd (omega (arith, c.refused-then-n-gt64.ensures.0));
-      needs = λ z. absurd (omega (arith, c.refused-then-n-gt64.ensures.0));
-      counts = λ z. absurd (omega (arith, c.refused-then-n-gt64.ensures.0));
-    }
+    let r = err_from_is_err_and c.from_residual-in_err-needed.result c.from_residual-in_err-needed.ensures.1 in
+    let some : a.d ≡ Some c.in_ok-at.at = c.in_ok-at.ensures.ok_part in
+    let none : c.read_array-needs.result.needs ≡ None = c.in_err-needed.ensures.ok_part in
+    let n : number_of r.0 ≡ 11 = ap number_of r.2 ∙ (ap refused_by c.in_err-needed.ensures.value ∙ rw none) in
+    rw r.1 (λ host. rw (some, n) (read_many host a.image.now a.loads.items _ _ c.read_array-needs.ensures 0 c.in_ok-check_fields.ensures refl none))
 
 pub returns : goal.returns
 returns c =
     let a = c.args in
-    let e =
-    read_record a.image.now (segments_in a.l) _ _ c.read_array-a.ensures _ c.fields_refusal-number.ensures c.if-number-ne0.false
-    c.if-n-gt64.false _ c.object_in-o.ensures.0
+    let some : a.d ≡ Some c.in_ok-at.at = c.in_ok-at.ensures.ok_part in
+    let e = λ (host : Bool).
+    read_record host a.image.now a.loads.items _ _ c.read_array-needs.ensures 0 c.in_ok-check_fields.ensures refl c.in_ok-needed.needed c.in_ok-needed.ensures.ok_part _
+    c.object_in.ensures.held
     in
-    record {
-      refused = λ ne. absurd (ne refl);
-      none = λ ne. absurd (ne refl);
-      tables = λ _ host. rw c.in-At.is (e.0 host);
-      object = λ _. rw c.in-At.is e.1;
-      needs = λ _. omega (arith, c.if-n-gt64.false, c.object_in-o.ensures.1);
-      counts = λ _. c.object_in-o.ensures.2;
-    }
+    rw some (record { tables = λ host. (e host).0; object = (e true).1; counts = c.object_in.ensures.counts })

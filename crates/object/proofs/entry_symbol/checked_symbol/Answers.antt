@@ -1,4 +1,4 @@
-use Rattle.object.specs.declared.entry_symbol.CheckedSymbol.TheVariants.{Checked}
+use Rattle.std.specs.Prelude.{Ok}
 use Rattle.object.specs.Record.{checked_symbol}
 use mathlib.Core.Path.{sym, ap, ◌∙◌}
 use Rattle.object.proofs.entry_symbol.checked_symbol.Goals as goal
@@ -16,4 +16,4 @@ returns-then-not-symbol_ok c =
 pub returns : goal.returns
 unfolding checked_symbol
 returns c =
-    rw (sym c.index_ok.ensures ∙ c.if-not-index_ok.false, ← c.bounds_of-b.ensures.span, ← c.bounds_of-b.ensures.segments, sym c.symbol_ok.ensures ∙ c.if-not-symbol_ok.false) (ap Checked c.symbol_at.ensures)
+    rw (sym c.index_ok.ensures ∙ c.if-not-index_ok.false, ← c.bounds_of-b.ensures.span, ← c.bounds_of-b.ensures.segments, sym c.symbol_ok.ensures ∙ c.if-not-symbol_ok.false) (ap Ok c.symbol_at.ensures)

@@ -7,4 +7,4 @@ returns-then-d c =
 
 pub returns : goal.returns
 returns c =
-    rw c.if-d.false c.sum_u64.ensures
+    rw c.if-d.false

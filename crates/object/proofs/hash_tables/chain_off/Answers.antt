@@ -5,4 +5,4 @@ pub returns-in-SysV : goal.returns-in-SysV
 returns-in-SysV c = rw c.in-SysV.is
 
 pub returns-in-Gnu : goal.returns-in-Gnu
-returns-in-Gnu c = rw (c.in-Gnu.is, c.monus.ensures)
+returns-in-Gnu c = rw (c.in-Gnu.is, c.saturating_sub.ensures)

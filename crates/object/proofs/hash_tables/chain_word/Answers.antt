@@ -2,4 +2,4 @@
 use Rattle.object.proofs.hash_tables.chain_word.Goals as goal
 
 pub returns : goal.returns
-returns c = rw (← c.chain_off.ensures, ← c.start_of.ensures) c.u32_off.ensures
+returns c = rw (← c.chain_off.ensures, ← c.start_of.ensures) c.word_off.ensures

@@ -6,4 +6,4 @@ pub returns-in-SysV : goal.returns-in-SysV
 returns-in-SysV c = (rw c.in-SysV.is, omega arith)
 
 pub returns-in-Gnu : goal.returns-in-Gnu
-returns-in-Gnu c = (rw c.in-Gnu.is c.smaller.ensures, omega arith)
+returns-in-Gnu c = (rw c.in-Gnu.is c.min.ensures, omega arith)

@@ -8,17 +8,17 @@ use Rattle.object.proofs.hash_tables.highest_bucket.Goals as goal
 pub loop-i-init : goal.loop-i-init
 unfolding highest
 loop-i-init c =
-    (search rules, search rules, refl)
+    (search rules, refl)
 
 pub loop-i-preserved : goal.loop-i-preserved
 loop-i-preserved c =
     let a = c.args in
     let l = c.loop-i in
-    (search rules, search rules, highest_more a.image.now a.t l.i l.best c.bucket_word.result c.larger-best.result l.invariant.2 c.bucket_word.ensures c.larger-best.ensures)
+    (search rules, highest_more a.image.now a.t l.i l.best c.bucket_word.result c.max-best.result l.invariant.1 c.bucket_word.ensures c.max-best.ensures)
 
 pub returns : goal.returns
 returns c =
     let a = c.args in
     let l = c.loop-i in
-    let e : l.i ≡ c.smaller-n.result = omega arith in
-    (l.invariant.2 ∙ ap (highest a.image.now a.t) e ∙ highest_cut a.image.now a.t c.smaller-n.result (rw (← c.bucket_count.ensures) c.smaller-n.ensures), search rules)
+    let e : l.i ≡ c.min-n.result = omega arith in
+    (l.invariant.1 ∙ ap (highest a.image.now a.t) e ∙ highest_cut a.image.now a.t c.min-n.result (rw (← c.bucket_count.ensures) c.min-n.ensures), search rules)

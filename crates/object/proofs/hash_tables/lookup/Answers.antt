@@ -1,4 +1,5 @@
-use Prim.Native.Nat.{ℕ, ◌-◌}
+use native.Mathlib.Numerals.{unary_clauses}
+use Prim.Native.Nat.{ℕ, ◌+◌, ◌-◌}
 use Rattle.object.proofs.FindLaws.{find_here, find_last, find_on, find_out, find_not, find_empty, find_start, held_buckets}
 use Rattle.object.specs.HashTable.{first_in, is_exported_hit, walk}
 use mathlib.Core.Path.{sym, ap, ◌∙◌}
@@ -19,11 +20,11 @@ returns-then-b-eq0 c =
     let e = rw c.bucket_of.ensures.0 at c.bucket_word-b.ensures in
     (sym (find_empty a.image.now a.v.symbols a.v.strings a.v.table a.name.now a.gnu a.elf (sym c.may_hold.ensures ∙ c.if-not-may_hold.false) (sym e ∙ c.if-b-eq0.true)), tt)
 
-pub loop-left-init : goal.loop-left-init
-loop-left-init c =
+pub loop-init : goal.loop-init
+loop-init c =
     let a = c.args in
     let e = rw c.bucket_of.ensures.0 at c.bucket_word-b.ensures in
-    (omega arith, omega arith, find_start a.image.now a.v.symbols a.v.strings a.v.table a.name.now a.gnu a.elf c.bucket_word-b.result c.fuel_of-left.result c.fuel_of-left.ensures.0 (sym c.may_hold.ensures ∙ c.if-not-may_hold.false) e c.if-b-eq0.false)
+    (omega arith, omega arith, simp unary_clauses (find_start a.image.now a.v.symbols a.v.strings a.v.table a.name.now a.gnu a.elf c.bucket_word-b.result c.fuel_of-end.result c.fuel_of-end.ensures.0 (sym c.may_hold.ensures ∙ c.if-not-may_hold.false) e c.if-b-eq0.false))
 
 pub accepts-requires : goal.accepts-requires
 accepts-requires c = (omega arith, c.chain_word-w.ensures)
@@ -31,23 +32,23 @@ accepts-requires c = (omega arith, c.chain_word-w.ensures)
 pub returns-then-accepts : goal.returns-then-accepts
 returns-then-accepts c =
     let a = c.args in
-    let l = c.loop-left in
-    (sym (l.invariant.2 ∙ find_here a.image.now a.v.table _ l.s l.left c.loop-left-test.true (sym c.accepts.ensures ∙ c.if-accepts.true)), omega arith)
+    let l = c.loop in
+    (sym (l.invariant.2 ∙ find_here a.image.now a.v.table _ l.s (c.fuel_of-end.result - l.counter) (omega (arith, c.loop-test.true)) (sym c.accepts.ensures ∙ c.if-accepts.true)), omega arith)
 
 pub returns-then-is_last : goal.returns-then-is_last
 returns-then-is_last c =
     let a = c.args in
-    let l = c.loop-left in
-    (sym (l.invariant.2 ∙ find_last a.image.now a.v.table _ l.s l.left c.chain_word-w.result c.loop-left-test.true c.chain_word-w.ensures (sym c.accepts.ensures ∙ c.if-accepts.false) (sym c.is_last.ensures ∙ c.if-is_last.true)), tt)
+    let l = c.loop in
+    (sym (l.invariant.2 ∙ find_last a.image.now a.v.table _ l.s (c.fuel_of-end.result - l.counter) c.chain_word-w.result (omega (arith, c.loop-test.true)) c.chain_word-w.ensures (sym c.accepts.ensures ∙ c.if-accepts.false) (sym c.is_last.ensures ∙ c.if-is_last.true)), tt)
 
-pub loop-left-preserved : goal.loop-left-preserved
-loop-left-preserved c =
+pub loop-preserved : goal.loop-preserved
+loop-preserved c =
     let a = c.args in
-    let l = c.loop-left in
-    let on = find_on a.image.now a.v.table _ l.s l.left c.chain_word-w.result (l.left - 1) (omega arith) c.chain_word-w.ensures (sym c.accepts.ensures ∙ c.if-accepts.false) (sym c.is_last.ensures ∙ c.if-is_last.false) in
-    (omega arith, omega arith, l.invariant.2 ∙ on ∙ ap (λ (x : ℕ). first_in (is_exported_hit a.image.now a.v.symbols a.v.strings a.v.table a.name.now a.gnu) (walk a.image.now a.v.table (l.left - 1) x)) (sym c.next_symbol-s.ensures.0))
+    let l = c.loop in
+    let on = find_on a.image.now a.v.table _ l.s (c.fuel_of-end.result - l.counter) c.chain_word-w.result (c.fuel_of-end.result - (l.counter + 1)) (omega (arith, c.loop-test.true)) c.chain_word-w.ensures (sym c.accepts.ensures ∙ c.if-accepts.false) (sym c.is_last.ensures ∙ c.if-is_last.false) in
+    (omega arith, omega arith, l.invariant.2 ∙ on ∙ ap (λ (x : ℕ). first_in (is_exported_hit a.image.now a.v.symbols a.v.strings a.v.table a.name.now a.gnu) (walk a.image.now a.v.table (c.fuel_of-end.result - (l.counter + 1)) x)) (sym c.next_symbol-s.ensures.0))
 
 pub returns : goal.returns
 returns c =
-    let l = c.loop-left in
-    (rw l.invariant.2 (sym (find_out _ _ _ l.s l.left c.loop-left-test.false)), tt)
+    let l = c.loop in
+    (rw l.invariant.2 (sym (find_out _ _ _ l.s (c.fuel_of-end.result - l.counter) (omega (arith, c.loop-test.false)))), tt)

@@ -3,4 +3,4 @@ use Rattle.object.proofs.hash_tables.named.Goals as goal
 
 pub returns : goal.returns
 returns c =
-    rw (c.same_at.ensures, c.u32_off-at.ensures)
+    rw (c.same_at.ensures, c.word_off-at.ensures)

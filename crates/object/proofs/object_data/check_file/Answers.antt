@@ -1,39 +1,62 @@
-use Rattle.object.proofs.PlaceLaws.{checked_no, file_seven, file_align, file_checked, ok_count, ok_every}
+use mathlib.Core.Path.{◌≡◌, sym, ap, ◌∙◌}
+use mathlib.Core.List.{List}
+use mathlib.Core.Bool.{true, false}
+use Prim.Native.Nat.{◌≤◌, ◌<◌}
+use lib.ListN.{length}
+use Rattle.std.specs.Prelude.{Some, None}
+use Rattle.std.proofs.lemmas.Result.{err_from_is_err_and}
+use Rattle.words.specs.Choice.{every}
+use Rattle.words.specs.Refusal.{number_of, refused_by}
+use Rattle.object.specs.declared.program_header.Segment.{Segment}
 use Rattle.object.specs.ProgramHeader.{loads_of}
-use mathlib.Core.Path.{refl, sym, ◌∙◌}
-use native.Mathlib.Omega.{arith}
+use Rattle.object.specs.Segments.{segments_ok, span_of}
+use Rattle.object.specs.Alignment.{align_ok, align_of}
+use Rattle.object.proofs.ListTests.{every_all}
+use Rattle.object.proofs.SegmentLaws.{every_address}
+use Rattle.object.proofs.PlaceLaws.{many, ok_every, file_seven, file_align, file_checked}
 use Rattle.object.proofs.object_data.check_file.Goals as goal
+
+pub returns-in_err-loads : goal.returns-in_err-loads
+returns-in_err-loads c =
+    let file = c.args.file.now in
+    let r = err_from_is_err_and c.from_residual.result c.from_residual.ensures.1 in
+    let none : c.read_loads.result ≡ None = c.in_err-loads.ensures.ok_part in
+    let more : 16 < length (loads_of file) = rw none at c.read_loads.ensures in
+    let n : number_of r.0 ≡ 7 = ap number_of r.2 ∙ (ap refused_by c.in_err-loads.ensures.value ∙ rw none) in
+    rw r.1 (record { refusal = n ∙ sym (file_seven file c.requires (many file (loads_of file) more)); placed = tt })
 
 pub returns-then-not-segments_ok : goal.returns-then-not-segments_ok
 returns-then-not-segments_ok c =
     let file = c.args.file.now in
-    checked_no _ file _ 7 (λ h. omega arith) (file_seven file _ c.read_loads-l.ensures c.requires (sym c.segments_ok.ensures ∙ c.if-not-segments_ok.true)) c.refused.ensures.0 c.refused.ensures.1 c.refused.ensures.2
-
-pub aligns_ok-requires : goal.aligns_ok-requires
-aligns_ok-requires c =
-    let file = c.args.file.now in
-    ok_count file (loads_of file) _ c.read_loads-l.ensures (sym c.segments_ok.ensures ∙ c.if-not-segments_ok.false)
+    let some : c.read_loads.result ≡ Some c.in_ok-loads.loads = c.in_ok-loads.ensures.ok_part in
+    let held : (length (loads_of file) ≤ 16) × (c.in_ok-loads.loads.items ≡ loads_of file) = rw some at c.read_loads.ensures in
+    let e : segments_ok file (loads_of file) ≡ false = rw (← held.1, ← c.deref.ensures.0) (sym c.segments_ok.ensures ∙ c.if-not-segments_ok.true) in
+    record { refusal = sym (file_seven file c.requires e); placed = tt }
 
 pub returns-then-not-aligns_ok : goal.returns-then-not-aligns_ok
 returns-then-not-aligns_ok c =
     let file = c.args.file.now in
-    let ok = sym c.segments_ok.ensures ∙ c.if-not-segments_ok.false in
-    checked_no _ file _ 21 (λ h. omega arith) (file_align file _ c.read_loads-l.ensures c.requires ok (sym c.aligns_ok.ensures ∙ c.if-not-aligns_ok.true)) c.refused-then-not-aligns_ok.ensures.0 c.refused-then-not-aligns_ok.ensures.1 c.refused-then-not-aligns_ok.ensures.2
+    let some : c.read_loads.result ≡ Some c.in_ok-loads.loads = c.in_ok-loads.ensures.ok_part in
+    let held : (length (loads_of file) ≤ 16) × (c.in_ok-loads.loads.items ≡ loads_of file) = rw some at c.read_loads.ensures in
+    let e : segments_ok file (loads_of file) ≡ true = rw (← held.1, ← c.deref.ensures.0) (sym c.segments_ok.ensures ∙ c.if-not-segments_ok.false) in
+    let k : every align_ok (loads_of file) ≡ false = rw (← held.1, ← c.deref-2.ensures.0) (every_all _ _ ∙ (sym c.aligns_ok.ensures ∙ c.if-not-aligns_ok.true)) in
+    record { refusal = sym (file_align file c.requires e k); placed = tt }
 
-pub align_of-align-requires : goal.align_of-align-requires
-align_of-align-requires c =
+pub span_of-requires : goal.span_of-requires
+span_of-requires c =
     let file = c.args.file.now in
-    ok_count file (loads_of file) _ c.read_loads-l.ensures (sym c.segments_ok.ensures ∙ c.if-not-segments_ok.false)
-
-pub span_of-span-requires : goal.span_of-span-requires
-span_of-span-requires c =
-    let file = c.args.file.now in
-    let ok = sym c.segments_ok.ensures ∙ c.if-not-segments_ok.false in
-    (ok_count file (loads_of file) _ c.read_loads-l.ensures ok, ok_every file (loads_of file) _ c.read_loads-l.ensures ok)
+    let some : c.read_loads.result ≡ Some c.in_ok-loads.loads = c.in_ok-loads.ensures.ok_part in
+    let held : (length (loads_of file) ≤ 16) × (c.in_ok-loads.loads.items ≡ loads_of file) = rw some at c.read_loads.ensures in
+    let e : segments_ok file (loads_of file) ≡ true = rw (← held.1, ← c.deref.ensures.0) (sym c.segments_ok.ensures ∙ c.if-not-segments_ok.false) in
+    rw (c.deref-3.ensures.0, held.1) (every_address (length file) (loads_of file) (ok_every file (loads_of file) e))
 
 pub returns : goal.returns
 returns c =
     let file = c.args.file.now in
-    let ok = sym c.segments_ok.ensures ∙ c.if-not-segments_ok.false in
-    let al = sym c.aligns_ok.ensures ∙ c.if-not-aligns_ok.false in
-    file_checked file _ c.read_loads-l.ensures c.requires _ ok al refl c.span_of-span.ensures.0 c.align_of-align.ensures refl
+    let some : c.read_loads.result ≡ Some c.in_ok-loads.loads = c.in_ok-loads.ensures.ok_part in
+    let held : (length (loads_of file) ≤ 16) × (c.in_ok-loads.loads.items ≡ loads_of file) = rw some at c.read_loads.ensures in
+    let e : segments_ok file (loads_of file) ≡ true = rw (← held.1, ← c.deref.ensures.0) (sym c.segments_ok.ensures ∙ c.if-not-segments_ok.false) in
+    let k : every align_ok (loads_of file) ≡ true = rw (← held.1, ← c.deref-2.ensures.0) (every_all _ _ ∙ (sym c.aligns_ok.ensures ∙ c.if-not-aligns_ok.false)) in
+    let f = file_checked file c.requires e _ k
+    (c.span_of.ensures.0 ∙ ap (λ (ss : List Segment). span_of ss) (c.deref-3.ensures.0 ∙ held.1)) (c.align_of.ensures ∙ ap align_of (c.deref-4.ensures.0 ∙ held.1)) held.1 in
+    record { refusal = sym f.passed; placed = f }

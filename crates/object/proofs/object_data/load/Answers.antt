@@ -1,24 +1,27 @@
-use Rattle.object.proofs.LoadedLaws.{load_refused, load_fits, load_read}
+use mathlib.Core.Path.{sym, ap, ◌∙◌}
 use lib.Seq.{length-take-le}
-use mathlib.Core.Path.{sym}
+use Rattle.std.proofs.lemmas.Result.{err_from_is_err_and}
+use Rattle.words.specs.Refusal.{number_of}
+use Rattle.object.proofs.LoadedLaws.{load_refused, load_fits, load_read}
 use Rattle.object.proofs.object_data.load.Goals as goal
 
-pub returns-then-p-ne0 : goal.returns-then-p-ne0
-returns-then-p-ne0 c =
-    load_refused c.args.host c.args.file.now c.args.part.now c.place-p.new.part c.place-p.result c.place-p.ensures c.if-p-ne0.true _ c.refused.ensures.0 c.refused.ensures.1
+pub returns-in_err-place : goal.returns-in_err-place
+returns-in_err-place c =
+    let a = c.args in
+    let r = err_from_is_err_and c.from_residual.result c.from_residual.ensures.1 in
+    rw r.1 (load_refused a.host a.file.now a.part.now c.place.new.part r.0 (ap number_of r.2 ∙ c.in_err-place.ensures.refusal) c.place.ensures.part)
 
 pub slice_bounds-read_object-end : goal.slice_bounds-read_object-end
 slice_bounds-read_object-end c =
-    load_fits c.args.host c.args.file.now c.args.part.now c.place-p.new.part c.place-p.result c.place-p.ensures c.if-p-ne0.false
+    let a = c.args in
+    load_fits a.host a.file.now a.part.now c.place.new.part a.checked c.requires (sym c.in_ok-place.ensures.refusal) c.place.ensures.part
 
 pub slice_bounds-read_object-end-2 : goal.slice_bounds-read_object-end-2
 slice_bounds-read_object-end-2 c =
-    sym (length-take-le c.place-p.result.span c.place-p.new.part (load_fits c.args.host c.args.file.now c.args.part.now c.place-p.new.part c.place-p.result c.place-p.ensures c.if-p-ne0.false))
-
-pub read_object-requires : goal.read_object-requires
-read_object-requires c =
-    c.place-p.ensures.few
+    let a = c.args in
+    sym (length-take-le a.checked.span c.place.new.part (load_fits a.host a.file.now a.part.now c.place.new.part a.checked c.requires (sym c.in_ok-place.ensures.refusal) c.place.ensures.part))
 
 pub returns : goal.returns
 returns c =
-    load_read c.args.host c.args.file.now c.args.part.now c.place-p.new.part c.place-p.result c.place-p.ensures c.if-p-ne0.false _ _ c.dynamic_at-d.ensures c.read_object.ensures
+    let a = c.args in
+    load_read a.host a.file.now a.part.now c.place.new.part a.checked c.requires (sym c.in_ok-place.ensures.refusal) c.place.ensures.part _ _ c.dynamic_at-d.ensures c.read_object.ensures

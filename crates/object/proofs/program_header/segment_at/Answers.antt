@@ -5,4 +5,4 @@ use Rattle.object.proofs.program_header.segment_at.Goals as goal
 pub returns : goal.returns
 unfolding segment_at
 returns c =
-    rw (← c.requires.0, ← c.u32_off.ensures, ← c.u64_off.ensures, ← c.u64_off-2.ensures, ← c.u64_off-3.ensures, ← c.u64_off-4.ensures, ← c.u64_off-5.ensures)
+    rw (← c.requires.0, ← c.word_off.ensures, ← c.word_off-2.ensures, ← c.word_off-3.ensures, ← c.word_off-4.ensures, ← c.word_off-5.ensures, ← c.word_off-6.ensures)

@@ -3,4 +3,4 @@ use Rattle.object.proofs.program_header.type_at.Goals as goal
 
 pub returns : goal.returns
 returns c =
-    rw (← c.requires.0) c.u32_off.ensures
+    rw (← c.requires.0) c.word_off.ensures

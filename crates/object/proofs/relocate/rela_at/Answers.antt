@@ -6,8 +6,8 @@ pub returns : goal.returns
 unfolding rela_at
 returns c =
     rw (
-      c.u64_off.ensures,
-      c.u32_off.ensures,
-      c.u32_off-2.ensures,
-      c.u64_off-2.ensures,
+      c.word_off.ensures,
+      c.word_off-2.ensures,
+      c.word_off-3.ensures,
+      c.word_off-4.ensures,
     )

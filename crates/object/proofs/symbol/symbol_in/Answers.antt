@@ -6,4 +6,4 @@ use Rattle.object.proofs.symbol.symbol_in.Goals as goal
 pub returns : goal.returns
 unfolding symbol_from mem
 returns c =
-    rw (c.u32_in.ensures, c.u16_in.ensures, c.u64_in.ensures, c.u64_in-2.ensures)
+    rw (c.load.ensures, c.load-2.ensures, c.load-3.ensures, c.load-4.ensures)

@@ -2,4 +2,4 @@
 use Rattle.object.proofs.symbol.symbol_name.Goals as goal
 
 pub returns : goal.returns
-returns c = rw (c.name_off.ensures, c.u32_off-at.ensures)
+returns c = rw (c.name_off.ensures, c.word_off-at.ensures)

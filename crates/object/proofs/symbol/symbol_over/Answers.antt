@@ -6,10 +6,10 @@ pub returns : goal.returns
 unfolding symbol_from
 returns c =
     rw (
-      c.u32_off.ensures,
+      c.word_off.ensures,
       c.byte_at.ensures,
       c.byte_at-2.ensures,
-      c.u16_off.ensures,
-      c.u64_off.ensures,
-      c.u64_off-2.ensures,
+      c.word_off-2.ensures,
+      c.word_off-3.ensures,
+      c.word_off-4.ensures,
     )

@@ -1,5 +1,4 @@
 -- `object::table_bytes::fine_of` meets its contract. Assumes nothing.
-use lib.ListN.{take}
 use Rattle.object.specs.TableBytes.{is_table}
 use Rattle.object.proofs.FineLaws.{tables_none, tables_runs}
 use Rattle.object.proofs.table_bytes.fine_of.Goals as goal
@@ -15,4 +14,4 @@ returns-then-b-strings c =
 pub returns : goal.returns
 returns c =
     let a = c.args in
-    rw c.monus.ensures (tables_runs a.image.now (is_table a.b.span (take a.b.count a.b.segments)) a.symbols a.strings a.b.span _ _ _ _ c.run_from-one.ensures c.run_from-two.ensures)
+    rw c.saturating_sub.ensures (tables_runs a.image.now (is_table a.b.span (a.b.segments.now)) a.symbols a.strings a.b.span _ _ _ _ c.run_from-one.ensures c.run_from-two.ensures)

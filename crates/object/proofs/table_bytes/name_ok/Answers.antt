@@ -2,7 +2,7 @@
 use mathlib.Core.Path.{sym, ap}
 use Prim.Native.Nat.{◌+◌}
 use native.Mathlib.Omega.{arith}
-use lib.ListN.{length, take}
+use lib.ListN.{length}
 use Rattle.words.specs.Names.{name_at}
 use Rattle.object.specs.TableBytes.{table_name}
 use Rattle.object.proofs.Ranges.{span_out}
@@ -13,7 +13,7 @@ unfolding table_name
 returns-then-b-n c =
     let a = c.args in
     let e = ap length c.name_off-name.ensures in
-    sym (span_out a.b.span (take a.b.count a.b.segments) (a.at + a.k) (length (name_at a.image.now (a.at + a.k)) + 1) (omega arith) (omega arith))
+    sym (span_out a.b.span (a.b.segments.now) (a.at + a.k) (length (name_at a.image.now (a.at + a.k)) + 1) (omega arith) (omega arith))
 
 pub returns : goal.returns
 unfolding table_name

@@ -2,15 +2,12 @@
 use Rattle.scope.specs.Steps.ScopeCode.{link_answer, scoped_by}
 use Rattle.scope.proofs.scope.link_answer.Goals as goal
 
-pub returns-in_default : goal.returns-in_default
+pub returns-in_err-definition : goal.returns-in_err-definition
 unfolding link_answer scoped_by
-returns-in_default c =
-    rw (← c.link_at-s.ensures, ← c.answer_at-a.ensures, c.in_default.is)
-
-pub address_in-requires : goal.address_in-requires
-address_in-requires c = c.requires.long
+returns-in_err-definition c =
+    rw (c.from_residual.ensures, ← c.link_at-s.ensures, ← c.in_err-definition.ensures)
 
 pub returns : goal.returns
 unfolding link_answer scoped_by
 returns c =
-    rw (← c.link_at-s.ensures, ← c.answer_at-a.ensures, c.in-Present.is, c.address_of.ensures, c.sum_u64-base.ensures, c.address_in.ensures)
+    rw (← c.link_at-s.ensures, ← c.in_ok-definition.ensures, c.address_of.ensures, c.address_in.ensures)

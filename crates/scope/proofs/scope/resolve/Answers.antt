@@ -1,29 +1,15 @@
 -- `scope::scope::resolve` meets its contract. Assumes nothing.
-use mathlib.Core.Path.{◌∙◌}
-use Rattle.scope.specs.Steps.Links.{address_in}
-use Rattle.scope.specs.Steps.ScopeCode.{or_else, resolve_links}
-use Rattle.scope.proofs.ScopeLaws.{link_any, own_any}
+use Rattle.std.proofs.Common.{rules, ◌∙◌}
 use Rattle.words.specs.Hash.{elf_hash}
+use Rattle.scope.specs.Steps.Links.{address_in}
+use Rattle.scope.specs.Steps.ScopeCode.{resolve_links}
+use Rattle.scope.proofs.ScopeLaws.{own_any, or_else_twice}
 use Rattle.scope.proofs.scope.resolve.Goals as goal
 
-pub returns-in_default : goal.returns-in_default
-unfolding resolve_links or_else
-returns-in_default c =
-    let a = c.args in
-    let own = c.own_answer-own.ensures ∙ own_any a.arena.now a.table.now a.requester a.name.now a.gnu c.elf_for-elf.result (elf_hash a.name.now) c.elf_for-elf.ensures (address_in a.table.now) in
-    rw (← own, c.in_default.is)
-
-pub returns-in_default-a : goal.returns-in_default-a
-unfolding resolve_links or_else
-returns-in_default-a c =
-    let a = c.args in
-    let own = c.own_answer-own.ensures ∙ own_any a.arena.now a.table.now a.requester a.name.now a.gnu c.elf_for-elf.result (elf_hash a.name.now) c.elf_for-elf.ensures (address_in a.table.now) in
-    rw (← own, c.in-Absent.is, ← c.scan-a.ensures, c.in_default-a.is)
-
 pub returns : goal.returns
-unfolding resolve_links or_else
+unfolding resolve_links
 returns c =
     let a = c.args in
-    let own = c.own_answer-own.ensures ∙ own_any a.arena.now a.table.now a.requester a.name.now a.gnu c.elf_for-elf.result (elf_hash a.name.now) c.elf_for-elf.ensures (address_in a.table.now) in
-    rw (← own, c.in-Absent.is, ← c.scan-a.ensures, c.in-Absent-a.is)
-    (c.link_answer.ensures ∙ link_any a.arena.now a.table.now 0 a.name.now a.gnu c.elf_for-elf0.result (elf_hash a.name.now) c.elf_for-elf0.ensures (address_in a.table.now))
+    let own = c.own_answer.ensures ∙ own_any a.arena.now a.table.now a.requester a.name.now a.gnu c.elf_for-elf.result (elf_hash a.name.now) c.elf_for-elf.ensures.asked (address_in a.table.now) in
+    rw (← own)
+    (or_else_twice _ _ _ _ _ c.or_else.ensures (λ scanned. search (rules, scanned)) c.or_else-2.ensures (λ host. search (rules, host)))

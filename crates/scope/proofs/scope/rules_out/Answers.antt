@@ -21,6 +21,6 @@ returns c =
     let a = c.args in
     let t = a.table.now in
     let k = a.k in
-    λ h. lacks_name a.arena.now a.gnu c.u64_in-w.result (word_at t k 10) (word_at t k 11) (word_at t k 12) c.if-bits-ge32.false
-    (c.u64_in-w.ensures ∙ ap (λ (n : ℕ). le_at 8 (mem a.arena.now) (word_at t k 10 % 2 ^ 32 + n)) c.bloom_place.ensures.0)
+    λ h. lacks_name a.arena.now a.gnu c.load-w.result (word_at t k 10) (word_at t k 11) (word_at t k 12) c.if-bits-ge32.false
+    (c.load-w.ensures ∙ ap (λ (n : ℕ). le_at 8 (mem a.arena.now) (word_at t k 10 % 2 ^ 32 + n)) c.bloom_place.ensures.0)
     c.if-one-two-eq2.false (link_at t k) c.requires.2

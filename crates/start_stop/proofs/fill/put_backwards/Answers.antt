@@ -29,7 +29,7 @@ pub loop-i-preserved : goal.loop-i-preserved
 loop-i-preserved c =
     let a = c.args in
     let l = c.loop-i in
-    (c.set_word.auto.list ∙ l.invariant.0, omega (arith, c.loop-i-test.true), patch_next a.list.now a.n l.i (λ j. le_at 8 (mem a.part.now) (a.at + 8 * (a.count - 1 - j))) l.invariant.2 (c.set_word.ensures ∙ ap (set l.list (a.n + l.i)) c.u64_off.ensures))
+    (c.set_word.auto.list ∙ l.invariant.0, omega (arith, c.loop-i-test.true), patch_next a.list.now a.n l.i (λ j. le_at 8 (mem a.part.now) (a.at + 8 * (a.count - 1 - j))) l.invariant.2 (c.set_word.ensures ∙ ap (set l.list (a.n + l.i)) c.word_off.ensures))
 
 pub overflow_add-result : goal.overflow_add-result
 overflow_add-result c =

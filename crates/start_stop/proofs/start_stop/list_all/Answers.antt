@@ -1,31 +1,29 @@
 use Rattle.start_stop.proofs.ListedIs.{arrays_any, few_words, few_preinits, made_refused, start_short, stop_short, made_listed}
 use Rattle.start_stop.specs.Steps.Rows.{calls_at}
-use lib.ListN.{take}
 use native.Mathlib.Omega.{arith}
 use mathlib.Core.List.{[]}
 use mathlib.Core.Path.{sym, ◌∙◌}
+use Rattle.std.proofs.lemmas.Result.{err_from_is_err_and}
 use Rattle.start_stop.proofs.start_stop.list_all.Goals as goal
 
-pub check_arrays-v-requires : goal.check_arrays-v-requires
-check_arrays-v-requires c =
-    c.requires.1
-
-pub returns-in-Refused : goal.returns-in-Refused
-returns-in-Refused c =
+pub returns-in_err-check_arrays : goal.returns-in_err-check_arrays
+returns-in_err-check_arrays c =
     let a = c.args in
-    made_refused (calls_at a.arena.now a.table.now a.rows.now) (take a.order.count a.order.list) a.arena.now a.start.now a.stop.now _ _ (arrays_any a.arena.now [] a.table.now a.rows.now (take a.order.count a.order.list) ∙ (sym c.check_arrays-v.ensures ∙ c.in-Refused.is))
+    let p = err_from_is_err_and c.from_residual.result c.from_residual.ensures.1 in
+    rw (p.1, p.2)
+    (made_refused (calls_at a.arena.now a.table.now a.rows.now) a.order.now a.arena.now a.start.now a.stop.now _ _ (arrays_any a.arena.now [] a.table.now a.rows.now a.order.now ∙ (sym c.check_arrays.ensures ∙ c.in_err-check_arrays.was)))
 
 pub put_start-n-requires : goal.put_start-n-requires
 put_start-n-requires c =
     let a = c.args in
-    let e = arrays_any a.arena.now [] a.table.now a.rows.now (take a.order.count a.order.list) ∙ (sym c.check_arrays-v.ensures ∙ c.in_default.is) in
-    (c.requires.0, c.requires.1, few_preinits a.arena.now a.table.now a.rows.now (take a.order.count a.order.list) c.requires.2 e, few_words a.arena.now a.table.now a.rows.now (take a.order.count a.order.list) c.requires.2 e)
+    let e = arrays_any a.arena.now [] a.table.now a.rows.now a.order.now ∙ (sym c.check_arrays.ensures ∙ c.in_ok-check_arrays.was) in
+    (c.requires.0, c.requires.1, few_preinits a.arena.now a.table.now a.rows.now a.order.now c.requires.2 e, few_words a.arena.now a.table.now a.rows.now a.order.now c.requires.2 e)
 
 pub put_stop-m-requires : goal.put_stop-m-requires
 put_stop-m-requires c =
     let a = c.args in
-    let e = arrays_any a.arena.now [] a.table.now a.rows.now (take a.order.count a.order.list) ∙ (sym c.check_arrays-v.ensures ∙ c.in_default.is) in
-    (c.requires.0, c.requires.1, few_words a.arena.now a.table.now a.rows.now (take a.order.count a.order.list) c.requires.2 e)
+    let e = arrays_any a.arena.now [] a.table.now a.rows.now a.order.now ∙ (sym c.check_arrays.ensures ∙ c.in_ok-check_arrays.was) in
+    (c.requires.0, c.requires.1, few_words a.arena.now a.table.now a.rows.now a.order.now c.requires.2 e)
 
 pub shape_of-start-then-start-n : goal.shape_of-start-then-start-n
 shape_of-start-then-start-n c =
@@ -38,8 +36,8 @@ shape_of-stop-then-start-n c =
 pub returns-then-start-n : goal.returns-then-start-n
 returns-then-start-n c =
     let a = c.args in
-    let e = arrays_any a.arena.now [] a.table.now a.rows.now (take a.order.count a.order.list) ∙ (sym c.check_arrays-v.ensures ∙ c.in_default.is) in
-    start_short (calls_at a.arena.now a.table.now a.rows.now) (take a.order.count a.order.list) a.arena.now c.put_start-n.new.list c.put_stop-m.new.list e (omega (arith, c.if-start-n.true, c.put_start-n.ensures.next))
+    let e = arrays_any a.arena.now [] a.table.now a.rows.now a.order.now ∙ (sym c.check_arrays.ensures ∙ c.in_ok-check_arrays.was) in
+    rw c.new.ensures (start_short (calls_at a.arena.now a.table.now a.rows.now) a.order.now a.arena.now c.put_start-n.new.list c.put_stop-m.new.list e (omega (arith, c.if-start-n.true, c.put_start-n.ensures.next)))
 
 pub shape_of-start-then-stop-m : goal.shape_of-start-then-stop-m
 shape_of-start-then-stop-m c =
@@ -52,8 +50,8 @@ shape_of-stop-then-stop-m c =
 pub returns-then-stop-m : goal.returns-then-stop-m
 returns-then-stop-m c =
     let a = c.args in
-    let e = arrays_any a.arena.now [] a.table.now a.rows.now (take a.order.count a.order.list) ∙ (sym c.check_arrays-v.ensures ∙ c.in_default.is) in
-    stop_short (calls_at a.arena.now a.table.now a.rows.now) (take a.order.count a.order.list) a.arena.now c.put_start-n.new.list c.put_stop-m.new.list e (omega (arith, c.if-start-n.false, c.put_start-n.ensures.next)) (omega (arith, c.if-stop-m.true, c.put_stop-m.ensures.next))
+    let e = arrays_any a.arena.now [] a.table.now a.rows.now a.order.now ∙ (sym c.check_arrays.ensures ∙ c.in_ok-check_arrays.was) in
+    rw c.new-then-stop-m.ensures (stop_short (calls_at a.arena.now a.table.now a.rows.now) a.order.now a.arena.now c.put_start-n.new.list c.put_stop-m.new.list e (omega (arith, c.if-start-n.false, c.put_start-n.ensures.next)) (omega (arith, c.if-stop-m.true, c.put_stop-m.ensures.next)))
 
 pub shape_of-start : goal.shape_of-start
 shape_of-start c =
@@ -66,5 +64,5 @@ shape_of-stop c =
 pub returns : goal.returns
 returns c =
     let a = c.args in
-    let e = arrays_any a.arena.now [] a.table.now a.rows.now (take a.order.count a.order.list) ∙ (sym c.check_arrays-v.ensures ∙ c.in_default.is) in
-    made_listed (calls_at a.arena.now a.table.now a.rows.now) (take a.order.count a.order.list) a.arena.now c.put_start-n.new.list c.put_stop-m.new.list e a.start.now a.stop.now c.put_start-n.result c.put_stop-m.result c.put_start-n.ensures c.put_stop-m.ensures c.requires.3 c.requires.4 c.put_start-n.auto.list c.put_stop-m.auto.list (omega (arith, c.if-start-n.false)) (omega (arith, c.if-stop-m.false))
+    let e = arrays_any a.arena.now [] a.table.now a.rows.now a.order.now ∙ (sym c.check_arrays.ensures ∙ c.in_ok-check_arrays.was) in
+    made_listed (calls_at a.arena.now a.table.now a.rows.now) a.order.now a.arena.now c.put_start-n.new.list c.put_stop-m.new.list e a.start.now a.stop.now c.put_start-n.result c.put_stop-m.result c.put_start-n.ensures c.put_stop-m.ensures c.requires.3 c.requires.4 c.put_start-n.auto.list c.put_stop-m.auto.list (omega (arith, c.if-start-n.false)) (omega (arith, c.if-stop-m.false))

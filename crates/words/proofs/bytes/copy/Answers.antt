@@ -1,22 +1,15 @@
-use Rattle.words.proofs.Slices.{patch_past, copy_none, copy_both}
-use Rattle.words.specs.Memory.{mem, from}
-use Rattle.std.proofs.Common.{min, sym, ap, ◌∙◌, arith}
+use Rattle.std.proofs.Common.{arith}
+use Rattle.words.proofs.Slices.{patch_no_room, copy_both, put_copied, put_zeros}
 use Rattle.words.proofs.bytes.copy.Goals as goal
 
-pub returns-then-dst-at : goal.returns-then-dst-at
-returns-then-dst-at c =
+pub returns-then-at-end : goal.returns-then-at-end
+returns-then-at-end c =
     let a = c.args in
-    sym (patch_past a.dst.now a.at a.n (from a.start (mem a.src.now)) (omega arith))
+    let put = put_copied a.dst.now a.src.now a.at c.min-start.result c.min-there.result (omega arith) (omega arith) (omega arith) (omega arith) c.copy_from_slice.ensures.after in
+    copy_both a.dst.now a.src.now a.at a.start a.n c.place-end.ensures (omega arith) c.min-start.ensures (omega arith) put
+    (put_zeros _ _ _ (omega arith) (c.fill.ensures.after (λ y e. e)))
 
-pub returns-then-there-eq0 : goal.returns-then-there-eq0
-returns-then-there-eq0 c =
+pub returns-else-at-end : goal.returns-else-at-end
+returns-else-at-end c =
     let a = c.args in
-    c.zero_part.ensures
-    ∙ copy_none a.dst.now a.src.now a.at a.start a.n _ _ (omega arith) c.smaller-room.ensures
-    (c.smaller-there.ensures ∙ ap (min c.smaller-room.result) c.monus.ensures) c.if-there-eq0.true
-
-pub returns : goal.returns
-returns c =
-    let a = c.args in
-    copy_both a.dst.now a.src.now a.at a.start a.n _ _ (omega arith) c.smaller-room.ensures
-    (c.smaller-there.ensures ∙ ap (min c.smaller-room.result) c.monus.ensures) c.copy_part.ensures c.zero_part-2.ensures
+    patch_no_room a.dst.now a.at a.n _ (omega arith)

@@ -1,13 +1,13 @@
-use Rattle.words.proofs.Slices.{patch_past, patch_room}
-use Rattle.std.proofs.Common.{sym, ◌∙◌, arith}
+use Rattle.std.proofs.Common.{◌∙◌, arith}
+use Rattle.words.proofs.Slices.{patch_no_room, patch_room, put_zeros}
 use Rattle.words.proofs.bytes.zero.Goals as goal
 
-pub returns-then-s-at : goal.returns-then-s-at
-returns-then-s-at c =
+pub returns-then-at-end : goal.returns-then-at-end
+returns-then-at-end c =
     let a = c.args in
-    sym (patch_past a.s.now a.at a.n (λ _. 0) (omega arith))
+    put_zeros a.s.now a.at _ (omega arith) (c.fill.ensures.after (λ y e. e)) ∙ patch_room a.s.now a.at a.n _ (λ _. 0) (omega arith)
 
-pub returns : goal.returns
-returns c =
+pub returns-else-at-end : goal.returns-else-at-end
+returns-else-at-end c =
     let a = c.args in
-    c.zero_part.ensures ∙ patch_room a.s.now a.at a.n _ (λ _. 0) (omega arith) c.smaller-room.ensures
+    patch_no_room a.s.now a.at a.n _ (omega arith)

@@ -1,8 +1,13 @@
-use Rattle.words.proofs.NameLaws.{name_end_at}
-use Rattle.std.proofs.Common.{◌+◌, ◌∙◌}
+-- `words::names::name_off` meets its contract. Assumes nothing.
+use Rattle.std.proofs.Common.{◌+◌, sym, ◌∙◌, length-take-le}
+use Rattle.words.proofs.NameLaws.{name_part, name_rest}
 use Rattle.words.proofs.names.name_off.Goals as goal
+
+pub slice_bounds-result-end : goal.slice_bounds-result-end
+slice_bounds-result-end c =
+    sym (length-take-le _ _ (name_part _ (rw c.first_zero.ensures at c.unwrap_or-end.ensures)).0)
 
 pub returns : goal.returns
 returns c =
     let a = c.args in
-    c.name_at.ensures ∙ name_end_at a.image.now (a.at + a.k) c.place.ensures
+    (name_part _ (rw c.first_zero.ensures at c.unwrap_or-end.ensures)).1 ∙ name_rest a.image.now (a.at + a.k) c.place.ensures
