@@ -6,8 +6,8 @@
  * - answer every call that keeps to "What the caller owes"; what they answer is proved, for any contents of the slices, refused calls too
  *   (crates/export_c/src/lib.rt, crates/export/specs/Calls.antt);
  * - keep no pointer, allocate nothing, have no global state, and may run in several threads at once over different memory;
- * - use about 83 KiB of stack (lugwormpin_bind) or 45 KiB (lugwormpin_query, lugwormpin_query_all), whatever the set: measured, with the compiler of
- *   the file KIT. lugwormpin_bind_ordered and lugwormpin_start_stop take some 4 and 7 KiB more than lugwormpin_bind;
+ * - use about 73 KiB of stack (lugwormpin_bind) or 36 KiB (lugwormpin_query, lugwormpin_query_all), whatever the set: measured, with the compiler of
+ *   the file KIT. lugwormpin_bind_ordered and lugwormpin_start_stop take some 5 and 8 KiB more than lugwormpin_bind;
  * - end on every input, but a file can be made so that a call takes seconds (docs/BENCHMARKS.md): bound the size of files of unknown origin,
  *   or the time of the call.
  *
