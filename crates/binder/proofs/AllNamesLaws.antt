@@ -1,5 +1,5 @@
 -- The list of names of `query_all`, name by name from the front, and the words that a loop over it fills. Assumes nothing.
-use Rattle.std.proofs.Common.{◌≡◌, ℕ, zero, suc, ◌+◌, ◌<◌, ◌≤◌, true, false, eqb, List, [], ◌∷◌, ◌++◌, map, length, get_or, take, drop, set, sym, refl, ap, ◌∙◌, ⊎_elim, append-nil, add-one, arith, length-drop, length-set, drop_of_length-le, take_all, drop-drop, take-suc-set, eqb-true}
+use Rattle.std.proofs.Common.{◌≡◌, ℕ, zero, suc, ◌+◌, ◌<◌, ◌≤◌, true, false, eqb, List, [], ◌∷◌, ◌++◌, map, length, get_or, take, drop, set, sym, refl, ap, ◌∙◌, ⊎_elim, append-nil, add-one, arith, length-set, take_all, take-suc-set, eqb-true}
 use Rattle.std.specs.List.{count_by}
 use Rattle.std.specs.Prelude.{Bool, cond}
 use Rattle.std.proofs.lemmas.List.Recursion.{is_count_by}
@@ -79,51 +79,52 @@ zeros_counted xs = sym (is_count_by zero_bytes (λ b. eqb b 0) refl (λ b bs. on
 
 -- ---- the words
 
--- the words before `i` are those of the names before the offset `at` of the list
-pub record Filling (f : List ℕ → ℕ) (list ws : List ℕ) (at i : ℕ) : Type 0 where
-  pub ends : ends_in_zero (drop at list) ≡ true
-  pub left : i + zero_bytes (drop at list) ≡ length ws
-  pub done : take i ws ++ map f (names_in (drop at list)) ≡ map f (names_in list)
+-- the words before `i` are those of the names before what is left of the list
+pub record Filling (f : List ℕ → ℕ) (list rest ws : List ℕ) (i : ℕ) : Type 0 where
+  pub ends : ends_in_zero rest ≡ true
+  pub left : i + zero_bytes rest ≡ length ws
+  pub done : take i ws ++ map f (names_in rest) ≡ map f (names_in list)
 
-pub fill_begin : (f : List ℕ → ℕ) (list ws : List ℕ) → list_ok list (length ws) ≡ true → Filling f list ws 0 0
+pub fill_begin : (f : List ℕ → ℕ) (list ws : List ℕ) → list_ok list (length ws) ≡ true → Filling f list list ws 0
 unfolding list_ok
 fill_begin f list ws ok =
     let b = both_true (ends_in_zero list) (eqb (zero_bytes list) (length ws)) ok in
     let n : zero_bytes list ≡ length ws = eqb-true _ _ b.1 in
     record { ends = b.0; left = omega arith; done = refl }
 
-module _ (f : List ℕ → ℕ) (list ws : List ℕ) (at i : ℕ) (l : Filling f list ws at i) where
-  pub fill_end : length list ≤ at → ws ≡ map f (names_in list)
-  unfolding names_in zero_bytes
+-- a list without zero bytes that ends in one is empty
+none_left : (xs : List ℕ) → ends_in_zero xs ≡ true → zero_bytes xs ≡ 0 → xs ≡ []
+none_left [] e z = refl
+none_left (b ∷ bs) e z = absurd (omega (arith, (first_name b bs e).zeros, z))
+
+some_left : (xs : List ℕ) → 0 < zero_bytes xs → 0 < length xs
+unfolding zero_bytes
+some_left [] h = absurd (omega (arith, h))
+some_left (b ∷ bs) h = omega arith
+
+module _ (f : List ℕ → ℕ) (list rest ws : List ℕ) (i : ℕ) (l : Filling f list rest ws i) where
+  pub fill_end : length ws ≤ i → ws ≡ map f (names_in list)
+  unfolding names_in
   fill_end h =
-      let none : drop at list ≡ [] = drop_of_length-le list {i = at} h in
-      let all : i + 0 ≡ length ws = rw none at l.left in
-      sym (take_all i ws (omega arith)) ∙ (sym (append-nil (take i ws)) ∙ rw none at l.done)
+      let none : rest ≡ [] = none_left rest l.ends (omega (arith, l.left)) in
+      sym (take_all i ws h) ∙ (sym (append-nil (take i ws)) ∙ rw none at l.done)
 
-  module _ (h : at < length list) (name : List ℕ) (is : name ≡ name_at list at) where
-    named : FirstName (drop at list)
-    named = some_name (drop at list) (omega (arith, length-drop at list)) l.ends
+  module _ (h : i < length ws) (name : List ℕ) (is : name ≡ name_at rest 0) where
+    named : FirstName rest
+    named = some_name rest (some_left rest (omega (arith, l.left, h))) l.ends
 
-    pub fill_inside : at + length name < length list
-    fill_inside = rw is (omega (arith, named.inside, length-drop at list))
+    pub fill_inside : length name < length rest
+    fill_inside = rw is named.inside
 
-    pub fill_room : i < length ws
-    fill_room = omega (arith, named.zeros, l.left)
-
-    -- what is left after the name
-    rest : past (name_at list at) (drop at list) ≡ drop (at + length name + 1) list
-    rest =
-        let n : at + suc (length (name_at list at)) ≡ at + length name + 1 = omega (arith, ap length is) in
-        drop-drop (suc (length (name_at list at))) at list ∙ ap (λ (k : ℕ). drop k list) n
-
-    pub fill_turn : (v : ℕ) → v ≡ f name → Filling f list (set ws i v) (at + length name + 1) (i + 1)
+    pub fill_turn : (v : ℕ) → v ≡ f name → Filling f list (drop (length name + 1) rest) (set ws i v) (i + 1)
     fill_turn v e =
-        let k : List ℕ = drop (at + length name + 1) list in
-        let zs : zero_bytes (drop at list) ≡ suc (zero_bytes k) = rw rest at named.zeros in
-        let ns : names_in (drop at list) ≡ name ∷ names_in k = (rw rest at named.names) ∙ ap (λ (x : List ℕ). x ∷ names_in k) (sym is) in
+        let k : List ℕ = drop (length name + 1) rest in
+        let past_is : past (until_zero rest) rest ≡ k = rw (add-one (length name), is) refl in
+        let zs : zero_bytes rest ≡ suc (zero_bytes k) = rw past_is at named.zeros in
+        let ns : names_in rest ≡ name ∷ names_in k = (rw past_is at named.names) ∙ ap (λ (x : List ℕ). x ∷ names_in k) (sym is) in
         let all : take i ws ++ map f (name ∷ names_in k) ≡ map f (names_in list) = rw ns at l.done in
         record {
-          ends = rw rest at named.ends;
+          ends = rw past_is at named.ends;
           left = omega (arith, length-set ws i v, zs, l.left);
-          done = rw (add-one i, take-suc-set ws i v fill_room, append_snoc (take i ws) v (map f (names_in k)), e) all;
+          done = rw (add-one i, take-suc-set ws i v h, append_snoc (take i ws) v (map f (names_in k)), e) all;
         }

@@ -1,46 +1,17 @@
 -- Copies that cross none of several earlier ones, in rounds. Assumes nothing.
-use Rattle.std.proofs.Common.{◌≡◌, ℕ, ◌+◌, ◌≤◌, Bool, true, false, List, [], ◌∷◌, ◌++◌, length, take, drop, sym, refl, ap, ◌∙◌, subst, append_assoc, append-nil, arith, length-append, take-append-drop, take_all, take-add}
-use Rattle.words.specs.Choice.{both, either, some}
-use Rattle.binder.specs.Copies.{meets, crosses}
+use Rattle.std.proofs.Common.{◌≡◌, ℕ, ◌+◌, ◌≤◌, Bool, true, false, List, [], ◌∷◌, ◌++◌, length, take, drop, sym, refl, ap, ◌∙◌, subst, append_assoc, append-nil, arith, length-append, take-append-drop, take_all, take-add, Option, None, Some}
+use Rattle.std.specs.List.{cons_option}
+use Rattle.std.specs.Option.{option_to_list}
+use Rattle.words.specs.Choice.{either, some}
+use Rattle.words.proofs.Choice.{either_left, either_right}
+use Rattle.model.proofs.OrderLaws.{either_assoc}
+use Rattle.binder.specs.Copies.{crosses}
 use Rattle.binder.specs.Steps.Crossing.{EachApart, Quiet}
 use Rattle.binder.specs.declared.crossing.Copy.{Copy}
 
--- ---- tests as facts
-
-pub both_true : (a b : Bool) → both a b ≡ true → (a ≡ true) × (b ≡ true)
-both_true true b e = (refl, e)
-both_true false b e = let z : ◌≡◌ {A = ℕ} 0 1 = cc in absurd (omega arith)
-
-pub bool_clash : {P : Type 0} → true ≡ false → P
-bool_clash e = let z : ◌≡◌ {A = ℕ} 0 1 = cc in absurd (omega arith)
-
--- ---- the tests of `crosses`
-
-either_left : (a b : Bool) → a ≡ true → either a b ≡ true
-either_left a b e = rw e
-
-either_right : (a b : Bool) → b ≡ true → either a b ≡ true
-either_right true b e = refl
-either_right false b e = e
-
-pub to_to : (c d : Copy) → meets c.to c.size d.to d.size ≡ true → crosses c d ≡ true
-unfolding crosses
-to_to c d e = rw e
-
-pub source_to : (c d : Copy) → meets c.source c.size d.to d.size ≡ true → crosses c d ≡ true
-unfolding crosses
-source_to c d e =
-    let second : Bool = meets c.source c.size d.to d.size in
-    let third : Bool = meets c.to c.size d.source d.size in
-    either_right (meets c.to c.size d.to d.size) (either second third) (either_left second third e)
-
 -- ---- some of several
 
-either_assoc : (a b c : Bool) → either a (either b c) ≡ either (either a b) c
-either_assoc true b c = refl
-either_assoc false b c = refl
-
-pub some_append : (p : Copy → Bool) (xs ys : List Copy) → some p (xs ++ ys) ≡ either (some p xs) (some p ys)
+pub some_append : {A : Type 0} (p : A → Bool) (xs ys : List A) → some p (xs ++ ys) ≡ either (some p xs) (some p ys)
 unfolding some
 some_append p [] ys = refl
 some_append p (x ∷ xs) ys = ap (either (p x)) (some_append p xs ys) ∙ either_assoc (p x) (some p xs) (some p ys)
@@ -76,6 +47,12 @@ module _ (part : List Copy → List Copy) where
   pub apart_one : (xs : List Copy) (c : Copy) → EachApart part [] xs → some (crosses c) (part xs) ≡ false → EachApart part [] (xs ++ (c ∷ []))
   unfolding EachApart
   apart_one xs c p q = apart_append [] xs (c ∷ []) p (q, Prim.tt {0})
+
+-- ---- a copy that may be none
+
+pub cons_is : (c : Option Copy) (cs : List Copy) → cons_option c cs ≡ option_to_list c ++ cs
+cons_is None cs = refl
+cons_is (Some c) cs = refl
 
 -- ---- rounds
 

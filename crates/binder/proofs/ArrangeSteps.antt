@@ -1,6 +1,7 @@
 -- What the proofs of `unlisted` and `arrange` rest on. Assumes nothing.
-use Rattle.std.proofs.Common.{◌≡◌, ℕ, zero, suc, ◌+◌, ◌-◌, ◌<◌, ◌≤◌, min, Bool, true, false, not, ltb, leb, List, [], ◌∷◌, ◌++◌, length, get_or, set, replicate, sym, refl, ap, ◌∙◌, ⊎_elim, add-one, arith, length-set, get_or-set_other, get_or-set_same, ltb-false, ltb-true, le-ltb, lt-ltb, le-leb, leb-true}
-use native.Mathlib.Decide.{ℕ_discrete}
+use Rattle.std.proofs.Common.{◌≡◌, ℕ, zero, suc, ◌+◌, ◌-◌, ◌<◌, ◌≤◌, min, Bool, true, false, not, ltb, List, [], ◌∷◌, ◌++◌, length, get_or, replicate, sym, refl, ap, ◌∙◌, ⊎_elim, add-one, arith, take, drop, length-append, length-take-le, le-leb, ltb-true, ltb-false, lt-ltb, le-ltb}
+use Rattle.std.proofs.lemmas.List.{drop-replicate, length-replicate}
+use borrow.Rule.Slice.PartMut.{put_mid}
 use Rattle.words.specs.Choice.{both}
 use Rattle.model.specs.Order as order
 use Rattle.model.specs.Order.{listed, first_first, up_from, visit, order_of}
@@ -8,52 +9,52 @@ use Rattle.model.proofs.OrderLaws.{decide, order_length}
 use Rattle.binder.specs.Steps.Table.{needs_row, Ordered}
 use Rattle.binder.specs.Steps.OrderState.{State, unmarked, used, Room, Marks, Visited, Unlisted}
 
--- the numbers from 2 up to j are not marked
-pub record Clearing (s : List Bool) (j : ℕ) : Type 0 where
-  pub marks : length s ≡ 64
-  pub low : 2 ≤ j
-  pub left : unmarked s + 2 ≤ j
-  pub at : (i : ℕ) → get_or s i true ≡ not (both (leb 2 i) (ltb i j))
-
 all_true : (n i : ℕ) → get_or (replicate n true) i true ≡ true
 all_true zero i = refl
 all_true (suc n) zero = refl
 all_true (suc n) (suc i) = all_true n i
 
-none_below : (i : ℕ) → both (leb 2 i) (ltb i 2) ≡ false
-none_below i = ⊎_elim (λ (t : leb 2 i ≡ true). rw (t, le-ltb i 2 (leb-true 2 i t))) (λ (t : leb 2 i ≡ false). rw t) (decide (leb 2 i))
+none_unmarked : (n : ℕ) → unmarked (replicate n true) ≡ 0
+none_unmarked zero = refl
+none_unmarked (suc n) = none_unmarked n
 
-pub clear_none : Clearing (replicate 64 true) 2
-clear_none = record { marks = refl; low = omega arith; left = omega arith; at = λ i. all_true 64 i ∙ sym (ap not (none_below i)) }
+unmarked_before : (n : ℕ) (s : List Bool) → unmarked (replicate n false ++ s) ≡ n + unmarked s
+unmarked_before zero s = let z : unmarked s ≡ 0 + unmarked s = omega arith in z
+unmarked_before (suc n) s =
+    let ih = unmarked_before n s in
+    let z : suc (unmarked (replicate n false ++ s)) ≡ suc n + unmarked s = omega (arith, ih) in z
 
-unmarking : (s : List Bool) (j : ℕ) → unmarked (set s j false) ≤ suc (unmarked s)
-unmarking [] j = omega arith
-unmarking (true ∷ s) zero = omega arith
-unmarking (false ∷ s) zero = omega arith
-unmarking (true ∷ s) (suc j) = unmarking s j
-unmarking (false ∷ s) (suc j) = let ih = unmarking s j in omega arith
+more : (i n k j m : ℕ) → j ≡ k + i → m ≡ k + n → ltb i n ≡ ltb j m
+more i n k j m p q = ⊎_elim
+    (λ (t : ltb i n ≡ true). let h = ltb-true i n t in t ∙ sym (lt-ltb j m (omega arith)))
+    (λ (t : ltb i n ≡ false). let h = ltb-false i n t in t ∙ sym (le-ltb j m (omega arith)))
+    (decide (ltb i n))
 
-below_next : (i j : ℕ) → (i ≡ j → ⊥) → ltb i j ≡ ltb i (j + 1)
-below_next i j ne = ⊎_elim
-    (λ (t : ltb i j ≡ true). let h = ltb-true i j t in t ∙ sym (lt-ltb i (j + 1) (omega arith)))
-    (λ (t : ltb i j ≡ false). let h = ltb-false i j t in t ∙ sym (le-ltb i (j + 1) (omega arith)))
-    (decide (ltb i j))
+false_before : (n m i : ℕ) → get_or (replicate n false ++ replicate m true) i true ≡ not (ltb i n)
+false_before zero m i = all_true m i ∙ sym (ap not (le-ltb i 0 (omega arith)))
+false_before (suc n) m zero = sym (ap not (lt-ltb 0 (suc n) (omega arith)))
+false_before (suc n) m (suc i) = false_before n m i ∙ ap not (more i n 1 (suc i) (suc n) (omega arith) (omega arith))
 
-pub clear_one : {s : List Bool} {j : ℕ} → j < 64 → Clearing s j → Clearing (set s j false) (j + 1)
-clear_one {s} {j} h k =
-    record {
-      marks = simp length-set k.marks;
-      low = omega (arith, k.low);
-      left = omega (arith, unmarking s j, k.left);
-      at = λ i. at_one i (ℕ_discrete i j);
-    }
+-- the numbers from 2 up to libs + 2 are filled with false
+pub unlisted_filled : (libs k : ℕ) {ys : List Bool} → libs ≤ 62 → k ≡ libs → ys ≡ replicate (length (take k (drop 2 (replicate 64 true)))) false
+    → Unlisted libs (put_mid 2 k (replicate 64 true) ys)
+unlisted_filled libs k {ys} h q e =
+    let n : length (take libs (replicate 62 true)) ≡ libs = length-take-le libs (replicate 62 true) (omega (arith, length-replicate 62 true)) in
+    let z : ys ≡ replicate libs false = rw (q, n) at e in
+    let p : put_mid 2 k (replicate 64 true) ys ≡ true ∷ true ∷ (replicate libs false ++ replicate (62 - libs) true) =
+    rw (z, q, drop-replicate libs 62 true) refl in
+    rw p (record {
+      marks = rw (length-append (replicate libs false) (replicate (62 - libs) true), length-replicate libs false, length-replicate (62 - libs) true) (omega arith);
+      left = omega (arith, unmarked_before libs (replicate (62 - libs) true), none_unmarked (62 - libs));
+      at = at_one;
+    })
   where
-    at_one : (i : ℕ) → Dec (i ≡ j) → get_or (set s j false) i true ≡ not (both (leb 2 i) (ltb i (j + 1)))
-    at_one i (yes e) = rw (e, get_or-set_same s j false true (omega (arith, k.marks)), le-leb 2 j k.low, lt-ltb j (j + 1) (omega arith))
-    at_one i (no ne) = get_or-set_other s j i false true ne ∙ k.at i ∙ ap (λ (b : Bool). not (both (leb 2 i) b)) (below_next i j ne)
-
-pub clear_all : {s : List Bool} {j : ℕ} (libs : ℕ) → j ≡ libs + 2 → Clearing s j → Unlisted libs s
-clear_all {s} {j} libs e k = record { marks = k.marks; left = omega (arith, k.left); at = λ i. k.at i ∙ ap (λ (n : ℕ). not (both (leb 2 i) (ltb i n))) e }
+    at_one : (i : ℕ) → get_or (true ∷ true ∷ (replicate libs false ++ replicate (62 - libs) true)) i true ≡ not (listed libs i)
+    at_one zero = refl
+    at_one (suc zero) = refl
+    at_one (suc (suc i)) =
+        false_before libs (62 - libs) i ∙ ap not (more i libs 2 (suc (suc i)) (libs + 2) (omega arith) (omega arith))
+        ∙ sym (ap (λ (b : Bool). not (both b (ltb (suc (suc i)) (libs + 2)))) (le-leb 2 (suc (suc i)) (omega arith)))
 
 -- the libraries before k are visited
 pub record Visiting (table : List ℕ) (libs : ℕ) (o : State) (k : ℕ) : Type 0 where

@@ -8,7 +8,7 @@ use Rattle.model.specs.Relocation.{placed, bound}
 use Rattle.model.specs.Layout.{objs_of}
 use Rattle.model.proofs.OrderLaws.{decide}
 use Rattle.sheet.specs.Sheet.{handed_in, Input, no_input}
-use Rattle.std.specs.Prelude.{Result, Ok, Err}
+use Rattle.std.specs.Prelude.{Result, Ok, Err, Option, None, Some, MatchOption}
 use Rattle.words.specs.declared.refusal.Refusal.{Refusal}
 use Rattle.sheet.proofs.ObjectLaws.{handed_bad, handed_good}
 use Rattle.binder.specs.Setting.{Setting}
@@ -19,12 +19,14 @@ use Rattle.binder.specs.Report.{order_words, first_undefined}
 use Rattle.binder.specs.SetOrder.{set_order}
 use Rattle.binder.specs.Bind.{files_of, names_of, objects_of, unless, allows, prepare_verdict, types_verdict, relocate_verdict, refused_bind, outcome_of, bind_in, bind_set, bind_of}
 use Rattle.binder.specs.Steps.Prepared.{Prepared}
-use Rattle.binder.specs.Steps.Finished.{ends_by, finished_of, RelocatedOr, BoundSet}
+use Rattle.binder.specs.Steps.Finished.{ends_by, finished_of, Relocated, Crossed, RelocatedOr, BoundSet}
 use Rattle.binder.specs.Steps.Relocating.{row_at}
+use Rattle.binder.specs.Steps.Crossing.{CrossingIn}
 use Rattle.binder.specs.Steps.Needed.{Arranged}
 use Rattle.model.specs.Order.{OnceEach}
 use Rattle.binder.proofs.OrderIs.{order_is, names_length}
 use Rattle.binder.specs.declared.Policy.{Policy}
+use Rattle.binder.specs.declared.crossing.Crossing.{Crossing}
 use Rattle.binder.specs.declared.report.Progress.{Progress}
 use Rattle.binder.proofs.OutcomeLaws.{refused_not, first_passed, unless_passed}
 use Rattle.binder.proofs.SoundLaws.{count_is}
@@ -91,13 +93,13 @@ module _ (setting : Setting) (size : ℕ) (table : List ℕ) (hf pf : File) (fs 
   abbrev files : List File
   files = hf ∷ (pf ∷ fs)
 
-  module _ (p : Progress) (a report : List ℕ) (ended : relocated.Ended setting size table hf pf fs order words p a report)
+  module _ (met : Verdict) (p : Progress) (a report : List ℕ) (ended : relocated.Ended setting size table hf pf fs order words met p a report)
       (same : order_verdict setting.row S files [] order ≡ plain_order setting.row S files order) where
-    ends : ends_by policy p ≡ relocate_verdict setting.row S files order policy words
+    ends : first met (ends_by policy p) ≡ relocate_verdict setting.row S files order policy words
     unfolding ends_by relocate_verdict
     ends = go (plain_order setting.row S files order) refl
       where
-        go : (v : Verdict) → plain_order setting.row S files order ≡ v → ends_by policy p ≡ relocate_verdict setting.row S files order policy words
+        go : (v : Verdict) → plain_order setting.row S files order ≡ v → first met (ends_by policy p) ≡ relocate_verdict setting.row S files order policy words
         go passed q =
             let g = (ended.bound_is q).2 in
             rw (same, ended.verdict_is, q, g.undefined, g.full, not_full (length (order_words setting.row S files order)) words)
@@ -111,7 +113,7 @@ module _ (setting : Setting) (size : ℕ) (table : List ℕ) (hf pf : File) (fs 
         (sym same ∙ a.0, leb-true _ _ (unless_passed (leb (length (order_words setting.row S files order)) words) 20 0 b.1))
 
     pub relocated_set :
-        (m : Verdict) → m ≡ ends_by policy p → finished_of m a report
+        (m : Verdict) → m ≡ first met (ends_by policy p) → finished_of m a report
         ≡ outcome_of size words (relocate_verdict setting.row S files order policy words) (tab size (bound S order)) (order_words setting.row S files order)
     relocated_set m e =
         finished_by size words m _ _ _ a report (e ∙ ends) ended.lengths.0 ended.lengths.1
@@ -212,15 +214,14 @@ module _
 
     -- the order that the code made is the order of the set
     pub ordered :
-        (order : List ℕ) → Arranged (h ∷ (p ∷ ls)) (length ls + 2) a table order
+        (order : List ℕ) → Arranged (h ∷ (p ∷ ls)) a table order
         → order ≡ set_order (files_of (h ∷ (p ∷ ls))) (names_of (h ∷ (p ∷ ls)))
     unfolding files_of
     ordered order o =
-        let n : length ls + 2 ≡ length (h ∷ (p ∷ ls)) = omega arith in
         order_loaded setting size table a h p ls loaded
         (λ k l. lies setting size table (host_file h) (file_of p) fs loaded k l)
         (λ k l. starts setting size table (host_file h) (file_of p) fs loaded a (λ _. 0) (kept ∙ len) (made.arena z) k l)
-        order (subst (λ (i : ℕ). Arranged (h ∷ (p ∷ ls)) i a table order) n o)
+        order o
 
     -- 14 to 20: the objects were relocated in an order that has each once
     pub bound_in :
@@ -229,28 +230,34 @@ module _
         → finished_of m a' report' ≡ bind_in setting (prepare_verdict setting (types_verdict setting) (h ∷ (p ∷ ls)) size) (files_of (h ∷ (p ∷ ls))) order size policy words
     unfolding files_of bind_in objects_of
     bound_in policy words order once report zeros a' report' m whole =
-        let n : length a ≡ size = kept ∙ len in
-        let inputs : (k : ℕ) → k < objects.count made_set → (get_or (h ∷ (p ∷ ls)) k no_input).file ≡ (file_at setting size table (host_file h) (file_of p) fs k).bytes =
-        λ k l. files_are k (omega (arith, many)) in
-        let r = whole (can_read setting size table (host_file h) (file_of p) fs loaded a n placed_arena (h ∷ (p ∷ ls)) inputs order once)
-        (can_read_then setting size table (host_file h) (file_of p) fs loaded a n placed_arena (h ∷ (p ∷ ls)) inputs order once words report zeros) in
-        ⊎_elim
-        (λ (hit : r.2.hit ≡ true).
-        crossed_set setting size table (host_file h) (file_of p) fs policy order words m a' report'
-        (one_crosses setting size table (host_file h) (file_of p) fs loaded a n placed_arena (h ∷ (p ∷ ls)) inputs order once words report zeros r.2 r.3 hit m (r.5 hit))
-        (r.0 ∙ n) (r.1 ∙ long words report zeros)
-        ∙ rw passed_it.verdict_is)
-        (λ (none : r.2.hit ≡ false).
-        let g = r.4 none in
-        let ended = relocated.relocated_is setting size table (host_file h) (file_of p) fs loaded (h ∷ (p ∷ ls)) inputs
-        order once words a report placed_arena n zeros g.progress a' report' g.leaves in
-        relocated_set setting size table (host_file h) (file_of p) fs policy order words g.progress a' report' ended
-        (none_crosses setting size table (host_file h) (file_of p) fs loaded a n placed_arena (h ∷ (p ∷ ls)) inputs order once r.2 r.3 none) m g.met
-        ∙ rw passed_it.verdict_is)
-        (decide r.2.hit)
+        let r = whole (can_read setting size table (host_file h) (file_of p) fs loaded a placed_long placed_arena (h ∷ (p ∷ ls)) inputs order once)
+        (can_read_then setting size table (host_file h) (file_of p) fs loaded a placed_long placed_arena (h ∷ (p ∷ ls)) inputs order once words report zeros) in
+        by (r.0 ∙ placed_long) (r.1 ∙ long) r.2 r.3 r.4
       where
-        long : (words : ℕ) (report : List ℕ) → report ≡ replicate words 0 → length report ≡ words
-        long words report e = ap length e ∙ zeros_long words
+        long : length report ≡ words
+        long = ap length zeros ∙ zeros_long words
+
+        placed_long : length a ≡ size
+        placed_long = kept ∙ len
+
+        inputs : (k : ℕ) → k < objects.count made_set → (get_or (h ∷ (p ∷ ls)) k no_input).file ≡ (file_at setting size table (host_file h) (file_of p) fs k).bytes
+        inputs k l = files_are k (omega (arith, many))
+
+        by :
+            length a' ≡ size → length report' ≡ words → (c : Option Crossing) → CrossingIn table (h ∷ (p ∷ ls)) a order c
+            → MatchOption c (Relocated (h ∷ (p ∷ ls)) table order a policy report a' report' m) (λ x. Crossed (h ∷ (p ∷ ls)) table order x.index x.entry a report m)
+            → finished_of m a' report' ≡ bind_in setting (prepare_verdict setting (types_verdict setting) (h ∷ (p ∷ ls)) size) (files_of (h ∷ (p ∷ ls))) order size policy words
+        by la lr (Some c) x w =
+            crossed_set setting size table (host_file h) (file_of p) fs policy order words m a' report'
+            (one_crosses setting size table (host_file h) (file_of p) fs loaded a placed_long placed_arena (h ∷ (p ∷ ls)) inputs order once words report zeros c x m w)
+            la lr
+            ∙ rw passed_it.verdict_is
+        by la lr None x g =
+            let ended = relocated.relocated_is setting size table (host_file h) (file_of p) fs loaded (h ∷ (p ∷ ls)) inputs
+            order once words a report placed_arena placed_long zeros g.reached g.progress a' report' g.leaves in
+            relocated_set setting size table (host_file h) (file_of p) fs policy order words g.reached g.progress a' report' ended
+            (none_crosses setting size table (host_file h) (file_of p) fs loaded a placed_long placed_arena (h ∷ (p ∷ ls)) inputs order once x) m g.met
+            ∙ rw passed_it.verdict_is
 
     -- the order of the set does
     pub in_order : (order : List ℕ) → order ≡ set_order (files_of (h ∷ (p ∷ ls))) (names_of (h ∷ (p ∷ ls))) → OnceEach (objects.count made_set) order
@@ -261,20 +268,18 @@ module _
 
 -- whatever objects the set has
 pub bind_is :
-    (setting : Setting) (os : List Input) (count : ℕ) (arena a table : List ℕ) (r : Verdict) → 2 ≤ count → length os ≡ count → length a ≡ length arena
-    → Prepared setting (types_verdict setting) os arena a table r → r ≡ passed → ((rtype : ℕ) → row_at table rtype ≡ setting.row rtype) → (order : List ℕ) → Arranged os count a table order
+    (setting : Setting) (os : List Input) (arena a table : List ℕ) (r : Verdict) → 2 ≤ length os → length a ≡ length arena
+    → Prepared setting (types_verdict setting) os arena a table r → r ≡ passed → ((rtype : ℕ) → row_at table rtype ≡ setting.row rtype) → (order : List ℕ) → Arranged os a table order
     → (policy : Policy) (report : List ℕ) → report ≡ replicate (length report) 0
     → (a' report' : List ℕ) (m : Verdict) → RelocatedOr os table order a policy report a' report' m
     → BoundSet setting os (length arena) policy (length report) a' report' m
 unfolding bind_set
-bind_is setting [] count arena a table r two many kept made z typed order o policy report zeros a' report' m g =
-    absurd (omega (arith, many))
-bind_is setting (h ∷ []) count arena a table r two many kept made z typed order o policy report zeros a' report' m g =
-    absurd (omega (arith, many))
-bind_is setting (h ∷ (p ∷ ls)) count arena a table r two many kept made z typed order o policy report zeros a' report' m g =
-    let c : count ≡ length ls + 2 = omega (arith, many) in
-    let same = ordered setting (length arena) table h p ls arena a r refl kept made z typed order
-    (subst (λ (n : ℕ). Arranged (h ∷ (p ∷ ls)) n a table order) c o) in
+bind_is setting [] arena a table r two kept made z typed order o policy report zeros a' report' m g =
+    absurd (omega arith)
+bind_is setting (h ∷ []) arena a table r two kept made z typed order o policy report zeros a' report' m g =
+    absurd (omega arith)
+bind_is setting (h ∷ (p ∷ ls)) arena a table r two kept made z typed order o policy report zeros a' report' m g =
+    let same = ordered setting (length arena) table h p ls arena a r refl kept made z typed order o in
     bound_in setting (length arena) table h p ls arena a r refl kept made z typed policy (length report) order
     (in_order setting (length arena) table h p ls arena a r refl kept made z typed order same) report zeros a' report' m
     g

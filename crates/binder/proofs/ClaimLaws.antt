@@ -1,6 +1,10 @@
 -- The claims of an object's entries, which are the bytes that its copies may write: no byte is claimed twice, as the marks of a window tell.
 -- Assumes nothing.
-use Rattle.std.proofs.Common.{◌≡◌, ℕ, zero, suc, ◌+◌, ◌-◌, ◌*◌, ◌<◌, ◌≤◌, min, max, Bool, true, false, eqb, ltb, leb, ◌⊎◌, List, [], ◌∷◌, ◌++◌, length, get_or, take, set, replicate, sym, refl, ap, ◌∙◌, subst, inl, inr, true≢false, append_assoc, append-nil, arith, length-append, length-set, take_all, get_or-set_other, take-suc, get_or-set_same, get_or-append-add, ltb-true, le-ltb, lt-ltb, le-leb, leb-true}
+use Rattle.std.proofs.Common.{◌≡◌, ℕ, zero, suc, ◌+◌, ◌-◌, ◌*◌, ◌<◌, ◌≤◌, min, max, Bool, true, false, eqb, ltb, leb, ◌⊎◌, List, [], ◌∷◌, ◌++◌, length, get_or, take, set, replicate, sym, refl, ap, ◌∙◌, subst, inl, inr, true≢false, append_assoc, append-nil, arith, length-append, length-set, take_all, get_or-set_other, take-suc, get_or-set_same, get_or-append-add, ltb-true, le-ltb, lt-ltb, le-leb, leb-true, Option, None, Some}
+use Rattle.std.specs.List.{list_any, range_with_len}
+use Rattle.std.specs.Prelude.{◌||◌}
+use Rattle.std.specs.Option.{IfSome}
+use Rattle.std.proofs.lemmas.Option.{IfSome_then}
 use native.Mathlib.Decide.{dec_lt, dec_le}
 use borrow.Author.Tests.{lt-leb}
 use lib.ListN.{length-replicate, get_or-replicate, get_or-append}
@@ -16,10 +20,11 @@ use Rattle.object.specs.Symbol as symbols
 use Rattle.object.specs.declared.relocate.Rela.{Rela}
 use Rattle.sheet.specs.Sheet.{Input, no_input}
 use Rattle.binder.specs.Steps.Relocating.{image_in, turn_of, again_refusal, again_record}
-use Rattle.binder.specs.Steps.Crossing.{entries_by, no_rela, tables_of, entries_at, again_of, Readable, no_claim, claim_of, claims, ClaimedOnce, EachClaim, EndsIn, window, MarksTaken, claim_by, ClaimedIn, ClaimsApart, NoCopies, PlainlyApart}
+use Rattle.binder.specs.Steps.Crossing.{entries_by, no_rela, tables_of, entries_at, again_of, Readable, claim_of, claims, ClaimedOnce, EachClaim, EndsIn, window, MarksTaken, claim_by, ClaimedIn, ClaimsApart, NoCopies, PlainlyApart}
 use Rattle.binder.specs.declared.turn.Turn.{Turn}
 use Rattle.binder.specs.declared.crossing.Claim.{Claim}
 use Rattle.binder.specs.declared.crossing.Tables.{Tables}
+use Rattle.binder.proofs.ApartLaws.{some_append}
 
 -- ---- tests as facts
 
@@ -31,13 +36,6 @@ inside_is at n b e = let x = both_true (leb at b) (ltb b (at + n)) e in (leb-tru
 
 pub is_inside : (at n b : ℕ) → at ≤ b → b < at + n → inside at n b ≡ true
 is_inside at n b l h = rw (le-leb at b l, lt-ltb b (at + n) h)
-
-none_inside : (at n b : ℕ) → n ≡ 0 → inside at n b ≡ false
-none_inside at n b z = go (dec_lt b at)
-  where
-    go : Dec (b < at) → inside at n b ≡ false
-    go (yes l) = rw (lt-leb at b l)
-    go (no l) = both_false (leb at b) (ltb b (at + n)) (le-ltb b (at + n) (omega arith))
 
 -- a sum that is not made
 pub fits_test : (end at n : ℕ) → n ≤ end → leb at (end - n) ≡ leb (at + n) end
@@ -53,12 +51,7 @@ either_none false = refl
 
 some_end : {A : Type 0} (p : A → Bool) (xs : List A) (y : A) → some p (xs ++ (y ∷ [])) ≡ either (some p xs) (p y)
 unfolding some
-some_end p [] y = either_none (p y)
-some_end p (x ∷ xs) y = ap (either (p x)) (some_end p xs y) ∙ assoc (p x) (some p xs) (p y)
-  where
-    assoc : (a b c : Bool) → either a (either b c) ≡ either (either a b) c
-    assoc true b c = refl
-    assoc false b c = refl
+some_end p xs y = some_append p xs (y ∷ []) ∙ ap (either (some p xs)) (either_none (p y))
 
 -- ---- marks
 
@@ -140,22 +133,22 @@ module _ (w at n : ℕ) {low high : ℕ} (a : low ≡ min (at - w) window) (b : 
 
 -- ---- claims, one after another
 
-module _ (f : Rela → Claim) where
+module _ (f : Rela → Option Claim) where
   each_append : (P : Claim → Type 0) (xs ys : List Rela) → EachClaim f P xs → EachClaim f P ys → EachClaim f P (xs ++ ys)
   unfolding EachClaim
   each_append P [] ys p q = q
   each_append P (x ∷ xs) ys p q = (p.0, each_append P xs ys p.1 q)
 
-  pub each_end : (P : Claim → Type 0) (xs : List Rela) (e : Rela) → EachClaim f P xs → P (f e) → EachClaim f P (xs ++ (e ∷ []))
+  pub each_end : (P : Claim → Type 0) (xs : List Rela) (e : Rela) → EachClaim f P xs → IfSome (f e) P → EachClaim f P (xs ++ (e ∷ []))
   unfolding EachClaim
   each_end P xs e p q = each_append P xs (e ∷ []) p (q, Prim.tt {0})
 
   each_weaker : (P Q : Claim → Type 0) → ((c : Claim) → P c → Q c) → (xs : List Rela) → EachClaim f P xs → EachClaim f Q xs
   unfolding EachClaim
   each_weaker P Q g [] p = Prim.tt {0}
-  each_weaker P Q g (x ∷ xs) p = (g (f x) p.0, each_weaker P Q g xs p.1)
+  each_weaker P Q g (x ∷ xs) p = (IfSome_then (f x) p.0 g, each_weaker P Q g xs p.1)
 
-  each_of : (P : Claim → Type 0) → ((e : Rela) → P (f e)) → (xs : List Rela) → EachClaim f P xs
+  each_of : (P : Claim → Type 0) → ((e : Rela) → IfSome (f e) P) → (xs : List Rela) → EachClaim f P xs
   unfolding EachClaim
   each_of P g [] = Prim.tt {0}
   each_of P g (x ∷ xs) = (g x, each_of P g xs)
@@ -192,7 +185,11 @@ module _ (f : Rela → Claim) where
 
   -- the claim has no byte behind the window below `next`
   abbrev Behind : ℕ → ℕ → Claim → Type 0
-  Behind w next c = (b : ℕ) → claims c b ≡ true → w + window ≤ b → next ≤ b
+  Behind w next c = (b : ℕ) → inside c.place c.size b ≡ true → w + window ≤ b → next ≤ b
+
+  behind_of : (w next : ℕ) (o : Option Claim) → IfSome o (Behind w next) → (b : ℕ) → claims o b ≡ true → w + window ≤ b → next ≤ b
+  behind_of w next None p b i l = clash (sym i)
+  behind_of w next (Some c) p b i l = p b i l
 
   -- once below `w`, in the window, and up to the next claim
   once_next :
@@ -206,7 +203,7 @@ module _ (f : Rela → Claim) where
       at : (b : ℕ) → b < next → claims (f e) b ≡ true → Dec (b < w) → Dec (b < w + window) → some (λ d. claims (f d) b) earlier ≡ false
       at b h i (yes x) y = q.0 b (omega arith) x i
       at b h i (no x) (yes y) = r.0 b (omega arith) y i
-      at b h i (no x) (no y) = absurd (let z = p.0 b i (omega arith) in omega arith)
+      at b h i (no x) (no y) = absurd (let z = behind_of w next (f e) p.0 b i (omega arith) in omega arith)
 
   -- ---- a walk over the entries, in the window from `w` on
 
@@ -232,31 +229,34 @@ module _ (f : Rela → Claim) where
         }
 
     module _ (ys : List Rela) (marks : List ℕ) (next : ℕ) (so : Claiming ys marks next) (e : Rela) where
-      claiming_none : (f e).size ≡ 0 → Claiming (ys ++ (e ∷ [])) marks next
+      claiming_none : f e ≡ None → Claiming (ys ++ (e ∷ [])) marks next
       claiming_none z =
           record {
             long = so.long;
             once = once_end w (w + window) ys e so.once (λ b l h i. clash (sym i ∙ no b));
-            ends = each_end (EndsIn end) ys e so.ends (λ s. absurd (s z));
-            behind = each_end (Behind w next) ys e so.behind (λ b i l. clash (sym i ∙ no b));
+            ends = each_end (EndsIn end) ys e so.ends (rw z (Prim.tt {0}));
+            behind = each_end (Behind w next) ys e so.behind (rw z (Prim.tt {0}));
             ahead = so.ahead;
             marked = λ x l. so.marked x l ∙ ap (λ (t : Bool). pick t 1 0) (sym (same (w + x)));
           }
         where
           no : (b : ℕ) → claims (f e) b ≡ false
-          no b = none_inside (f e).place (f e).size b z
+          no b = ap (λ (o : Option Claim). claims o b) z
 
           same : (b : ℕ) → some (λ d. claims (f d) b) (ys ++ (e ∷ [])) ≡ some (λ d. claims (f d) b) ys
           same b =
               some_end (λ d. claims (f d) b) ys e
               ∙ (ap (either (some (λ d. claims (f d) b) ys)) (no b) ∙ either_none (some (λ d. claims (f d) b) ys))
 
-      module _ {low high : ℕ} (hl : low ≡ min ((f e).place - w) window) (hh : high ≡ min ((f e).place + (f e).size - w) window) (marks' : List ℕ)
+      module _ {c : Claim} (claim : f e ≡ Some c) {low high : ℕ} (hl : low ≡ min (c.place - w) window) (hh : high ≡ min (c.place + c.size - w) window) (marks' : List ℕ)
           (taken : MarksTaken marks marks' low high) where
+        named : (b : ℕ) → claims (f e) b ≡ inside c.place c.size b
+        named b = ap (λ (o : Option Claim). claims o b) claim
+
         once_here : (b : ℕ) → w ≤ b → b < w + window → claims (f e) b ≡ true → some (λ d. claims (f d) b) ys ≡ false
         once_here b lo hi i =
             let z : w + (b - w) ≡ b = omega arith in
-            let j = to_window w (f e).place (f e).size hl hh (b - w) (omega arith) (ap (claims (f e)) z ∙ i) in
+            let j = to_window w c.place c.size hl hh (b - w) (omega arith) (ap (inside c.place c.size) z ∙ (sym (named b) ∙ i)) in
             let m : get_or marks (b - w) 0 ≡ pick (some (λ d. claims (f d) b) ys) 1 0 =
             so.marked (b - w) (omega arith) ∙ ap (λ (n : ℕ). pick (some (λ d. claims (f d) n) ys) 1 0) z in
             zero_mark (some (λ d. claims (f d) b) ys) (sym m ∙ taken.were (b - w) j.0 j.1)
@@ -268,7 +268,7 @@ module _ (f : Rela → Claim) where
         marked_here : (x : ℕ) → x < window → get_or marks' x 0 ≡ pick (some (λ d. claims (f d) (w + x)) (ys ++ (e ∷ []))) 1 0
         marked_here x l =
             taken.are x
-            ∙ (ap (λ (t : Bool). pick t 1 (get_or marks x 0)) (is_in w (f e).place (f e).size hl hh x l)
+            ∙ (ap (λ (t : Bool). pick t 1 (get_or marks x 0)) (is_in w c.place c.size hl hh x l ∙ sym (named (w + x)))
             ∙ (ap (pick (claims (f e) (w + x)) 1) (so.marked x l)
             ∙ (joined (some (λ d. claims (f d) (w + x)) ys) (claims (f e) (w + x))
             ∙ ap (λ (t : Bool). pick t 1 0) (sym (some_end (λ d. claims (f d) (w + x)) ys e)))))
@@ -280,53 +280,53 @@ module _ (f : Rela → Claim) where
             joined false false = refl
 
         claiming_one :
-            (next' : ℕ) → (f e).place + (f e).size ≤ end → length marks' ≡ length marks
-            → next' ≡ pick (leb ((f e).place + (f e).size - w) window) next (min next (max (f e).place (w + window)))
+            (next' : ℕ) → c.place + c.size ≤ end → length marks' ≡ length marks
+            → next' ≡ pick (leb (c.place + c.size - w) window) next (min next (max c.place (w + window)))
             → Claiming (ys ++ (e ∷ [])) marks' next'
         claiming_one next' fits same is =
             record {
               long = same ∙ so.long;
               once = once_end w (w + window) ys e so.once once_here;
-              ends = each_end (EndsIn end) ys e so.ends (λ s. fits);
+              ends = each_end (EndsIn end) ys e so.ends (rw claim fits);
               behind =
                   each_end (Behind w next') ys e
-                  (each_weaker (Behind w next) (Behind w next') (λ c g b i l. let z = g b i l in omega (arith, less)) ys so.behind) after;
+                  (each_weaker (Behind w next) (Behind w next') (λ c g b i l. let z = g b i l in omega (arith, less)) ys so.behind) (rw claim after);
               ahead = more;
               marked = marked_here;
             }
           where
             less : next' ≤ next
-            less = subst (λ (n : ℕ). n ≤ next) (sym is) (go (leb ((f e).place + (f e).size - w) window))
+            less = subst (λ (n : ℕ). n ≤ next) (sym is) (go (leb (c.place + c.size - w) window))
               where
-                go : (t : Bool) → pick t next (min next (max (f e).place (w + window))) ≤ next
+                go : (t : Bool) → pick t next (min next (max c.place (w + window))) ≤ next
                 go true = omega arith
                 go false = omega arith
 
             more : w < next'
-            more = subst (λ (n : ℕ). w < n) (sym is) (go (leb ((f e).place + (f e).size - w) window))
+            more = subst (λ (n : ℕ). w < n) (sym is) (go (leb (c.place + c.size - w) window))
               where
-                go : (t : Bool) → w < pick t next (min next (max (f e).place (w + window)))
+                go : (t : Bool) → w < pick t next (min next (max c.place (w + window)))
                 go true = so.ahead
                 go false = omega (arith, so.ahead)
 
-            after : Behind w next' (f e)
-            after b i l = subst (λ (n : ℕ). n ≤ b) (sym is) (go (leb ((f e).place + (f e).size - w) window) refl)
+            after : Behind w next' c
+            after b i l = subst (λ (n : ℕ). n ≤ b) (sym is) (go (leb (c.place + c.size - w) window) refl)
               where
-                go : (t : Bool) → leb ((f e).place + (f e).size - w) window ≡ t → pick t next (min next (max (f e).place (w + window))) ≤ b
+                go : (t : Bool) → leb (c.place + c.size - w) window ≡ t → pick t next (min next (max c.place (w + window))) ≤ b
                 go true h =
-                    let x = inside_is (f e).place (f e).size b i in
-                    let y = leb-true ((f e).place + (f e).size - w) window h in
+                    let x = inside_is c.place c.size b i in
+                    let y = leb-true (c.place + c.size - w) window h in
                     absurd (omega arith)
-                go false h = let x = inside_is (f e).place (f e).size b i in omega arith
+                go false h = let x = inside_is c.place c.size b i in omega arith
 
 -- ---- the entries of the tables
 
-relas_length : (image : List ℕ) (at i c : ℕ) → length (relas_from image at i c) ≡ c
+pub relas_length : (image : List ℕ) (at i c : ℕ) → length (relas_from image at i c) ≡ c
 unfolding entries.relas_from
 relas_length image at i zero = refl
 relas_length image at i (suc c) = ap suc (relas_length image at (i + 1) c)
 
-rela_at_lem : (image : List ℕ) (at i c j : ℕ) (d : Rela) → j < c → get_or (relas_from image at i c) j d ≡ rela_at image at (i + j)
+pub rela_at_lem : (image : List ℕ) (at i c j : ℕ) (d : Rela) → j < c → get_or (relas_from image at i c) j d ≡ rela_at image at (i + j)
 unfolding entries.relas_from
 rela_at_lem image at i zero j d h = absurd (omega arith)
 rela_at_lem image at i (suc c) zero d h = ap (rela_at image at) (omega arith)
@@ -339,7 +339,7 @@ module _ (image : List ℕ) (r : Tables) where
   abbrev plts : List Rela
   plts = relas_from image r.plt 0 r.plts
 
-  entries_long : length (entries_by image r) ≡ r.relas + r.plts
+  pub entries_long : length (entries_by image r) ≡ r.relas + r.plts
   unfolding entries_by
   entries_long =
       length-append relas plts
@@ -376,32 +376,29 @@ module _ (image : List ℕ) (r : Tables) where
   pub walk_begins : (w : ℕ) (marks : List ℕ) → marks ≡ replicate window 0 → w < length image → ClaimsWalked w 0 marks (length image)
   walk_begins w marks z l = (omega arith, claiming_begins (claim_by image r) (length image) w marks z l)
 
-  module _ (w i : ℕ) (marks : List ℕ) (next : ℕ) (so : ClaimsWalked w i marks next) (l : i < r.relas + r.plts) {c : Claim}
+  module _ (w i : ℕ) (marks : List ℕ) (next : ℕ) (so : ClaimsWalked w i marks next) (l : i < r.relas + r.plts) {c : Option Claim}
       (is : c ≡ claim_of image r.symbols (get_or (entries_by image r) i no_rela)) where
     one_more : take (i + 1) es ≡ take i es ++ (get_or es i no_rela ∷ [])
     one_more =
         let z : i + 1 ≡ suc i = omega arith in
         ap (λ (n : ℕ). take n es) z ∙ take-suc es i no_rela (omega (arith, entries_long))
 
-    pub walk_passes : c.size ≡ 0 → ClaimsWalked w (i + 1) marks next
+    pub walk_passes : c ≡ None → ClaimsWalked w (i + 1) marks next
     walk_passes z = (
       omega arith,
       subst (λ (l : List Rela). Claiming (claim_by image r) (length image) w l marks next) (sym one_more)
-          (claiming_none (claim_by image r) (length image) w (take i es) marks next so.1 (get_or es i no_rela) (ap (λ (c : Claim). c.size) (sym is) ∙ z)),
+          (claiming_none (claim_by image r) (length image) w (take i es) marks next so.1 (get_or es i no_rela) (sym is ∙ z)),
     )
 
     pub walk_goes :
-        (marks' : List ℕ) (next' : ℕ) {low high : ℕ} → low ≡ min (c.place - w) window → high ≡ min (c.place + c.size - w) window
-        → c.place + c.size ≤ length image → length marks' ≡ length marks → MarksTaken marks marks' low high
-        → next' ≡ pick (leb (c.place + c.size - w) window) next (min next (max c.place (w + window)))
+        {q : Claim} → c ≡ Some q → (marks' : List ℕ) (next' : ℕ) {low high : ℕ} → low ≡ min (q.place - w) window
+        → high ≡ min (q.place + q.size - w) window → q.place + q.size ≤ length image → length marks' ≡ length marks
+        → MarksTaken marks marks' low high → next' ≡ pick (leb (q.place + q.size - w) window) next (min next (max q.place (w + window)))
         → ClaimsWalked w (i + 1) marks' next'
-    walk_goes marks' next' {low} {high} hl hh fits same taken e = (
+    walk_goes {q} some marks' next' {low} {high} hl hh fits same taken e = (
       omega arith,
       subst (λ (l : List Rela). Claiming (claim_by image r) (length image) w l marks' next') (sym one_more)
-          (claiming_one (claim_by image r) (length image) w (take i es) marks next so.1 (get_or es i no_rela)
-          (hl ∙ ap (λ (c : Claim). min (c.place - w) window) is) (hh ∙ ap (λ (c : Claim). min (c.place + c.size - w) window) is) marks' taken next'
-          (subst (λ (c : Claim). c.place + c.size ≤ length image) is fits) same
-          (e ∙ ap (λ (c : Claim). pick (leb (c.place + c.size - w) window) next (min next (max c.place (w + window)))) is)),
+          (claiming_one (claim_by image r) (length image) w (take i es) marks next so.1 (get_or es i no_rela) (sym is ∙ some) hl hh marks' taken next' fits same e),
     )
 
   pub walk_ends : (w i : ℕ) (marks : List ℕ) (next : ℕ) → ClaimsWalked w i marks next → r.relas + r.plts ≤ i → ClaimedIn image r w next
@@ -430,13 +427,19 @@ module _ (image : List ℕ) (r : Tables) where
   no_number [] e (suc n) at = rw (no_number [] e n at) (omega arith)
   no_number (b ∷ bs) e n at = absurd (omega arith)
 
-  none_claimed : length image ≡ 0 → (e : Rela) → EndsIn (length image) (claim_of image r.symbols e)
+  none_claimed : length image ≡ 0 → (e : Rela) → IfSome (claim_of image r.symbols e) (EndsIn (length image))
   unfolding claim_of symbols.symbol_from
-  none_claimed z e s = absurd (s (go (eqb e.rtype 5)))
+  none_claimed z e = go (eqb e.rtype 5)
     where
-      go : (t : Bool) → (pick t (record { place = e.place; size = le_at 8 (mem image) (r.symbols + 24 * e.symbol + 16) }) no_claim).size ≡ 0
-      go true = no_number image z 8 (r.symbols + 24 * e.symbol + 16)
-      go false = refl
+      size : ℕ
+      size = le_at 8 (mem image) (r.symbols + 24 * e.symbol + 16)
+
+      none : size ≡ 0
+      none = no_number image z 8 (r.symbols + 24 * e.symbol + 16)
+
+      go : (t : Bool) → IfSome (pick t (pick (eqb size 0) None (Some (record { place = e.place; size = size }))) None) (EndsIn (length image))
+      go true = rw none (Prim.tt {0})
+      go false = Prim.tt {0}
 
   pub windows_end : (w : ℕ) → OnceBelow w → length image ≤ w → ClaimsApart image r
   windows_end w so l = record { once = once_within (claim_by image r) w (length image) [] es l so.once; ends = go (dec_lt 0 w) }
@@ -447,15 +450,17 @@ module _ (image : List ℕ) (r : Tables) where
 
 -- ---- tables without COPY entries
 
-pub no_copies_next :
-    (image : List ℕ) (at i n : ℕ) → i < n → eqb (rela_at image at i).rtype 5 ≡ false → NoCopies (relas_from image at (i + 1) (n - (i + 1)))
-    → NoCopies (relas_from image at i (n - i))
+pub no_copies_any :
+    (image : List ℕ) (at i n : ℕ) → list_any (λ j. eqb (rela_at image at j).rtype 5) (range_with_len i n) ≡ false → NoCopies (relas_from image at i n)
 unfolding entries.relas_from NoCopies
-no_copies_next image at i n l e h = let z : n - i ≡ suc (n - (i + 1)) = omega arith in rw z (e, h)
-
-pub no_copies_end : (image : List ℕ) (at i n : ℕ) → n ≤ i → NoCopies (relas_from image at i (n - i))
-unfolding entries.relas_from NoCopies
-no_copies_end image at i n l = let z : n - i ≡ 0 = omega arith in rw z (Prim.tt {0})
+no_copies_any image at i zero e = Prim.tt {0}
+no_copies_any image at i (suc n) e = go (eqb (rela_at image at i).rtype 5) refl e (no_copies_any image at (i + 1) n)
+  where
+    go :
+        (t : Bool) → eqb (rela_at image at i).rtype 5 ≡ t → {r : Bool} → (t || r) ≡ false
+        → (r ≡ false → NoCopies (relas_from image at (i + 1) n)) → ((eqb (rela_at image at i).rtype 5) ≡ false) × NoCopies (relas_from image at (i + 1) n)
+    go true z e f = clash e
+    go false z e f = (z, f e)
 
 pub no_copies_both :
     (image : List ℕ) (r : Tables) → NoCopies (relas_from image r.rela 0 r.relas) → NoCopies (relas_from image r.plt 0 r.plts)
@@ -466,10 +471,6 @@ no_copies_both image r = go (relas_from image r.rela 0 r.relas) (relas_from imag
     go : (xs ys : List Rela) → NoCopies xs → NoCopies ys → NoCopies (xs ++ ys)
     go [] ys a b = b
     go (x ∷ xs) ys a b = (a.0, go xs ys a.1 b)
-
-pub type_in : (image : List ℕ) (at i k : ℕ) → k ≡ at + 24 * i → (rela_at image at i).rtype ≡ le_at 4 (mem image) (k + 8)
-unfolding entries.rela_at
-type_in image at i k e = ap (le_at 4 (mem image)) (omega arith)
 
 -- ---- an order, object by object
 

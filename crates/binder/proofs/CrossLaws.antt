@@ -1,7 +1,10 @@
 -- Refusal 28 in the chain of an order: where no copy crosses an earlier one the verdict is that without 28; where one does, it is what is met up
 -- to that entry, or 28. Assumes nothing.
-use Rattle.std.proofs.Common.{◌≡◌, ℕ, Bool, true, false, eqb, List, [], ◌∷◌, ◌++◌, get_or, sym, refl, ap, ◌∙◌, subst, append_assoc, append-nil, ne_eqb, Err}
-use Rattle.words.specs.Choice.{pick, some}
+use Rattle.std.proofs.Common.{◌≡◌, ℕ, true, List, [], ◌∷◌, ◌++◌, get_or, sym, refl, ap, ◌∙◌, subst, append_assoc, append-nil, Err, Option, None, Some}
+use Rattle.std.specs.List.{filter_map}
+use Rattle.std.specs.Option.{option_to_list, IsSomeAnd}
+use Rattle.binder.proofs.ApartLaws.{cons_is}
+use Rattle.words.specs.Choice.{some}
 use Rattle.model.specs.Objects.{Objs}
 use Rattle.object.specs.RelocationTypes.{Row}
 use Rattle.object.specs.Record.{Record}
@@ -10,7 +13,7 @@ use Rattle.binder.specs.Instance.{File, file_image, file_record, named_words, re
 use Rattle.binder.specs.Copies.{crosses, crosses_one, entry_copy, entries_copies, object_copies}
 use Rattle.binder.specs.Verdict.{Verdict, passed, refused, first, verdict, no_file, entry_refusal, cross_refusal, words_verdict, entries_verdict, object_verdict, order_verdict, order_copies}
 use Rattle.binder.specs.Steps.PlainVerdict.{plain_entries, plain_object, plain_order}
-use Rattle.binder.specs.Steps.Crossing.{one_copy, gather, EachApart, Quiet}
+use Rattle.binder.specs.Steps.Crossing.{EachApart, Quiet}
 use Rattle.binder.specs.declared.crossing.Copy.{Copy}
 use Rattle.binder.proofs.OutcomeLaws.{first_passed, verdict_passed}
 use Rattle.binder.proofs.Runs.{first_assoc, verdict_none}
@@ -27,17 +30,15 @@ quiet_split earlier (x ∷ xs) ys q =
     let s = quiet_split (earlier ++ (x ∷ [])) xs ys q.1 in
     ((q.0, s.0), subst (λ (l : List Copy). Quiet l ys) (append_assoc earlier (x ∷ []) xs) s.1)
 
-calm : (earlier : List Copy) (c : Copy) → Quiet earlier (one_copy c) → cross_refusal earlier (one_copy c) ≡ 0
-unfolding one_copy crosses_one EachApart some
-calm earlier c = go (eqb c.size 0)
-  where
-    go : (t : Bool) → Quiet earlier (pick t [] (c ∷ [])) → ◌≡◌ {A = ℕ} (pick (some (λ c. some (crosses c) earlier) (pick t [] (c ∷ []))) 28 0) 0
-    go true q = refl
-    go false q = rw q.0
+calm : (earlier : List Copy) (c : Option Copy) → Quiet earlier (option_to_list c) → cross_refusal earlier (option_to_list c) ≡ 0
+unfolding crosses_one EachApart some
+calm earlier None q = refl
+calm earlier (Some c) q = rw q.0
 
-loud : (earlier : List Copy) (c : Copy) → (c.size ≡ 0 → ⊥) → some (crosses c) earlier ≡ true → cross_refusal earlier (one_copy c) ≡ 28
-unfolding one_copy crosses_one some
-loud earlier c s e = rw (ne_eqb c.size 0 s, e)
+loud : (earlier : List Copy) (c : Option Copy) → IsSomeAnd c (λ q. some (crosses q) earlier ≡ true) → cross_refusal earlier (option_to_list c) ≡ 28
+unfolding crosses_one some
+loud earlier None e = elim e [ ]
+loud earlier (Some c) e = rw e
 
 -- ---- the entries of an object
 
@@ -61,27 +62,27 @@ module _ (row : ℕ → Row) (S : Objs) (k : ℕ) (image : List ℕ) (r : Record
       ∙ (ap (first u) (sym (first_assoc v w z)) ∙ sym (first_assoc u (first v w) z))
 
   -- the code's copies `g` are those of the entries that no refusal meets
-  abbrev pub Agrees : (Rela → Copy) → Type 0
-  Agrees g = (e : Rela) → entry_refusal row S k image r e ≡ 0 → entry_copy row S k image r e ≡ one_copy (g e)
+  abbrev pub Agrees : (Rela → Option Copy) → Type 0
+  Agrees g = (e : Rela) → entry_refusal row S k image r e ≡ 0 → entry_copy row S k image r e ≡ option_to_list (g e)
 
-  module _ (g : Rela → Copy) (agree : Agrees g) where
+  module _ (g : Rela → Option Copy) (agree : Agrees g) where
     pub entries_quiet :
-        (earlier : List Copy) (es : List Rela) → Quiet earlier (gather g es) → entries_verdict row S k image r earlier es ≡ plain_entries row S k image r es
-    unfolding entries_verdict plain_entries gather
+        (earlier : List Copy) (es : List Rela) → Quiet earlier (filter_map g es) → entries_verdict row S k image r earlier es ≡ plain_entries row S k image r es
+    unfolding entries_verdict plain_entries
     entries_quiet earlier [] q = refl
     entries_quiet earlier (e ∷ es) q =
         first_same (verdict (entry_refusal row S k image r e) k) _ _
         (λ v.
         let z = verdict_passed (entry_refusal row S k image r e) k v in
-        let s = quiet_split earlier (one_copy (g e)) (gather g es) q in
-        rw (agree e z, calm earlier (g e) s.0, verdict_none 0 k refl) (entries_quiet (earlier ++ one_copy (g e)) es s.1))
+        let s = quiet_split earlier (option_to_list (g e)) (filter_map g es) (subst (Quiet earlier) (cons_is (g e) (filter_map g es)) q) in
+        rw (agree e z, calm earlier (g e) s.0, verdict_none 0 k refl) (entries_quiet (earlier ++ option_to_list (g e)) es s.1))
 
-    pub entries_copies_lem : (es : List Rela) → plain_entries row S k image r es ≡ passed → entries_copies row S k image r es ≡ gather g es
-    unfolding plain_entries entries_copies gather
+    pub entries_copies_lem : (es : List Rela) → plain_entries row S k image r es ≡ passed → entries_copies row S k image r es ≡ filter_map g es
+    unfolding plain_entries entries_copies
     entries_copies_lem [] v = refl
     entries_copies_lem (e ∷ es) v =
         let a = first_passed (verdict (entry_refusal row S k image r e) k) _ v in
-        rw (agree e (verdict_passed (entry_refusal row S k image r e) k a.0), entries_copies_lem es a.1)
+        rw (agree e (verdict_passed (entry_refusal row S k image r e) k a.0), entries_copies_lem es a.1) (sym (cons_is (g e) (filter_map g es)))
 
     plain_append :
         (e : Rela) (xs : List Rela)
@@ -97,31 +98,31 @@ module _ (row : ℕ → Row) (S : Objs) (k : ℕ) (image : List ℕ) (r : Record
     refused_28 v = refl
 
     last_crossed :
-        (earlier : List Copy) (e : Rela) (post : List Rela) → ((g e).size ≡ 0 → ⊥) → some (crosses (g e)) earlier ≡ true
+        (earlier : List Copy) (e : Rela) (post : List Rela) → IsSomeAnd (g e) (λ c. some (crosses c) earlier ≡ true)
         → entries_verdict row S k image r earlier (e ∷ post) ≡ first (plain_entries row S k image r (e ∷ [])) (refused 28 k)
     unfolding entries_verdict plain_entries
-    last_crossed earlier e post s x =
+    last_crossed earlier e post x =
         first_same (verdict (entry_refusal row S k image r e) k) _ _
         (λ v.
-        rw (agree e (verdict_passed (entry_refusal row S k image r e) k v), loud earlier (g e) s x)
-        (refused_28 (entries_verdict row S k image r (earlier ++ one_copy (g e)) post)))
+        rw (agree e (verdict_passed (entry_refusal row S k image r e) k v), loud earlier (g e) x)
+        (refused_28 (entries_verdict row S k image r (earlier ++ option_to_list (g e)) post)))
         ∙ sym (first_assoc (verdict (entry_refusal row S k image r e) k) passed (refused 28 k))
 
     -- an entry whose copy crosses one
     pub entry_crossed :
-        (earlier : List Copy) (pre : List Rela) (e : Rela) (post : List Rela) → Quiet earlier (gather g pre) → ((g e).size ≡ 0 → ⊥)
-        → some (crosses (g e)) (earlier ++ gather g pre) ≡ true
+        (earlier : List Copy) (pre : List Rela) (e : Rela) (post : List Rela) → Quiet earlier (filter_map g pre)
+        → IsSomeAnd (g e) (λ c. some (crosses c) (earlier ++ filter_map g pre) ≡ true)
         → entries_verdict row S k image r earlier (pre ++ (e ∷ post)) ≡ first (plain_entries row S k image r (pre ++ (e ∷ []))) (refused 28 k)
-    entry_crossed earlier pre e post q s x =
+    entry_crossed earlier pre e post q x =
         entries_append earlier pre (e ∷ post)
         ∙ (ap (λ (v : Verdict). first v (entries_verdict row S k image r (earlier ++ entries_copies row S k image r pre) (e ∷ post))) (entries_quiet earlier pre q)
-        ∙ (first_same (plain_entries row S k image r pre) _ _ (λ v. rw (entries_copies_lem pre v) (last_crossed (earlier ++ gather g pre) e post s x))
+        ∙ (first_same (plain_entries row S k image r pre) _ _ (λ v. rw (entries_copies_lem pre v) (last_crossed (earlier ++ filter_map g pre) e post x))
         ∙ (sym (first_assoc (plain_entries row S k image r pre) (plain_entries row S k image r (e ∷ [])) (refused 28 k))
         ∙ ap (λ (v : Verdict). first v (refused 28 k)) (sym (plain_append e pre)))))
 
 -- ---- the objects of an order
 
-module _ (row : ℕ → Row) (S : Objs) (files : List File) (g : ℕ → Rela → Copy) where
+module _ (row : ℕ → Row) (S : Objs) (files : List File) (g : ℕ → Rela → Option Copy) where
   abbrev file : ℕ → File
   file k = get_or files k no_file
 
@@ -144,15 +145,15 @@ module _ (row : ℕ → Row) (S : Objs) (files : List File) (g : ℕ → Rela �
   -- the code's copies of an order
   unfoldable pub gathered : List ℕ → List Copy
   gathered [] = []
-  gathered (k ∷ ks) = gather (g k) (relas k) ++ gathered ks
+  gathered (k ∷ ks) = filter_map (g k) (relas k) ++ gathered ks
 
   object_quiet :
-      (earlier : List Copy) (k : ℕ) → AgreesAt k → Quiet earlier (gather (g k) (relas k)) → object_verdict row S earlier k (file k) ≡ plain_object row S k (file k)
+      (earlier : List Copy) (k : ℕ) → AgreesAt k → Quiet earlier (filter_map (g k) (relas k)) → object_verdict row S earlier k (file k) ≡ plain_object row S k (file k)
   unfolding object_verdict plain_object
   object_quiet earlier k a q =
       ap (first (words_verdict k (record_of k) (named_words (image k) (record_of k)))) (entries_quiet row S k (image k) (record_of k) (g k) a earlier (relas k) q)
 
-  object_copies_lem : (k : ℕ) → AgreesAt k → plain_object row S k (file k) ≡ passed → object_copies row S k (file k) ≡ gather (g k) (relas k)
+  object_copies_lem : (k : ℕ) → AgreesAt k → plain_object row S k (file k) ≡ passed → object_copies row S k (file k) ≡ filter_map (g k) (relas k)
   unfolding plain_object
   object_copies_lem k a v =
       entries_copies_lem row S k (image k) (record_of k) (g k) a (relas k)
@@ -163,10 +164,10 @@ module _ (row : ℕ → Row) (S : Objs) (files : List File) (g : ℕ → Rela �
   unfolding order_verdict plain_order AgreesIn gathered
   order_quiet earlier [] a q = refl
   order_quiet earlier (k ∷ ks) a q =
-      let s = quiet_split earlier (gather (g k) (relas k)) (gathered ks) q in
+      let s = quiet_split earlier (filter_map (g k) (relas k)) (gathered ks) q in
       ap (λ (v : Verdict). first v (order_verdict row S files (earlier ++ object_copies row S k (file k)) ks)) (object_quiet earlier k a.0 s.0)
       ∙ first_same (plain_object row S k (file k)) _ _
-      (λ v. rw (object_copies_lem k a.0 v) (order_quiet (earlier ++ gather (g k) (relas k)) ks a.1 s.1))
+      (λ v. rw (object_copies_lem k a.0 v) (order_quiet (earlier ++ filter_map (g k) (relas k)) ks a.1 s.1))
 
   order_copies_lem : (ks : List ℕ) → AgreesIn ks → plain_order row S files ks ≡ passed → order_copies row S files ks ≡ gathered ks
   unfolding plain_order order_copies AgreesIn gathered
@@ -204,27 +205,27 @@ module _ (row : ℕ → Row) (S : Objs) (files : List File) (g : ℕ → Rela �
 
   object_crossed :
       (earlier : List Copy) (k : ℕ) (back : List ℕ) (pre : List Rela) (e : Rela) (post : List Rela) → relas k ≡ pre ++ (e ∷ post)
-      → AgreesAt k → Quiet earlier (gather (g k) pre) → ((g k e).size ≡ 0 → ⊥) → some (crosses (g k e)) (earlier ++ gather (g k) pre) ≡ true
+      → AgreesAt k → Quiet earlier (filter_map (g k) pre) → IsSomeAnd (g k e) (λ c. some (crosses c) (earlier ++ filter_map (g k) pre) ≡ true)
       → order_verdict row S files earlier (k ∷ back)
       ≡ first (first (words_verdict k (record_of k) (named_words (image k) (record_of k))) (plain_entries row S k (image k) (record_of k) (pre ++ (e ∷ [])))) (refused 28 k)
   unfolding order_verdict object_verdict
-  object_crossed earlier k back pre e post is b q s x =
+  object_crossed earlier k back pre e post is b q x =
       let m : entries_verdict row S k (image k) (record_of k) earlier (relas k)
       ≡ first (plain_entries row S k (image k) (record_of k) (pre ++ (e ∷ []))) (refused 28 k) =
       ap (entries_verdict row S k (image k) (record_of k) earlier) is
-      ∙ entry_crossed row S k (image k) (record_of k) (g k) b earlier pre e post q s x in
+      ∙ entry_crossed row S k (image k) (record_of k) (g k) b earlier pre e post q x in
       let w : Verdict = words_verdict k (record_of k) (named_words (image k) (record_of k)) in
       let rest : Verdict = order_verdict row S files (earlier ++ object_copies row S k (file k)) back in
       ap (λ (v : Verdict). first (first w v) rest) m ∙ tail_28 k w (plain_entries row S k (image k) (record_of k) (pre ++ (e ∷ []))) rest
 
   pub order_crossed :
       (front : List ℕ) (k : ℕ) (back : List ℕ) (pre : List Rela) (e : Rela) (post : List Rela) → relas k ≡ pre ++ (e ∷ post)
-      → AgreesIn front → AgreesAt k → Quiet [] (gathered front ++ gather (g k) pre) → ((g k e).size ≡ 0 → ⊥)
-      → some (crosses (g k e)) (gathered front ++ gather (g k) pre) ≡ true
+      → AgreesIn front → AgreesAt k → Quiet [] (gathered front ++ filter_map (g k) pre)
+      → IsSomeAnd (g k e) (λ c. some (crosses c) (gathered front ++ filter_map (g k) pre) ≡ true)
       → order_verdict row S files [] (front ++ (k ∷ back)) ≡ first (met_until front k (pre ++ (e ∷ []))) (refused 28 k)
-  order_crossed front k back pre e post is a b q s x =
-      let t = quiet_split [] (gathered front) (gather (g k) pre) q in
+  order_crossed front k back pre e post is a b q x =
+      let t = quiet_split [] (gathered front) (filter_map (g k) pre) q in
       order_append [] front (k ∷ back)
       ∙ (ap (λ (v : Verdict). first v (order_verdict row S files (order_copies row S files front) (k ∷ back))) (order_quiet [] front a t.0)
-      ∙ (first_same (plain_order row S files front) _ _ (λ v. rw (order_copies_lem front a v) (object_crossed (gathered front) k back pre e post is b t.1 s x))
+      ∙ (first_same (plain_order row S files front) _ _ (λ v. rw (order_copies_lem front a v) (object_crossed (gathered front) k back pre e post is b t.1 x))
       ∙ sym (first_assoc (plain_order row S files front) _ (refused 28 k))))

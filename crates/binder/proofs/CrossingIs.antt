@@ -1,30 +1,28 @@
 -- What the code does about refusal 28 comes to the definition: over the placed arena of a loaded set, the first copy that crosses an earlier one
 -- is found, and what is met before it. Assumes nothing.
-use Rattle.std.proofs.Common.{◌≡◌, ℕ, zero, suc, ◌+◌, ◌<◌, ◌≤◌, Bool, true, false, eqb, List, [], ◌∷◌, ◌++◌, length, get_or, take, drop, replicate, sym, refl, ap, ◌∙◌, subst, ⊎_elim, arith, take-suc, eqb-true, Err}
-use borrow.Author.Tests.{eqb-false}
+use Rattle.std.proofs.Common.{◌≡◌, ℕ, zero, suc, ◌+◌, ◌<◌, ◌≤◌, true, ◌⊎◌, List, [], ◌∷◌, ◌++◌, length, get_or, take, drop, replicate, sym, refl, ap, ◌∙◌, subst, inl, inr, ⊎_elim, arith, take-suc, filter_map, IsSomeAnd, Err, Option, None, Some}
 use lib.Seq.{split_at}
 use Rattle.words.specs.Choice.{some}
 use Rattle.words.specs.Memory.{mem}
 use Rattle.model.specs.Objects.{Objs, count}
 use Rattle.model.specs.Order.{OnceEach}
 use Rattle.model.specs.Relocation.{placed}
-use Rattle.model.proofs.OrderLaws.{decide}
 use Rattle.object.specs.declared.relocate.Rela.{Rela}
 use Rattle.sheet.specs.Sheet.{Input, no_input}
 use Rattle.binder.specs.Setting.{Setting}
 use Rattle.binder.specs.Instance.{File, file_image, file_record, relas_of}
 use Rattle.binder.specs.Copies.{crosses}
-use Rattle.binder.specs.Verdict.{Verdict, passed, refused, first, verdict, no_file, order_verdict}
+use Rattle.binder.specs.Verdict.{Verdict, passed, refused, first, no_file, order_verdict}
 use Rattle.binder.specs.Steps.PlainVerdict.{plain_order}
 use Rattle.binder.specs.Steps.Relocating.{left, started, run_order, run_until}
-use Rattle.binder.specs.Steps.Crossing.{gather, no_rela, Quiet, seen_at, entries_at, copies_among, copies_before, Readable, CrossesAt, copies_met, FirstCrossing, CrossingIn}
+use Rattle.binder.specs.Steps.Crossing.{no_rela, Quiet, seen_at, entries_at, copies_among, copies_before, Readable, CrossesAt, PlainlyApart, FirstCrossing, CrossingIn}
 use Rattle.binder.specs.Steps.Finished.{UntilReadable, Crossed}
+use Rattle.binder.specs.declared.Refused.{Refused}
 use Rattle.binder.specs.declared.crossing.Copy.{Copy}
 use Rattle.binder.specs.declared.crossing.Crossing.{Crossing}
 use Rattle.binder.specs.declared.report.Progress.{Progress}
 use Rattle.binder.proofs.OutcomeLaws.{refused_not}
 use Rattle.binder.proofs.QueryLaws.{placed_is}
-use Rattle.binder.proofs.Runs.{verdict_none}
 use Rattle.binder.proofs.Steady.{files, set, file_at, LoadedSet, PlacedAt}
 use Rattle.binder.proofs.SteadyLaws.{starts, placed_steady}
 use Rattle.binder.proofs.PlainLaws.{plain_quiet}
@@ -41,7 +39,7 @@ module _ (setting : Setting) (size : ℕ) (table : List ℕ) (h pr : File) (fs :
   abbrev fl : List File
   fl = files setting size table h pr fs
 
-  abbrev g : ℕ → Rela → Copy
+  abbrev g : ℕ → Rela → Option Copy
   g = seen_at table os a
 
   at_place : (k : ℕ) → k < count S → PlacedAt setting size table h pr fs a k
@@ -89,75 +87,68 @@ module _ (setting : Setting) (size : ℕ) (table : List ℕ) (h pr : File) (fs :
 
     -- no copy crosses an earlier one
     pub none_crosses :
-        (c : Crossing) → CrossingIn table os a order c → c.hit ≡ false → order_verdict setting.row S fl [] order ≡ plain_order setting.row S fl order
-    none_crosses c x e =
+        CrossingIn table os a order None → order_verdict setting.row S fl [] order ≡ plain_order setting.row S fl order
+    none_crosses x =
         order_quiet setting.row S fl g [] order (agrees_in order others)
         (subst (Quiet []) (among_is order others)
         (⊎_elim (λ n. plain_quiet setting size table h pr fs L a (placed_steady setting size table h pr fs L a len at_place) os order n.1)
-        (λ f. subst (λ (b : Bool). Quiet [] (copies_met table os a order b c.index c.entry)) e f.quiet) x))
+        (λ (f : FirstCrossing table os a order None). f.quiet) x))
 
     module _ (n : ℕ) (report : List ℕ) (zeros : report ≡ replicate n 0) where
-      until_at : (i : ℕ) → i < length order → (p : Progress) (b notes : List ℕ) → left p b notes ≡ run_order table os (take i order) (left started a report)
-          → Until setting size table h pr fs (take i order) (get_or order i 0) n p b notes
-      until_at i l p b notes e =
-          until_is setting size table h pr fs L os inputs order once (take i order) (get_or order i 0) (drop (suc i) order) (split_at order i 0 l) n a report at len zeros p b notes e
+      until_at : (i : ℕ) → i < length order → (met : Verdict) (p : Progress) (b notes : List ℕ) → left met p b notes ≡ run_order table os (take i order) started a report
+          → Until setting size table h pr fs (take i order) (get_or order i 0) n met p b notes
+      until_at i l met p b notes e =
+          until_is setting size table h pr fs L os inputs order once (take i order) (get_or order i 0) (drop (suc i) order) (split_at order i 0 l) n a report at len zeros met p b notes e
 
       pub can_read_then : (i : ℕ) → i < length order → UntilReadable os table order i a report
-      can_read_then i l p b notes e z =
-          rw (inputs (get_or order i 0) (range i l).1) ((until_at i l p b notes e).readable z)
+      can_read_then i l p b notes e = rw (inputs (get_or order i 0) (range i l).1) ((until_at i l passed p b notes e).readable refl)
 
       -- the first copy that crosses an earlier one
       pub one_crosses :
-          (c : Crossing) → CrossingIn table os a order c → c.hit ≡ true → (m : Verdict) → Crossed os table order c.index c.entry a report m
+          (c : Crossing) → CrossingIn table os a order (Some c) → (m : Verdict) → Crossed os table order c.index c.entry a report m
           → (m ≡ order_verdict setting.row S fl [] order) × (m ≡ passed → ⊥)
-      unfolding verdict
-      one_crosses c x e m w =
-          ⊎_elim (λ z. clash (sym e ∙ z.0)) (λ f. with_copy f (f.met e)) x
+      one_crosses c x m w =
+          ⊎_elim (λ (z : (◌≡◌ {A = Option Crossing} (Some c) None) × PlainlyApart table os a order). let e = z.0 in cc) with_copy x
         where
-          clash : {P : Type 0} → true ≡ false → P
-          clash z = let y : ◌≡◌ {A = ℕ} 0 1 = cc in absurd (omega arith)
-
-          with_copy : FirstCrossing table os a order c → CrossesAt table os a order c.index c.entry → (m ≡ order_verdict setting.row S fl [] order) × (m ≡ passed → ⊥)
-          with_copy f k =
+          with_copy : FirstCrossing table os a order (Some c) → (m ≡ order_verdict setting.row S fl [] order) × (m ≡ passed → ⊥)
+          with_copy f =
+              let k : CrossesAt table os a order c.index c.entry = f.met in
               let i : ℕ = c.index in
               let j : ℕ = c.entry in
               let o : ℕ = get_or order i 0 in
               let b = range i k.object in
               let es : List Rela = relas_of (file_image (get_or fl o no_file)) (file_record (get_or fl o no_file)) in
               let are : entries_at table os a o ≡ es = entries_are setting size table h pr fs L a len at_place o b.0 b.1 os (inputs o b.1) in
-              let inside : j < length es = subst (λ (l : List Rela). j < length l) are k.entry in
-              let before : copies_before table os a order i j ≡ gathered setting.row S fl g (take i order) ++ gather (g o) (take j es) =
+              let inside : j < length es = subst (λ (l : List Rela). j < length l) are k.crossed.entry in
+              let before : copies_before table os a order i j ≡ gathered setting.row S fl g (take i order) ++ filter_map (g o) (take j es) =
               rw (among_is (take i order) (others_take i order others), are) in
-              let quiet = subst (Quiet []) before (subst (λ (t : Bool). Quiet [] (copies_met table os a order t i j)) e f.quiet) in
-              let sized = subst (λ (l : List Rela). (g o (get_or l j no_rela)).size ≡ 0 → ⊥) are k.some_copy in
-              let crossed = subst (λ (l : List Copy). some (crosses (g o (get_or es j no_rela))) l ≡ true) before
-              (subst (λ (l : List Rela). some (crosses (g o (get_or l j no_rela))) (copies_before table os a order i j) ≡ true) are k.crossed) in
+              let quiet = subst (Quiet []) before f.quiet in
+              let crossed = subst (λ (l : List Copy). IsSomeAnd (g o (get_or es j no_rela)) (λ q. some (crosses q) l ≡ true)) before
+              (subst (λ (l : List Rela). IsSomeAnd (g o (get_or l j no_rela)) (λ q. some (crosses q) (copies_before table os a order i j) ≡ true)) are k.crossed.crossed) in
               let one : take (j + 1) es ≡ take j es ++ (get_or es j no_rela ∷ []) =
               (let z : j + 1 ≡ suc j = omega arith in ap (λ (n : ℕ). take n es) z ∙ take-suc es j no_rela inside) in
-              let u = until_at i k.object w.progress w.before w.notes w.leaves in
+              let u = until_at i k.object w.reached w.progress w.before w.notes w.leaves in
               let is : order_verdict setting.row S fl [] order ≡ first (met_until setting.row S fl g (take i order) o (take (j + 1) es)) (refused 28 o) =
               ap (order_verdict setting.row S fl []) (split_at order i 0 k.object)
               ∙ (order_crossed setting.row S fl g (take i order) o (drop (suc i) order) (take j es) (get_or es j no_rela) (drop (suc j) es) (split_at es j no_rela inside)
               (agrees_in (take i order) (others_take i order others)) (agrees setting size table h pr fs L a len at_place o b.0 b.1 os (inputs o b.1))
-              quiet sized crossed
+              quiet crossed
               ∙ ap (λ (l : List Rela). first (met_until setting.row S fl g (take i order) o l) (refused 28 o)) (sym one)) in
               let met : m ≡ first (met_until setting.row S fl g (take i order) o (take (j + 1) es)) (refused 28 o) =
               ⊎_elim
-              (λ (z : eqb w.progress.refusal 0 ≡ true).
-              let q = w.until (eqb-true w.progress.refusal 0 z) in
-              let v = u.until (eqb-true w.progress.refusal 0 z) (j + 1) (omega arith) q.0 q.1 q.2
-              (subst (λ (l : List ℕ). left q.0 q.1 q.2 ≡ run_until table o l (j + 1) w.progress w.before w.notes) (inputs o b.1) q.3) in
-              let p : plain_order setting.row S fl (take i order) ≡ passed = sym u.verdict_is ∙ verdict_none w.progress.refusal w.progress.object (eqb-true w.progress.refusal 0 z) in
-              q.4 ∙ rw (p, v))
-              (λ (z : eqb w.progress.refusal 0 ≡ false).
-              w.stopped (eqb-false w.progress.refusal 0 z) ∙ stops w.progress (plain_order setting.row S fl (take i order)) u.verdict_is z _ _)
-              (decide (eqb w.progress.refusal 0)) in
+              (λ z.
+              let q = w.until z in
+              let v = u.until z (j + 1) (omega arith) q.0 q.1 q.2 q.3
+              (subst (λ (l : List ℕ). left q.0 q.1 q.2 q.3 ≡ run_until table o l (j + 1) w.progress w.before w.notes) (inputs o b.1) q.4) in
+              let p : plain_order setting.row S fl (take i order) ≡ passed = sym u.verdict_is ∙ z in
+              rw p (rw v at q.5))
+              (λ d. rw (sym u.verdict_is ∙ d.1) (w.stopped d.0 d.1))
+              (passes w.reached) in
               (met ∙ sym is, λ z. never (met_until setting.row S fl g (take i order) o (take (j + 1) es)) o (sym met ∙ z))
             where
-              stops :
-                  (p : Progress) (v : Verdict) → verdict p.refusal p.object ≡ v → eqb p.refusal 0 ≡ false → (x y : Verdict)
-                  → refused p.refusal p.object ≡ first (first v x) y
-              stops p v e z x y = rw (← e, z)
+              passes : (v : Verdict) → (v ≡ passed) ⊎ ((d : Refused) × (v ≡ Err d))
+              passes passed = inl refl
+              passes (Err d) = inr (d, refl)
 
               never : (v : Verdict) (k : ℕ) → first v (refused 28 k) ≡ passed → ⊥
               never passed k e = refused_not 28 k e

@@ -10,7 +10,7 @@ use Rattle.model.specs.Scope.{resolve, resolve_copy}
 use Rattle.model.specs.Relocation.{address_or0, copied, effect}
 use Rattle.model.proofs.Scope.{resolve_copy_range}
 use Rattle.model.proofs.OrderLaws.{decide}
-use Rattle.words.specs.Refusal.{number_of}
+use Rattle.words.specs.Refusal.{refusal_number}
 use Rattle.words.specs.declared.refusal.Refusal.{Refusal}
 use Rattle.words.specs.declared.refusal.Refusal.TheVariants as refusals
 use Rattle.object.specs.Refusal.{require}
@@ -24,16 +24,16 @@ use Rattle.object.specs.RelocationTypes.{Calculation, Row, no_search, in_scope, 
 use Rattle.object.specs.declared.hash_tables.Definition.{Definition}
 use Rattle.binder.specs.Instance.{File, file_image, file_record, definition_of, entry_by, wanted_by}
 use Rattle.binder.specs.Setting.{Setting}
-use Rattle.binder.specs.Verdict.{Verdict, passed, verdict, copy_ok, copy_refusal, field_refusal, symbol_then, refusal_by}
+use Rattle.binder.specs.Verdict.{Verdict, passed, refused, verdict, copy_ok, copy_refusal, field_refusal, symbol_then, refusal_by}
 use Rattle.binder.specs.Report.{report_word, unresolved, undefined_by, is_passed}
 use Rattle.scope.specs.Steps.Links.{link_at}
 use Rattle.binder.specs.Steps.ScopeModel.{scoped_of}
-use Rattle.binder.specs.Steps.Relocating.{Left, left, wrote, Noted, noted, with_arena, with_report, refused_by, image_in, report_sum, note_of, mark_undefined, unresolved_of, written_number, written_bytes, field_of, fixed_of, sought_by, field_noted, write_sought, copy_fits, copy_bytes, copy_of, turn_of, sought_for, sought_for_copy, keeps, sought_of, copying_of, run_action, keeps_weak}
+use Rattle.binder.specs.Steps.Relocating.{Left, left, wrote, Noted, noted, with_arena, with_report, image_in, report_sum, note_of, mark_undefined, unresolved_of, written_number, written_bytes, field_of, fixed_of, sought_by, field_noted, write_sought, copy_fits, copy_bytes, copy_of, turn_of, sought_for, sought_for_copy, keeps, kept_as, kept_for, sought_or, sought_of, copying_of, run_action, keeps_weak}
 use Rattle.scope.specs.declared.links.Link.{Link}
 use Rattle.binder.specs.declared.turn.Turn.{Turn}
-use Rattle.scope.specs.declared.scope.Found.{Found}
-use Rattle.scope.specs.Steps.ScopeCode.{found}
+use Rattle.scope.specs.declared.scope.Hit.{Hit}
 use Rattle.binder.specs.declared.relocate.Sought.TheVariants.{Known}
+use Rattle.binder.specs.declared.report.Kept.{Kept}
 use Rattle.binder.specs.declared.report.Progress.{Progress}
 use Rattle.binder.proofs.InsideLaws.{name_is, writable_inside}
 use Rattle.binder.proofs.Steady.{set, file_at, LoadedSet, Steady, Written}
@@ -48,7 +48,7 @@ abbrev pub SymbolCase : List ℕ → Record → ℕ → Type 0
 SymbolCase image r index =
     ((checked_symbol image r index ≡ Ok (symbol_at image r.symbols index))
     × (symbol_ok (is_table_of r) image r.symbols r.strings index ≡ true))
-    ⊎ ((z : Refusal) × (number_of z ≡ 0 → ⊥) × (checked_symbol image r index ≡ Err z))
+    ⊎ ((z : Refusal) × (refusal_number z ≡ 0 → ⊥) × (checked_symbol image r index ≡ Err z))
 
 pub symbol_case : (image : List ℕ) (r : Record) (index : ℕ) → SymbolCase image r index
 unfolding checked_symbol
@@ -77,16 +77,16 @@ same_symbol image image' r index e =
 
 -- a weak symbol: no word, and its absence is kept
 weak_keeps :
-    (last : ℕ) (y : Symbol) (k i : ℕ) (p : Progress) (report : List ℕ) → eqb (binding_of y) 2 ≡ true
-    → keeps_weak last y (unresolved_of y k i p report) ≡ noted (keeps last 0 p) report
+    (x : ℕ) (y : Symbol) (k i : ℕ) (p : Progress) (report : List ℕ) → eqb (binding_of y) 2 ≡ true
+    → keeps_weak x y (unresolved_of y k i p report) ≡ noted (keeps (kept_as x 0) p) report
 unfolding unresolved_of
-weak_keeps last y k i p report e =
-    ap (λ (b : Bool). keeps_weak last y (pick b (noted p report) (mark_undefined k (note_of (report_sum 6 i) p report)))) e
-    ∙ ap (λ (b : Bool). noted (pick b (keeps last 0 p) p) report) e
+weak_keeps x y k i p report e =
+    ap (λ (b : Bool). keeps_weak x y (pick b (noted p report) (mark_undefined k (note_of (report_sum 6 i) p report)))) e
+    ∙ ap (λ (b : Bool). noted (pick b (keeps (kept_as x 0) p) p) report) e
 
 -- a symbol that is not weak: nothing is kept
-strong_keeps : (last : ℕ) (y : Symbol) (q : Noted) → eqb (binding_of y) 2 ≡ false → keeps_weak last y q ≡ q
-strong_keeps last y (noted p report) e = rw e
+strong_keeps : (x : ℕ) (y : Symbol) (q : Noted) → eqb (binding_of y) 2 ≡ false → keeps_weak x y q ≡ q
+strong_keeps x y (noted p report) e = rw e
 
 module _ (setting : Setting) (size : ℕ) (table : List ℕ) (h pr : File) (fs : List File) where
   abbrev address : ℕ
@@ -110,23 +110,23 @@ module _ (setting : Setting) (size : ℕ) (table : List ℕ) (h pr : File) (fs :
     image = file_image f
 
     -- the kept answer is the one that the definitions have for its symbol
+    abbrev Rightly : Kept → Type 0
+    Rightly x =
+        ((o : ℕ) × (z : model.Definition) × (resolve S k (wanted_by image r x.symbol) ≡ answer o z x.address))
+        ⊎ ((resolve S k (wanted_by image r x.symbol) ≡ absent)
+        × (eqb (binding_of (symbol_at image r.symbols x.symbol)) 2 ≡ true)
+        × (x.address ≡ 0))
+
     abbrev pub RightlyKept : Progress → Type 0
-    RightlyKept p =
-        (index : ℕ) → p.last ≡ index + 1
-        → ((o : ℕ) × (z : model.Definition) × (resolve S k (wanted_by image r index) ≡ answer o z p.address))
-        ⊎ ((resolve S k (wanted_by image r index) ≡ absent)
-        × (eqb (binding_of (symbol_at image r.symbols index)) 2 ≡ true)
-        × (p.address ≡ 0))
+    RightlyKept p = (x : Kept) → p.kept ≡ Some x → Rightly x
 
     -- none is
-    pub none_kept : (p : Progress) → p.last ≡ 0 → RightlyKept p
-    none_kept p e index f = absurd (omega arith)
+    pub none_kept : (p : Progress) → p.kept ≡ None → RightlyKept p
+    none_kept p e x f = let z : ◌≡◌ {A = ℕ} 0 1 = cc in absurd (omega arith)
 
-    -- the same is
-    same_kept : (p p' : Progress) → (p'.last ≡ p.last) × (p'.address ≡ p.address) → RightlyKept p → RightlyKept p'
-    same_kept p p' e x index f =
-        ⊎_elim (λ y. inl (y.0, y.1, y.2 ∙ ap (answer y.0 y.1) (sym e.1))) (λ y. inr (y.0, y.1, e.1 ∙ y.2))
-        (x index (sym e.0 ∙ f))
+    -- this one is
+    this_kept : (p : Progress) (x : Kept) → Rightly x → RightlyKept (keeps (Some x) p)
+    this_kept p x h x' f = let same : x ≡ x' = cc in subst Rightly same h
 
     -- while the object `k` is relocated: the words of the report, the memory, the other objects' bytes as in `a₀`, and the kept answer
     pub record Doing (ws : List ℕ) (u : ℕ) (m : Mem) (p : Progress) (a report : List ℕ) : Type 0 where
@@ -160,41 +160,40 @@ module _ (setting : Setting) (size : ℕ) (table : List ℕ) (h pr : File) (fs :
       -- no refusal, and no word
       pub plain :
           (v : Verdict) (m' : Mem) (a' : List ℕ) → v ≡ passed → Written setting size table h pr fs a₀ a' k → mem a' ≡ m'
-          → Ran size n v (Doing (ws ++ []) (earlier u 0) m') (left p a' report)
+          → Ran size n v (Doing (ws ++ []) (earlier u 0) m') (left passed p a' report)
       plain v m' a' e w same =
-          ran_passed size n v (Doing (ws ++ []) (earlier u 0) m') p a' report e d.going.refusal w.steady.size_is
+          ran_passed size n v (Doing (ws ++ []) (earlier u 0) m') p a' report e w.steady.size_is
           (going_length ws u n p report d.going)
           record { going = rw (append-nil ws, earlier_none u) d.going; memory = same; written = w; kept = d.kept }
 
       -- no refusal, and what was noted
       with_words :
           (v : Verdict) (vs : List ℕ) (u' : ℕ) (m' : Mem) (a' : List ℕ) (q : Noted) → v ≡ passed → NotedGoing vs u' n q
-          → KeptAs p.last p.address q → Written setting size table h pr fs a₀ a' k → mem a' ≡ m'
+          → KeptAs p.kept q → Written setting size table h pr fs a₀ a' k → mem a' ≡ m'
           → Ran size n v (Doing vs u' m') (with_arena a' q)
       with_words v vs u' m' a' (noted p' report') e g z w same =
-          ran_passed size n v (Doing vs u' m') p' a' report' e g.refusal w.steady.size_is (going_length vs u' n p' report' g)
-          record { going = g; memory = same; written = w; kept = same_kept p p' z d.kept }
+          ran_passed size n v (Doing vs u' m') p' a' report' e w.steady.size_is (going_length vs u' n p' report' g)
+          record { going = g; memory = same; written = w; kept = λ x f. d.kept x (sym z ∙ f) }
 
       -- no refusal, no word, and an answer is kept
       with_answer :
-          (v : Verdict) (last found : ℕ) (m' : Mem) (a' : List ℕ) → v ≡ passed → RightlyKept (keeps last found p)
+          (v : Verdict) (x : Kept) (m' : Mem) (a' : List ℕ) → v ≡ passed → Rightly x
           → Written setting size table h pr fs a₀ a' k → mem a' ≡ m'
-          → Ran size n v (Doing (ws ++ []) (earlier u 0) m') (left (keeps last found p) a' report)
-      with_answer v last found m' a' e z w same =
-          ran_passed size n v (Doing (ws ++ []) (earlier u 0) m') (keeps last found p) a' report e d.going.refusal w.steady.size_is
+          → Ran size n v (Doing (ws ++ []) (earlier u 0) m') (left passed (keeps (Some x) p) a' report)
+      with_answer v x m' a' e z w same =
+          ran_passed size n v (Doing (ws ++ []) (earlier u 0) m') (keeps (Some x) p) a' report e w.steady.size_is
           (going_length ws u n p report d.going)
           record {
-            going = rw (append-nil ws, earlier_none u) (keeps_going ws u n last found p report d.going);
+            going = rw (append-nil ws, earlier_none u) (keeps_going ws u n (Some x) p report d.going);
             memory = same;
             written = w;
-            kept = z;
+            kept = this_kept p x z;
           }
 
       -- a refusal
       stopped :
-          (z : ℕ) (D : Progress → List ℕ → List ℕ → Type 0) → (z ≡ 0 → ⊥) → Ran size n (verdict z k) D (left (refused_by t z p) a report)
-      stopped z D ne =
-          ran_refused size n z k D (refused_by t z p) a report ne refl refl steady.size_is (going_length ws u n p report d.going)
+          (z : ℕ) (D : Progress → List ℕ → List ℕ → Type 0) → (z ≡ 0 → ⊥) → Ran size n (verdict z k) D (left (refused z k) p a report)
+      stopped z D ne = ran_refused size n z k D p a report ne steady.size_is (going_length ws u n p report d.going)
 
       -- a symbol that was found nowhere
       unresolved_going :
@@ -218,23 +217,23 @@ module _ (setting : Setting) (size : ℕ) (table : List ℕ) (h pr : File) (fs :
       -- 22, or what is left where the number fits
       field_ran :
           (e : Rela) (f : Calculation) (v : ℕ) (q : Progress) (notes : List ℕ) (D : Progress → List ℕ → List ℕ → Type 0) → length notes ≡ n
-          → Ran size n (verdict 0 k) D (left q (patch a (t.offset + e.place) f.width (written_bytes t e f v)) notes)
-          → Ran size n (verdict (require (f.fits (written_number t e f v)) 22 0) k) D (with_report notes (field_of t e f v q a))
+          → Ran size n (verdict 0 k) D (left passed q (patch a (t.offset + e.place) f.width (written_bytes t e f v)) notes)
+          → Ran size n (verdict (require (f.fits (written_number t e f v)) 22 0) k) D (with_report q notes (field_of t e f v a))
       unfolding field_of require
       field_ran e f v q notes D long x = go (f.fits (written_number t e f v))
         where
           go : (b : Bool)
               → Ran size n (verdict (require b 22 0) k) D
-              (with_report notes (pick b (wrote q (patch a (t.offset + e.place) f.width (written_bytes t e f v))) (wrote (refused_by t 22 q) a)))
+              (with_report q notes (pick b (wrote passed (patch a (t.offset + e.place) f.width (written_bytes t e f v))) (wrote (refused 22 k) a)))
           go true = x
-          go false = ran_refused size n 22 k D (refused_by t 22 q) a notes (λ e. omega arith) refl refl steady.size_is long
+          go false = ran_refused size n 22 k D q a notes (λ e. omega arith) steady.size_is long
 
       -- no word, and what is kept stays
       known_ran :
           (e : Rela) (f : Calculation) (v : ℕ) → in_writable r.segments e.place f.width ≡ true
           → Ran size n (verdict (require (f.fits (written_number t e f v)) 22 0) k)
           (Doing (ws ++ []) (earlier u 0) (write m ((obj S k).offset + e.place) f.width (written_bytes t e f v)))
-          (with_report report (field_of t e f v p a))
+          (with_report p report (field_of t e f v a))
       known_ran e f v w =
           let x = wrote_to e.place f.width (written_bytes t e f v) w in
           field_ran e f v p report _ (going_length ws u n p report d.going)
@@ -247,7 +246,7 @@ module _ (setting : Setting) (size : ℕ) (table : List ℕ) (h pr : File) (fs :
           (e : Rela) (f : Calculation) (b : Bool) → in_writable r.segments e.place f.width ≡ b
           → Ran size n (verdict (require b 17 (require (f.fits (written_number t e f 0)) 22 0)) k)
           (Doing (ws ++ []) (earlier u 0) (write m ((obj S k).offset + e.place) f.width (written_bytes t e f 0)))
-          (with_report report (pick b (field_of t e f 0 p a) (wrote (refused_by t 17 p) a)))
+          (with_report p report (pick b (field_of t e f 0 a) (wrote (refused 17 k) a)))
       unfolding require
       fixed_ran e f true w = known_ran e f 0 w
       fixed_ran e f false w = stopped 17 _ (λ e. omega arith)
@@ -256,7 +255,7 @@ module _ (setting : Setting) (size : ℕ) (table : List ℕ) (h pr : File) (fs :
 
       symbol_step :
           (index : ℕ) (rest : Symbol → ℕ) (D : Progress → List ℕ → List ℕ → Type 0) (act : Result Symbol Refusal → Left)
-          → ((z : Refusal) → act (Err z) ≡ left (refused_by t (number_of z) p) a report)
+          → ((z : Refusal) → act (Err z) ≡ left (refused (refusal_number z) k) p a report)
           → (symbol_ok (is_table_of r) image r.symbols r.strings index ≡ true
           → symbol_at image r.symbols index ≡ symbol_at (image_in a t) r.symbols index
           → Ran size n (verdict (rest (symbol_at image r.symbols index)) k) D (act (Ok (symbol_at image r.symbols index))))
@@ -271,7 +270,7 @@ module _ (setting : Setting) (size : ℕ) (table : List ℕ) (h pr : File) (fs :
           (goes c.1 (same_symbol image (image_in a t) r index (same ∙ c.0))))
           (λ c.
           subst (λ (x : Result Symbol Refusal). Ran size n (verdict (symbol_then x rest) k) D (act x)) (sym c.2)
-          (subst (λ (st : Left). Ran size n (verdict (number_of c.0) k) D st) (sym (refuses c.0)) (stopped (number_of c.0) D c.1)))
+          (subst (λ (st : Left). Ran size n (verdict (refusal_number c.0) k) D st) (sym (refuses c.0)) (stopped (refusal_number c.0) D c.1)))
           (symbol_case image r index))
         where
           same : checked_symbol (image_in a t) r index ≡ checked_symbol image r index
@@ -302,19 +301,8 @@ module _ (setting : Setting) (size : ℕ) (table : List ℕ) (h pr : File) (fs :
         After x m' =
             Doing (ws ++ pick (unresolved image r e x) (report_word 6 i ∷ []) []) (earlier u (pick (unresolved image r e x) k 0)) m'
 
-        kept_now : (o : ℕ) (z : model.Definition) (v : ℕ) → answer o z v ≡ resolve S k sought → RightlyKept (keeps (e.symbol + 1) v p)
-        kept_now o z v is index f =
-            let same : e.symbol ≡ index = omega arith in
-            inl (o, z, sym (ap (λ (s : ℕ). resolve S k (wanted_by image r s)) same) ∙ sym is)
-
-        weak_kept : absent ≡ resolve S k sought → eqb (binding_of y) 2 ≡ true → RightlyKept (keeps (e.symbol + 1) 0 p)
-        weak_kept is weak index f =
-            let same : e.symbol ≡ index = omega arith in
-            inr (
-              sym (ap (λ (s : ℕ). resolve S k (wanted_by image r s)) same) ∙ sym is,
-              sym (ap (λ (s : ℕ). eqb (binding_of (symbol_at image r.symbols s)) 2) same) ∙ weak,
-              refl,
-            )
+        abbrev here : ℕ → Kept
+        here v = record { symbol = e.symbol; address = v }
 
         module _ (f : Calculation) where
           -- what such an entry leaves, where 17 was passed and its search has the answer
@@ -326,7 +314,7 @@ module _ (setting : Setting) (size : ℕ) (table : List ℕ) (h pr : File) (fs :
           -- found nowhere, with a word or none
           noted_ran :
               (vs : List ℕ) (u' : ℕ) (q : Noted) → in_writable r.segments e.place f.width ≡ true → NotedGoing vs u' n q
-              → KeptAs p.last p.address q
+              → KeptAs p.kept q
               → Ran size n (verdict (require (f.fits (written_number t e f 0)) 22 0) k)
               (Doing vs u' (write m ((obj S k).offset + e.place) f.width (written_bytes t e f 0))) (field_noted t e f a q)
           noted_ran vs u' (noted p' report') w g z =
@@ -337,63 +325,69 @@ module _ (setting : Setting) (size : ℕ) (table : List ℕ) (h pr : File) (fs :
 
           -- an answer is kept
           new_ran :
-              (v : ℕ) → in_writable r.segments e.place f.width ≡ true → RightlyKept (keeps (e.symbol + 1) v p)
+              (v : ℕ) → in_writable r.segments e.place f.width ≡ true → Rightly (here v)
               → Ran size n (verdict (require (f.fits (written_number t e f v)) 22 0) k)
               (Doing (ws ++ []) (earlier u 0) (write m ((obj S k).offset + e.place) f.width (written_bytes t e f v)))
-              (with_report report (field_of t e f v (keeps (e.symbol + 1) v p) a))
+              (with_report (keeps (kept_as e.symbol v) p) report (field_of t e f v a))
           new_ran v w z =
               let x = wrote_to e.place f.width (written_bytes t e f v) w in
-              field_ran e f v (keeps (e.symbol + 1) v p) report _ (going_length ws u n p report d.going)
-              (with_answer (verdict 0 k) (e.symbol + 1) v (write m ((obj S k).offset + e.place) f.width (written_bytes t e f v))
+              field_ran e f v (keeps (kept_as e.symbol v) p) report _ (going_length ws u n p report d.going)
+              (with_answer (verdict 0 k) (here v) (write m ((obj S k).offset + e.place) f.width (written_bytes t e f v))
               (patch a (t.offset + e.place) f.width (written_bytes t e f v)) (verdict_none 0 k refl) z x.0 x.1)
 
           -- found nowhere: a weak symbol's absence is kept
           nowhere_ran :
               absent ≡ resolve S k sought → in_writable r.segments e.place f.width ≡ true → (b : Bool) → eqb (binding_of y) 2 ≡ b
-              → WrittenBy absent (field_noted t e f a (keeps_weak (e.symbol + 1) y (unresolved_of y k i p report)))
+              → WrittenBy absent (field_noted t e f a (keeps_weak e.symbol y (unresolved_of y k i p report)))
           unfolding address_or0
           nowhere_ran eq w true b =
-              subst (λ (q : Noted). WrittenBy absent (field_noted t e f a q)) (sym (weak_keeps (e.symbol + 1) y k i p report b))
-              (rw b (new_ran 0 w (weak_kept eq b)))
+              subst (λ (q : Noted). WrittenBy absent (field_noted t e f a q)) (sym (weak_keeps e.symbol y k i p report b))
+              (rw b (new_ran 0 w (inr (sym eq, b, refl))))
           nowhere_ran eq w false b =
-              subst (λ (q : Noted). WrittenBy absent (field_noted t e f a q)) (sym (strong_keeps (e.symbol + 1) y (unresolved_of y k i p report) b))
+              subst (λ (q : Noted). WrittenBy absent (field_noted t e f a q)) (sym (strong_keeps e.symbol y (unresolved_of y k i p report) b))
               (noted_ran (ws ++ pick (not (eqb (binding_of y) 2)) (report_word 6 i ∷ []) []) (earlier u (pick (not (eqb (binding_of y) 2)) k 0))
               (unresolved_of y k i p report) w (unresolved_going i l y) (unresolved_kept y k i p report))
 
           found_ran :
-              (s : Option Found) → scoped_of s ≡ resolve S k sought → in_writable r.segments e.place f.width ≡ true
-              → WrittenBy (resolve S k sought) (write_sought t e f i (sought_by y s) p a report)
+              (s : Option Hit) → scoped_of s ≡ resolve S k sought → in_writable r.segments e.place f.width ≡ true
+              → WrittenBy (resolve S k sought) (write_sought t e f i (Ok (sought_by y s)) p a report)
           unfolding scoped_of write_sought address_or0
           found_ran None eq w =
-              subst (λ (x : model.Resolved). WrittenBy x (write_sought t e f i (sought_by y None) p a report)) eq (nowhere_ran eq w (eqb (binding_of y) 2) refl)
+              subst (λ (x : model.Resolved). WrittenBy x (write_sought t e f i (Ok (sought_by y None)) p a report)) eq (nowhere_ran eq w (eqb (binding_of y) 2) refl)
           found_ran (Some hit) eq w =
-              subst (λ (x : model.Resolved). WrittenBy x (write_sought t e f i (sought_by y (Some hit)) p a report)) eq
-              (new_ran hit.address w (kept_now hit.object (definition_of hit.definition) hit.address eq))
+              subst (λ (x : model.Resolved). WrittenBy x (write_sought t e f i (Ok (sought_by y (Some hit))) p a report)) eq
+              (new_ran hit.address w (inl (hit.object, definition_of hit.definition, sym eq)))
 
           kept_ran :
-              p.last ≡ e.symbol + 1 → in_writable r.segments e.place f.width ≡ true
-              → WrittenBy (resolve S k sought) (with_report report (field_of t e f p.address p a))
+              (x : Kept) → p.kept ≡ Some x → x.symbol ≡ e.symbol → in_writable r.segments e.place f.width ≡ true
+              → WrittenBy (resolve S k sought) (with_report p report (field_of t e f x.address a))
           unfolding address_or0
-          kept_ran same w =
+          kept_ran x is same w =
               ⊎_elim
-              (λ x. subst (λ (x : model.Resolved). WrittenBy x (with_report report (field_of t e f p.address p a))) (sym x.2) (known_ran e f p.address w))
-              (λ x.
-              subst (λ (x : model.Resolved). WrittenBy x (with_report report (field_of t e f p.address p a))) (sym x.0)
-              (rw x.1
+              (λ z. subst (λ (z : model.Resolved). WrittenBy z (with_report p report (field_of t e f x.address a))) (sym z.2) (known_ran e f x.address w))
+              (λ z.
+              subst (λ (z : model.Resolved). WrittenBy z (with_report p report (field_of t e f x.address a))) (sym z.0)
+              (rw z.1
               (subst
               (λ (v : ℕ).
               Ran size n (verdict (require (f.fits (written_number t e f v)) 22 0) k)
               (Doing (ws ++ []) (earlier u 0) (write m ((obj S k).offset + e.place) f.width (written_bytes t e f v)))
-              (with_report report (field_of t e f p.address p a)))
-              x.2 (known_ran e f p.address w))))
-              (d.kept e.symbol same)
+              (with_report p report (field_of t e f x.address a)))
+              z.2 (known_ran e f x.address w))))
+              (subst (λ (s : ℕ). Rightly (record { symbol = s; address = x.address })) same (d.kept x is))
 
           answered_ran :
-              (s : Option Found) → scoped_of s ≡ resolve S k sought → in_writable r.segments e.place f.width ≡ true → (b : Bool) → eqb p.last (e.symbol + 1) ≡ b
-              → WrittenBy (resolve S k sought) (write_sought t e f i (pick b (Ok (Known p.address)) (sought_by y s)) p a report)
+              (s : Option Hit) → scoped_of s ≡ resolve S k sought → in_writable r.segments e.place f.width ≡ true → (kept : Option Kept) → p.kept ≡ kept
+              → WrittenBy (resolve S k sought) (write_sought t e f i (Ok (sought_or (kept_for kept e.symbol) y s)) p a report)
           unfolding write_sought
-          answered_ran s eq w true same = kept_ran (eqb-true p.last (e.symbol + 1) same) w
-          answered_ran s eq w false same = found_ran s eq w
+          answered_ran s eq w None is = found_ran s eq w
+          answered_ran s eq w (Some x) is = go (eqb x.symbol e.symbol) refl
+            where
+              go :
+                  (b : Bool) → eqb x.symbol e.symbol ≡ b
+                  → WrittenBy (resolve S k sought) (write_sought t e f i (Ok (sought_or (pick b (Some x.address) None) y s)) p a report)
+              go true same = kept_ran x is (eqb-true x.symbol e.symbol same) w
+              go false same = found_ran s eq w
 
           -- the entry of the definitions: by the search, or by 0 where there is none
           abbrev entry_now : Bool → Entry
@@ -401,14 +395,14 @@ module _ (setting : Setting) (size : ℕ) (table : List ℕ) (h pr : File) (fs :
               pick c (symbol e.place f.width sought (λ v. written_number t e f v)) (fixed e.place f.width (written_number t e f 0))
 
           symbolic_by :
-              (s : Option Found) → scoped_of s ≡ resolve S k sought → (b : Bool) → in_writable r.segments e.place f.width ≡ b → (c : Bool)
+              (s : Option Hit) → scoped_of s ≡ resolve S k sought → (b : Bool) → in_writable r.segments e.place f.width ≡ b → (c : Bool)
               → Ran size n (verdict (require b 17 (require (f.fits (written_number t e f (pick c (address_or0 (resolve S k sought)) 0))) 22 0)) k)
               (Doing (ws ++ pick (both c (unresolved image r e (resolve S k sought))) (report_word 6 i ∷ []) [])
               (earlier u (pick (both c (unresolved image r e (resolve S k sought))) k 0)) (effect S k (entry_now c) m))
               (write_sought t e f i
-              (pick b (pick c (pick (eqb p.last (e.symbol + 1)) (Ok (Known p.address)) (sought_by y s)) (Ok (Known 0))) (Err refusals.NotWritable)) p a report)
+              (pick b (Ok (pick c (sought_or (kept_for p.kept e.symbol) y s) (Known 0))) (refused 17 k)) p a report)
           unfolding require effect write_sought
-          symbolic_by s eq true w true = answered_ran s eq w (eqb p.last (e.symbol + 1)) refl
+          symbolic_by s eq true w true = answered_ran s eq w p.kept refl
           symbolic_by s eq true w false = known_ran e f 0 w
           symbolic_by s eq false w c = stopped 17 _ (λ e. omega arith)
 
@@ -421,12 +415,12 @@ module _ (setting : Setting) (size : ℕ) (table : List ℕ) (h pr : File) (fs :
               (Doing (ws ++ pick (both (searched e.symbol) (unresolved image r e (resolve S k sought))) (report_word 6 i ∷ []) [])
               (earlier u (pick (both (searched e.symbol) (unresolved image r e (resolve S k sought))) k 0))
               (effect S k (entry_now (searched e.symbol)) m))
-              (write_sought t e f i (sought_of table t r e searched f p a (checked_symbol (image_in a t) r e.symbol)) p a report)
+              (write_sought t e f i (sought_of table t r e searched f p.kept a (checked_symbol (image_in a t) r e.symbol)) p a report)
           unfolding sought_of write_sought
           symbolic_ran searched =
               symbol_step e.symbol
               (λ y. field_refusal t.base r e f (pick (searched e.symbol) (address_or0 (resolve S k sought)) 0)) _
-              (λ c. write_sought t e f i (sought_of table t r e searched f p a c) p a report) (λ z. refl)
+              (λ c. write_sought t e f i (sought_of table t r e searched f p.kept a c) p a report) (λ z. refl)
               (λ ok same.
               symbolic_by (sought_for table t a (name_of (image_in a t) r y))
               (ap (λ (x : List ℕ). scoped_of (sought_for table t a x)) (name_same e.symbol ok same)
@@ -448,9 +442,9 @@ module _ (setting : Setting) (size : ℕ) (table : List ℕ) (h pr : File) (fs :
           copy_fits_lem :
               (b : Bool) → in_writable r.segments e.place many ≡ true
               → Ran size n (verdict (require b 18 0) k) (Doing (ws ++ []) (earlier u 0) (write m to many (source m)))
-              (with_report report
-              (pick b (wrote p (patch a (t.offset + e.place) many (from ((link_at table o).offset + x.value) (mem a))))
-              (wrote (refused_by t 18 p) a)))
+              (with_report p report
+              (pick b (wrote passed (patch a (t.offset + e.place) many (from ((link_at table o).offset + x.value) (mem a))))
+              (wrote (refused 18 k) a)))
           unfolding require
           copy_fits_lem true w =
               let z = wrote_to e.place many (from ((link_at table o).offset + x.value) (mem a)) w in
@@ -473,12 +467,12 @@ module _ (setting : Setting) (size : ℕ) (table : List ℕ) (h pr : File) (fs :
               (b : Bool) → in_writable r.segments e.place many ≡ b
               → Ran size n (verdict (require b 17 (require (copy_ok S k e.place o (definition_of x) many) 18 0)) k)
               (Doing (ws ++ []) (earlier u 0) (write m to many (source m)))
-              (with_report report
+              (with_report p report
               (pick b
               (pick (copy_fits (length a) t e.place (link_at table o) x many)
-              (wrote p (patch a (t.offset + e.place) many (from ((link_at table o).offset + x.value) (mem a))))
-              (wrote (refused_by t 18 p) a))
-              (wrote (refused_by t 17 p) a)))
+              (wrote passed (patch a (t.offset + e.place) many (from ((link_at table o).offset + x.value) (mem a))))
+              (wrote (refused 18 k) a))
+              (wrote (refused 17 k) a)))
           unfolding require
           copy_writable true w = rw (fits_is w) (copy_fits_lem (copy_ok S k e.place o (definition_of x) many) w)
           copy_writable false w = stopped 17 _ (λ e. omega arith)
@@ -490,20 +484,20 @@ module _ (setting : Setting) (size : ℕ) (table : List ℕ) (h pr : File) (fs :
               (pick b 0
               (require (in_writable r.segments e.place many) 17 (require (copy_ok S k e.place o (definition_of x) many) 18 0))) k)
               (Doing (ws ++ []) (earlier u 0) (write m to many (source m)))
-              (with_report report
-              (pick b (wrote p a)
+              (with_report p report
+              (pick b (wrote passed a)
               (pick (in_writable r.segments e.place many)
               (pick (copy_fits (length a) t e.place (link_at table o) x many)
-              (wrote p (patch a (t.offset + e.place) many (from ((link_at table o).offset + x.value) (mem a))))
-              (wrote (refused_by t 18 p) a))
-              (wrote (refused_by t 17 p) a))))
+              (wrote passed (patch a (t.offset + e.place) many (from ((link_at table o).offset + x.value) (mem a))))
+              (wrote (refused 18 k) a))
+              (wrote (refused 17 k) a))))
           copy_some true z =
               plain (verdict 0 k) (write m to many (source m)) a (verdict_none 0 k refl) d.written
               (d.memory ∙ sym (ap (λ (s : ℕ). write m to s (source m)) (eqb-true many 0 z) ∙ write_none m to (source m)))
           copy_some false z = copy_writable (in_writable r.segments e.place many) refl
 
         copy_by :
-            (x : model.Resolved) (s : Option Found) → scoped_of s ≡ x → ((o : ℕ) (z : model.Definition) (v : ℕ) → x ≡ answer o z v → o < count S)
+            (x : model.Resolved) (s : Option Hit) → scoped_of s ≡ x → ((o : ℕ) (z : model.Definition) (v : ℕ) → x ≡ answer o z v → o < count S)
             → Ran size n (verdict (copy_refusal S k r e.place y.size x) k)
             (After x (copied S ((obj S k).offset + e.place) y.size x m)) (copy_of table t r.segments e i y s p a report)
         unfolding scoped_of copy_of copy_refusal copied copy_bytes
@@ -570,7 +564,7 @@ module _ (setting : Setting) (size : ℕ) (table : List ℕ) (h pr : File) (fs :
             (λ (base : ℕ).
             Ran size n (verdict (field_refusal base r e f 0) k)
             (Doing (ws ++ []) (earlier u 0) (write m ((obj S k).offset + e.place) f.width (written_bytes t e f 0)))
-            (with_report report (fixed_of t r.segments e f p a)))
+            (with_report p report (fixed_of t r.segments e f a)))
             base_is (fixed_ran e f (in_writable r.segments e.place f.width) refl)
         entry_by_lem (writes (in_scope searched) f) =
             subst
@@ -582,7 +576,7 @@ module _ (setting : Setting) (size : ℕ) (table : List ℕ) (h pr : File) (fs :
             (Doing (ws ++ pick (both (searched e.symbol) (unresolved image r e (resolve S k sought))) (report_word 6 i ∷ []) [])
             (earlier u (pick (both (searched e.symbol) (unresolved image r e (resolve S k sought))) k 0))
             (effect S k (entry_now f (searched e.symbol)) m))
-            (write_sought t e f i (sought_of table t r e searched f p a (checked_symbol (image_in a t) r e.symbol)) p a report))
+            (write_sought t e f i (sought_of table t r e searched f p.kept a (checked_symbol (image_in a t) r e.symbol)) p a report))
             base_is (symbolic_ran f searched)
         entry_by_lem copies = copy_ran
 

@@ -86,7 +86,7 @@ module _
     dynamic : (k : ℕ) → k < length os → dynamic_of (get_or os k no_input).file ≡ dynamic_of (file k).bytes
     dynamic k h = ap (λ (f : File). dynamic_of f.bytes) (sym (file_at os k h))
 
-    few_needs : FewNeeds os (length os) arena table
+    few_needs : FewNeeds os arena table
     few_needs k a b =
         rw (images k a b, dynamic k b)
         (needs_few (file k).host (file_image (file k)) (segments_of (file k).host (file k).bytes) (dynamic_of (file k).bytes) (read k b))
@@ -106,7 +106,7 @@ module _
         (λ k a b. ap (keep (length os - 2)) (needs_are k a (omega arith)))
         ∙ ap (order_of (λ k. sets.needed_objects (names_of os) (file k))) (sym names_many)
 
-    pub order_read : (r : List ℕ) → Arranged os (length os) arena table r → r ≡ set_order (files_of os) (names_of os)
+    pub order_read : (r : List ℕ) → Arranged os arena table r → r ≡ set_order (files_of os) (names_of os)
     order_read r made = made.is few_needs ∙ order_are
 
 -- in the words of Steady: every object lies at its link, and its bytes are as they were placed
@@ -118,7 +118,7 @@ module _ (setting : Setting) (size : ℕ) (table arena : List ℕ) (h p : Input)
       LoadedSet setting size table (host_file h) (file_of p) (map file_of ls)
       → ((k : ℕ) → k < objects → steady.At setting size table (host_file h) (file_of p) (map file_of ls) k)
       → ((k : ℕ) → k < objects → PlacedAt setting size table (host_file h) (file_of p) (map file_of ls) arena k)
-      → (r : List ℕ) → Arranged (h ∷ (p ∷ ls)) (length (h ∷ (p ∷ ls))) arena table r
+      → (r : List ℕ) → Arranged (h ∷ (p ∷ ls)) arena table r
       → r ≡ set_order (files_of (h ∷ (p ∷ ls))) (names_of (h ∷ (p ∷ ls)))
   unfolding files_of
   order_loaded s lies bytes =

@@ -148,10 +148,10 @@ module _
     )
 
 -- one turn of the loop
-module _ (os : List Input) (count : ℕ) (arena table : List ℕ) (k : ℕ) (before after : List ℕ) (s : Link) (image file : List ℕ) where
+module _ (os : List Input) (arena table : List ℕ) (k : ℕ) (before after : List ℕ) (s : Link) (image file : List ℕ) where
   pub fill_next :
-      2 ≤ k → k < count → count ≤ 64 → length before ≡ 4096 → s ≡ link_at table k → image ≡ image_at arena s → file ≡ (get_or os k no_input).file
-      → NeedsPut os image s.view.strings file k before after → FewNeeds os count arena table
+      2 ≤ k → k < length os → length os ≤ 64 → length before ≡ 4096 → s ≡ link_at table k → image ≡ image_at arena s → file ≡ (get_or os k no_input).file
+      → NeedsPut os image s.view.strings file k before after → FewNeeds os arena table
       → FilledTo (needs_at os arena table) k before → FilledTo (needs_at os arena table) (k + 1) after
   fill_next low h room len es ei ef put few f =
       let at_link : NeedsPut os (image_at arena (link_at table k)) (link_at table k).view.strings (get_or os k no_input).file k before after =
@@ -165,12 +165,12 @@ module _ (os : List Input) (count : ℕ) (arena table : List ℕ) (k : ℕ) (bef
 
 -- the table has that of the needs
 filled_order :
-    (os : List Input) (count : ℕ) (arena table filled : List ℕ) → 2 ≤ count → FewNeeds os count arena table
-    → ((k : ℕ) → 2 ≤ k → k < count → (i : ℕ) → i < 64 → mem filled (64 * k + i) ≡ get_or (needs_at os arena table k) i 0)
-    → order_of (rows.needs_row filled) (count - 2) ≡ order_of (needs_at os arena table) (count - 2)
+    (os : List Input) (arena table filled : List ℕ) → 2 ≤ length os → FewNeeds os arena table
+    → ((k : ℕ) → 2 ≤ k → k < length os → (i : ℕ) → i < 64 → mem filled (64 * k + i) ≡ get_or (needs_at os arena table k) i 0)
+    → order_of (rows.needs_row filled) (length os - 2) ≡ order_of (needs_at os arena table) (length os - 2)
 unfolding memory.mem
-filled_order os count arena table filled low few holds =
-    table_order (needs_at os arena table) filled (count - 2)
+filled_order os arena table filled low few holds =
+    table_order (needs_at os arena table) filled (length os - 2)
     (λ k a b.
     let many = numbers_length os (image_at arena (link_at table k)) (link_at table k).view.strings (dynamic_of (get_or os k no_input).file) in
     omega (arith, few k a (omega arith)))
@@ -178,13 +178,13 @@ filled_order os count arena table filled low few holds =
 
 -- the contract of `order_of`
 pub arranged :
-    (os : List Input) (count : ℕ) (arena table filled r : List ℕ) → 2 ≤ count → count ≤ 64 → Ordered filled (count - 2) r
-    → (FewNeeds os count arena table
-    → (k : ℕ) → 2 ≤ k → k < count → (i : ℕ) → i < 64 → mem filled (64 * k + i) ≡ get_or (needs_at os arena table k) i 0)
-    → Arranged os count arena table r
-arranged os count arena table filled r low high o holds =
-    let e : min (count - 2) 62 ≡ count - 2 = omega arith in
+    (os : List Input) (arena table filled r : List ℕ) → 2 ≤ length os → length os ≤ 64 → Ordered filled (length os - 2) r
+    → (FewNeeds os arena table
+    → (k : ℕ) → 2 ≤ k → k < length os → (i : ℕ) → i < 64 → mem filled (64 * k + i) ≡ get_or (needs_at os arena table k) i 0)
+    → Arranged os arena table r
+arranged os arena table filled r low high o holds =
+    let e : min (length os - 2) 62 ≡ length os - 2 = omega arith in
     record {
-      is = λ few. o.list ∙ (ap (order_of (rows.needs_row filled)) e ∙ filled_order os count arena table filled low few (holds few));
+      is = λ few. o.list ∙ (ap (order_of (rows.needs_row filled)) e ∙ filled_order os arena table filled low few (holds few));
       few = omega (arith, o.count);
     }

@@ -1,6 +1,6 @@
 -- An object's turn, over the arena as it is then: its record, RELR, RELA and PLT do what the definitions say of the placed bytes. Assumes
 -- nothing.
-use Rattle.std.proofs.Common.{◌≡◌, ℕ, ◌+◌, ◌-◌, ◌*◌, ◌^◌, ◌<◌, ◌≤◌, min, Bool, true, false, eqb, List, [], ◌∷◌, ◌++◌, map, sym, refl, ap, ◌∙◌, subst, ⊎_elim, append_assoc, arith, eq-eqb, eqb-true}
+use Rattle.std.proofs.Common.{◌≡◌, ℕ, ◌+◌, ◌-◌, ◌*◌, ◌^◌, ◌<◌, ◌≤◌, min, Bool, true, false, eqb, List, [], ◌∷◌, ◌++◌, map, sym, refl, ap, ◌∙◌, subst, ⊎_elim, append_assoc, arith, eq-eqb, eqb-true, None}
 use borrow.Author.Tests.{eqb-false}
 use Rattle.words.specs.Choice.{pick}
 use Rattle.words.specs.Memory.{Mem, mem}
@@ -14,7 +14,7 @@ use Rattle.binder.specs.Verdict.{Verdict, first, words_verdict}
 use Rattle.object.specs.Entries.{relas_from}
 use Rattle.binder.specs.Steps.PlainVerdict.{plain_entries, plain_object}
 use Rattle.binder.specs.Report.{report_word, entry_report, object_words, has_undefined}
-use Rattle.binder.specs.Steps.Relocating.{left, Noted, noted, Summed, summed, refused_by, keeps, report_sum, note_of, run_relrs, turn_of, image_in, again_refusal, unless_refused, cut_to32, run_table, run_tables, then_tables, run_object, run_at, until_tables, run_until}
+use Rattle.binder.specs.Steps.Relocating.{Noted, noted, Summed, summed, keeps, report_sum, note_of, run_relrs, turn_of, image_in, again_refusal, unless_refused, cut_to32, run_table, run_tables, then_tables, run_object, run_at, until_tables, run_until}
 use Rattle.binder.specs.declared.turn.Turn.{Turn}
 use Rattle.binder.specs.declared.report.Progress.{Progress}
 use Rattle.binder.proofs.Steady.{set, file_at, LoadedSet, PlacedAt, Steady}
@@ -96,7 +96,7 @@ module _ (setting : Setting) (size : ℕ) (table : List ℕ) (h pr : File) (fs :
 
     after_relr :
         (z : ℕ) (b : List ℕ) (q : Noted) → RelrEnded setting size table h pr fs k z a b → NotedGoing (ws ++ (report_word 5 k ∷ [])) u n q
-        → KeptAs 0 0 q → Ran size n (plain_object setting.row S k f) Turned (then_tables table t r (summed z b) q)
+        → KeptAs None q → Ran size n (plain_object setting.row S k f) Turned (then_tables table t r (summed z b) q)
     unfolding plain_object
     after_relr z b (noted p' report') w g' none =
         subst
@@ -110,18 +110,18 @@ module _ (setting : Setting) (size : ℕ) (table : List ℕ) (h pr : File) (fs :
         (ran_weaker size n (plain_entries setting.row S k image r (relas_of image r))
         (Entered setting size table h pr fs L k lo hi n a (ws ++ (report_word 5 k ∷ [])) u (add_words (obj S k) (places_of (named_words image r)) (mem a))
         0 (relas_of image r))
-        Turned entered_turned (run_tables table t r (left p' b report'))
+        Turned entered_turned (run_tables table t r p' b report')
         (tables_ran setting size table h pr fs L k lo hi n a (ws ++ (report_word 5 k ∷ [])) u
         (add_words (obj S k) (places_of (named_words image r)) (mem a)) p' b report'
         record {
           going = g';
           memory = (w.done (eqb-true z 0 c)).0;
           written = (w.done (eqb-true z 0 c)).1;
-          kept = none_kept setting size table h pr fs L k lo hi n a p' none.0;
+          kept = none_kept setting size table h pr fs L k lo hi n a p' none;
         })))
         (λ (c : eqb z 0 ≡ false).
         rw (c, first_met z k (plain_entries setting.row S k image r (relas_of image r)) (eqb-false z 0 c))
-        (ran_refused size n z k Turned (refused_by t z p') b report' (eqb-false z 0 c) refl refl w.length_is
+        (ran_refused size n z k Turned p' b report' (eqb-false z 0 c) w.length_is
         (going_length (ws ++ (report_word 5 k ∷ [])) u n p' report' g')))
         (decide (eqb z 0)))
 
@@ -133,10 +133,10 @@ module _ (setting : Setting) (size : ℕ) (table : List ℕ) (h pr : File) (fs :
       where
         go :
             (x : Summed) → x ≡ run_relrs t r a
-            → Ran size n (plain_object setting.row S k f) Turned (then_tables table t r x (note_of (report_sum 5 k) (keeps 0 0 p) report))
+            → Ran size n (plain_object setting.row S k f) Turned (then_tables table t r x (note_of (report_sum 5 k) (keeps None p) report))
         go (summed z b) e =
-            after_relr z b (note_of (report_sum 5 k) (keeps 0 0 p) report) (relr_is setting size table h pr fs L k lo hi a s z b e)
-            (word_going ws u n (keeps 0 0 p) report (keeps_going ws u n 0 0 p report g) 5 k small) (note_kept (report_sum 5 k) (keeps 0 0 p) report)
+            after_relr z b (note_of (report_sum 5 k) (keeps None p) report) (relr_is setting size table h pr fs L k lo hi a s z b e)
+            (word_going ws u n (keeps None p) report (keeps_going ws u n None p report g) 5 k small) (note_kept (report_sum 5 k) (keeps None p) report)
 
     -- with the record that is read again
     pub turn_ran :
@@ -182,23 +182,23 @@ module _ (setting : Setting) (size : ℕ) (table : List ℕ) (h pr : File) (fs :
             (subst
             (λ (i : ℕ).
             Ran size n (first_entries m) (λ _ _ _. Unit {0})
-            (unless_refused (run_table table t r r.plt (cut_to32 r.relas) (min (cut_to32 r.plts) (m - min i m)) 0) (run_table table t r r.rela 0 (min i m) 0 (left (keeps 0 0 p) b report))))
+            (unless_refused (run_table table t r r.plt (cut_to32 r.relas) (min (cut_to32 r.plts) (m - min i m)) 0) (run_table table t r r.rela 0 (min i m) 0 (keeps None p) b report)))
             (sym cut)
             (subst
             (λ (j : ℕ).
             Ran size n (first_entries m) (λ _ _ _. Unit {0})
-            (unless_refused (run_table table t r r.plt (cut_to32 r.relas) j 0) (run_table table t r r.rela 0 (min r.relas m) 0 (left (keeps 0 0 p) b report))))
+            (unless_refused (run_table table t r r.plt (cut_to32 r.relas) j 0) (run_table table t r r.rela 0 (min r.relas m) 0 (keeps None p) b report)))
             (sym all)
             (tables_until setting size table h pr fs L k lo hi n a (min r.relas m) (m - min r.relas m) (omega arith) ly ws u
-            (add_words (obj S k) (places_of (named_words image r)) (mem a)) (keeps 0 0 p) b report
+            (add_words (obj S k) (places_of (named_words image r)) (mem a)) (keeps None p) b report
             record {
-              going = keeps_going ws u n 0 0 p report g;
+              going = keeps_going ws u n None p report g;
               memory = (w.done (eqb-true z 0 c)).0;
               written = (w.done (eqb-true z 0 c)).1;
-              kept = none_kept setting size table h pr fs L k lo hi n a (keeps 0 0 p) refl;
+              kept = none_kept setting size table h pr fs L k lo hi n a (keeps None p) refl;
             }))))
             (λ (c : eqb z 0 ≡ false).
             rw (c, first_met z k (first_entries m) (eqb-false z 0 c))
-            (ran_refused size n z k (λ _ _ _. Unit {0}) (refused_by t z p) b report (eqb-false z 0 c) refl refl w.length_is
+            (ran_refused size n z k (λ _ _ _. Unit {0}) p b report (eqb-false z 0 c) w.length_is
             (going_length ws u n p report g)))
             (decide (eqb z 0)))

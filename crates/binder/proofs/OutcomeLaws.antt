@@ -1,5 +1,5 @@
 -- What a call to `bind` that is not refused has passed, and what it leaves. Assumes nothing.
-use Rattle.std.proofs.Common.{◌≡◌, ℕ, ◌-◌, Bool, true, false, eqb, ltb, List, [], ◌∷◌, ◌++◌, length, get_or, replicate, sym, refl, ◌∙◌, arith, eqb-true, Err, Ok, is_err, true≢false, eq-eqb, ◌≢◌, Result, Some, None, ap}
+use Rattle.std.proofs.Common.{◌≡◌, ℕ, ◌-◌, Bool, true, false, eqb, ltb, List, [], ◌∷◌, ◌++◌, length, get_or, replicate, sym, refl, ◌∙◌, arith, eqb-true, Err, Ok, is_err, true≢false, Result, Some, None, ap}
 use Rattle.words.specs.Choice.{pick}
 use Rattle.words.specs.Memory.{tab}
 use Rattle.model.specs.Objects.{Objs}
@@ -63,14 +63,6 @@ unless_passed t n k e = picked t n k e
 pub verdict_passed : (n k : ℕ) → verdict n k ≡ passed → n ≡ 0
 unfolding verdict
 verdict_passed n k e = eqb-true n 0 (picked (eqb n 0) n k e)
-
-pub verdict_met : (n k : ℕ) (d : Refused) → Err d ≡ verdict n k → (n ≢ 0) × ◌≡◌ {A = Verdict} (Err d) (refused n k)
-unfolding verdict
-verdict_met n k d e = go (eqb n 0) refl e
-  where
-    go : (t : Bool) → eqb n 0 ≡ t → Err d ≡ pick t passed (refused n k) → (n ≢ 0) × ◌≡◌ {A = Verdict} (Err d) (refused n k)
-    go true f g = refused_not d.number d.object g
-    go false f g = (λ z. absurd (true≢false (sym (eq-eqb n 0 z) ∙ f)), g)
 
 -- ---- a refusal leaves zeros
 

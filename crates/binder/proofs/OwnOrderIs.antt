@@ -26,7 +26,7 @@ use Rattle.binder.proofs.OrderIs.{names_length}
 use Rattle.binder.proofs.OutcomeLaws.{refused_not}
 use Rattle.binder.proofs.Steady.{file_at, LoadedSet}
 use Rattle.binder.proofs.SteadyLaws.{starts, again, counts}
-use Rattle.binder.proofs.TableIs.{some_append}
+use Rattle.binder.proofs.ApartLaws.{some_append}
 use Rattle.binder.proofs.BindIs.{finished_by, files_are, loaded, ordered, bound_in}
 use Rattle.binder.proofs.OwnOrderLaws.{order_once, once_length}
 
@@ -88,21 +88,21 @@ module _
         again_copy _ _ (file_at setting size table (host_file h) (file_of p) fs k) (files_are setting size table h p ls arena a r len kept made z typed k hi) placed
         x.0 x.1 c.0 c.1
 
-    copies_are : copies_at os (length ls + 2) a table ≡ library_copies (files_of os)
+    copies_are : copies_at os a table ≡ library_copies (files_of os)
     unfolding library_copies files_of
     copies_are =
-        let n : length ls + 2 - 2 ≡ length fs = omega (arith, length-map ls file_of) in
+        let n : length os - 2 ≡ length fs = omega (arith, length-map ls file_of) in
         ap (λ (m : ℕ). some (copy_at os a table) (up_from 2 m)) n
         ∙ some_same (copy_at os a table) has_copy fs 2
         (λ j l.
         let e : 2 + j ≡ suc (suc j) = omega arith in
         ap (copy_at os a table) e ∙ copy_at_is (suc (suc j)) (omega arith) (omega (arith, length-map ls file_of)))
 
-    names_many : length ls + 2 - 2 ≡ length (names_of os)
+    names_many : length os - 2 ≡ length (names_of os)
     names_many = omega (arith, names_length h p ls)
 
     -- the order that the code took may be taken
-    pub taken_is : (order : List ℕ) (t : Bool) → Taken os (length ls + 2) a table order t → t ≡ may_take (files_of os) (names_of os) order
+    pub taken_is : (order : List ℕ) (t : Bool) → Taken os a table order t → t ≡ may_take (files_of os) (names_of os) order
     unfolding may_take
     taken_is order t k =
         k.is
@@ -111,7 +111,7 @@ module _
     passed_it : prepare_verdict setting (types_verdict setting) os size ≡ passed
     passed_it = ap (prepare_verdict setting (types_verdict setting) os) (sym len) ∙ (sym made.met ∙ z)
 
-    module _ (policy : Policy) (words : ℕ) (order : List ℕ) (t : Bool) (k : Taken os (length ls + 2) a table order t) where
+    module _ (policy : Policy) (words : ℕ) (order : List ℕ) (t : Bool) (k : Taken os a table order t) where
       -- 35
       pub order_refused :
           t ≡ false → (report : List ℕ) → length report ≡ words → BoundOrdered setting os size policy words order a report (refused 35 0)
@@ -146,45 +146,41 @@ prepare_refused setting os size policy words order m a report e n k z la lr =
 
 -- whatever objects the set has
 module _
-    (setting : Setting) (os : List Input) (count : ℕ) (arena a table : List ℕ) (r : Verdict) (two : 2 ≤ count) (many : length os ≡ count)
+    (setting : Setting) (os : List Input) (arena a table : List ℕ) (r : Verdict) (two : 2 ≤ length os)
     (kept : length a ≡ length arena) (made : Prepared setting (types_verdict setting) os arena a table r) (z : r ≡ passed)
     (typed : (rtype : ℕ) → row_at table rtype ≡ setting.row rtype) (policy : Policy) (order : List ℕ) (t : Bool)
-    (k : Taken os count a table order t)
+    (k : Taken os a table order t)
   where
-    pub taken_length : t ≡ true → count ≤ 64 → length order ≤ 64
+    pub taken_length : t ≡ true → length os ≤ 64 → length order ≤ 64
     taken_length f few =
-        let is = (both_true (is_order (count - 2) order) _ (sym k.is ∙ f)).0 in
-        omega (arith, once_length (count - 2) order (order_once (count - 2) order is))
+        let is = (both_true (is_order (length os - 2) order) _ (sym k.is ∙ f)).0 in
+        omega (arith, once_length (length os - 2) order (order_once (length os - 2) order is))
 
     pub set_refused : t ≡ false → (report : List ℕ) → BoundOrdered setting os (length arena) policy (length report) order a report (refused 35 0)
-    set_refused f report = go os count many two made k
+    set_refused f report = go os two made k
       where
         go :
-            (xs : List Input) (n : ℕ) → length xs ≡ n → 2 ≤ n → Prepared setting (types_verdict setting) xs arena a table r → Taken xs n a table order t
+            (xs : List Input) → 2 ≤ length xs → Prepared setting (types_verdict setting) xs arena a table r → Taken xs a table order t
             → BoundOrdered setting xs (length arena) policy (length report) order a report (refused 35 0)
-        go [] n e l q y = absurd (omega arith)
-        go (h ∷ []) n e l q y = absurd (omega arith)
-        go (h ∷ (p ∷ ls)) n e l q y =
-            let c : n ≡ length ls + 2 = omega arith in
-            order_refused setting (length arena) table h p ls arena a r refl kept q z typed policy (length report) order t
-            (subst (λ (i : ℕ). Taken (h ∷ (p ∷ ls)) i a table order t) c y) f report refl
+        go [] l q y = absurd (omega arith)
+        go (h ∷ []) l q y = absurd (omega arith)
+        go (h ∷ (p ∷ ls)) l q y =
+            order_refused setting (length arena) table h p ls arena a r refl kept q z typed policy (length report) order t y f report refl
 
     pub set_bound :
         t ≡ true → (report : List ℕ) → report ≡ replicate (length report) 0
         → (a' report' : List ℕ) (m : Verdict) → RelocatedOr os table order a policy report a' report' m
         → BoundOrdered setting os (length arena) policy (length report) order a' report' m
-    set_bound f report zeros a' report' m g = go os count many two made k g
+    set_bound f report zeros a' report' m g = go os two made k g
       where
         go :
-            (xs : List Input) (n : ℕ) → length xs ≡ n → 2 ≤ n → Prepared setting (types_verdict setting) xs arena a table r → Taken xs n a table order t
+            (xs : List Input) → 2 ≤ length xs → Prepared setting (types_verdict setting) xs arena a table r → Taken xs a table order t
             → RelocatedOr xs table order a policy report a' report' m
             → BoundOrdered setting xs (length arena) policy (length report) order a' report' m
-        go [] n e l q y w = absurd (omega arith)
-        go (h ∷ []) n e l q y w = absurd (omega arith)
-        go (h ∷ (p ∷ ls)) n e l q y w =
-            let c : n ≡ length ls + 2 = omega arith in
-            order_bound setting (length arena) table h p ls arena a r refl kept q z typed policy (length report) order t
-            (subst (λ (i : ℕ). Taken (h ∷ (p ∷ ls)) i a table order t) c y) f report zeros a' report' m w
+        go [] l q y w = absurd (omega arith)
+        go (h ∷ []) l q y w = absurd (omega arith)
+        go (h ∷ (p ∷ ls)) l q y w =
+            order_bound setting (length arena) table h p ls arena a r refl kept q z typed policy (length report) order t y f report zeros a' report' m w
 
 -- ---- the objects of a sheet
 

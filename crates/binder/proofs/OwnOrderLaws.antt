@@ -1,9 +1,9 @@
 -- Orders that are handed in: what the loops over them have left to look at, and what an order that is one has. Assumes nothing.
-use Rattle.std.proofs.Common.{◌≡◌, ℕ, zero, suc, ◌+◌, ◌-◌, ◌<◌, ◌≤◌, Bool, true, false, eqb, List, [], ◌∷◌, ◌++◌, length, get_or, take, drop, sym, refl, ap, ◌∙◌, subst, ⊎_elim, true≢false, arith, length-append, drop_of_length-le, eq-eqb, ne_eqb, eqb-true}
+use Rattle.std.proofs.Common.{◌≡◌, ℕ, zero, suc, ◌+◌, ◌-◌, ◌<◌, ◌≤◌, Bool, true, false, eqb, List, [], ◌∷◌, ◌++◌, length, get_or, take, drop, sym, refl, ap, ◌∙◌, subst, ⊎_elim, true≢false, add-one, arith, length-append, drop_of_length-le, eq-eqb, ne_eqb, eqb-true}
 use native.Mathlib.Decide.{dec_lt}
 use lib.Seq.{split_at, get_or-append_seam}
-use Rattle.std.specs.Prelude.{IsTrue, ◌↔◌, cond}
-use Rattle.std.specs.List.{All, count_by}
+use Rattle.std.specs.Prelude.{IsTrue, ◌↔◌, cond, ◌&&◌, ◌||◌}
+use Rattle.std.specs.List.{All, count_by, list_all, list_any, range_with_len}
 use Rattle.std.proofs.lemmas.List.{take_at}
 use Rattle.std.proofs.lemmas.List.Recursion.{is_count_by}
 use Rattle.words.specs.Choice.{pick, both, either, every, some}
@@ -61,14 +61,6 @@ up_none : (k n : ℕ) → n ≤ k → up_from k (n - k) ≡ []
 up_none k n h = let e : n - k ≡ 0 = omega arith in ap (up_from k) e
 
 module _ (p : ℕ → Bool) (k n : ℕ) where
-  pub every_up : (t : Bool) → k < n → p k ≡ t → every p (up_from k (n - k)) ≡ both t (every p (up_from (k + 1) (n - (k + 1))))
-  unfolding every
-  every_up t h e = ap (every p) (up_next k n h) ∙ ap (λ (b : Bool). both b (every p (up_from (k + 1) (n - (k + 1))))) e
-
-  pub every_up_none : n ≤ k → every p (up_from k (n - k)) ≡ true
-  unfolding every
-  every_up_none h = ap (every p) (up_none k n h)
-
   pub some_up : (t : Bool) → k < n → p k ≡ t → some p (up_from k (n - k)) ≡ either t (some p (up_from (k + 1) (n - (k + 1))))
   unfolding some
   some_up t h e = ap (some p) (up_next k n h) ∙ ap (λ (b : Bool). either b (some p (up_from (k + 1) (n - (k + 1))))) e
@@ -77,21 +69,25 @@ module _ (p : ℕ → Bool) (k n : ℕ) where
   unfolding some
   some_up_none h = ap (some p) (up_none k n h)
 
--- ---- what is left of a table's entries
+-- ---- tests of each number, of some entry
 
-module _ (image : List ℕ) (at i n : ℕ) (p : Rela → Bool) where
-  pub some_entry :
-      (t : Bool) → i < n → p (rela_at image at i) ≡ t
-      → some p (relas_from image at i (n - i)) ≡ either t (some p (relas_from image at (i + 1) (n - (i + 1))))
-  unfolding some relas_from
-  some_entry t h e =
-      let s : n - i ≡ suc (n - (i + 1)) = omega arith in
-      ap (λ (m : ℕ). some p (relas_from image at i m)) s
-      ∙ ap (λ (b : Bool). either b (some p (relas_from image at (i + 1) (n - (i + 1))))) e
+pub every_range : (p : ℕ → Bool) (a n : ℕ) → list_all p (range_with_len a n) ≡ every p (up_from a n)
+unfolding every
+every_range p a zero = refl
+every_range p a (suc n) = go (p a) (ap (λ (k : ℕ). list_all p (range_with_len k n)) (add-one a) ∙ every_range p (suc a) n)
+  where
+    go : (b : Bool) {x y : Bool} → x ≡ y → (b && x) ≡ both b y
+    go true e = e
+    go false e = refl
 
-  pub no_entry : n ≤ i → some p (relas_from image at i (n - i)) ≡ false
-  unfolding some relas_from
-  no_entry h = let s : n - i ≡ 0 = omega arith in ap (λ (m : ℕ). some p (relas_from image at i m)) s
+pub some_range : (image : List ℕ) (at : ℕ) (p : Rela → Bool) (i n : ℕ) → list_any (λ j. p (rela_at image at j)) (range_with_len i n) ≡ some p (relas_from image at i n)
+unfolding some relas_from
+some_range image at p i zero = refl
+some_range image at p i (suc n) = go (p (rela_at image at i)) (some_range image at p (i + 1) n)
+  where
+    go : (b : Bool) {x y : Bool} → x ≡ y → (b || x) ≡ either b y
+    go true e = refl
+    go false e = e
 
 -- ---- the entries of an object whose record is read again
 

@@ -1,8 +1,12 @@
 -- Where only the program copies, and to places that are apart by its symbols' own sizes, no copy crosses an earlier one: the destinations lie in
 -- the claims, and the sources in other objects. Assumes nothing.
-use Rattle.std.proofs.Common.{◌≡◌, ℕ, zero, suc, ◌+◌, ◌<◌, ◌≤◌, min, max, Bool, true, false, not, eqb, ltb, leb, ◌⊎◌, List, [], ◌∷◌, ◌++◌, length, get_or, sym, refl, ap, ◌∙◌, subst, inl, inr, ⊎_elim, append_assoc, append-nil, arith, length-take, le-ltb, leb-true, Err, Ok, Result, Option, None, Some}
+use Rattle.std.proofs.Common.{◌≡◌, ℕ, zero, suc, ◌+◌, ◌<◌, ◌≤◌, min, max, Bool, true, false, not, eqb, eqb-true, ltb, leb, ◌⊎◌, List, [], ◌∷◌, ◌++◌, length, get_or, sym, refl, ap, ◌∙◌, subst, inl, inr, ⊎_elim, append-nil, arith, length-take, le-ltb, leb-true, Err, Ok, Result, Option, None, Some}
+use Rattle.std.specs.Option.{IfSome, IsSomeAnd}
+use Rattle.words.specs.Memory.{inside}
 use native.Mathlib.Decide.{dec_le}
-use borrow.Author.Tests.{eqb-false}
+use Rattle.std.specs.List.{filter_map, cons_option}
+use Rattle.std.specs.Option.{option_to_list}
+use Rattle.std.proofs.lemmas.List.Elements.{filter_map-append}
 use Rattle.words.specs.Choice.{pick, either, some}
 use Rattle.words.proofs.Choice.{both_true, both_false}
 use Rattle.model.specs.Symbols.{by_name}
@@ -21,19 +25,20 @@ use Rattle.object.specs.declared.hash_tables.Definition.{Definition}
 use Rattle.object.specs.declared.relocate.Rela.{Rela}
 use Rattle.sheet.specs.Sheet.{Input}
 use Rattle.scope.specs.Steps.Links.{link_at}
-use Rattle.scope.specs.declared.scope.Found.{Found}
-use Rattle.scope.specs.Steps.ScopeCode.{found}
+use Rattle.scope.specs.declared.scope.Hit.{Hit}
+use Rattle.scope.specs.Steps.ScopeCode.{hit_at}
 use Rattle.binder.specs.Setting.{Setting}
 use Rattle.binder.specs.Instance.{File, definition_of}
 use Rattle.binder.specs.Copies.{meets, crosses}
 use Rattle.binder.specs.Steps.ScopeModel.{scoped_of}
 use Rattle.binder.specs.Steps.Relocating.{image_in, turn_of, copy_fits, sought_for_copy, row_at}
-use Rattle.binder.specs.Steps.Crossing.{copies_row, empty_copy, copy_linked, copy_to, copy_checked, copy_seen, seen_of, one_copy, gather, EachApart, Quiet, tables_of, again_of, seen_at, entries_at, copies_among, claim_of, claims, claim_by, ClaimedOnce, EachClaim, EndsIn, NoCopies, PlainlyApart, ClaimsApart}
+use Rattle.binder.specs.Steps.Crossing.{copies_row, copy_linked, copy_to, copy_checked, copy_seen, seen_of, EachApart, Quiet, tables_of, again_of, seen_at, entries_at, copies_among, claim_of, claims, claim_by, ClaimedOnce, EachClaim, EndsIn, NoCopies, PlainlyApart, ClaimsApart}
 use Rattle.binder.specs.declared.turn.Turn.{Turn}
 use Rattle.binder.specs.declared.crossing.Copy.{Copy}
 use Rattle.binder.specs.declared.crossing.Claim.{Claim}
 use Rattle.binder.proofs.Steady.{set, LoadedSet, Steady}
 use Rattle.binder.proofs.SteadyLaws.{lies, apart, copy_searches}
+use Rattle.binder.proofs.ApartLaws.{cons_is}
 use Rattle.binder.proofs.ClaimLaws.{clash, is_inside, each_end}
 
 -- ---- only type 5 copies
@@ -67,7 +72,7 @@ only_5 table rtype z =
     refl
 
 module _ (table a : List ℕ) (t : Turn) (r : Record) where
-  not_copied : (e : Rela) (x : Row) → copies_row x ≡ false → copy_seen table a t r e x ≡ empty_copy
+  not_copied : (e : Rela) (x : Row) → copies_row x ≡ false → copy_seen table a t r e x ≡ None
   unfolding copy_seen
   not_copied e ignored h = refl
   not_copied e passed_over h = refl
@@ -77,11 +82,11 @@ module _ (table a : List ℕ) (t : Turn) (r : Record) where
   not_copied e copies h = clash h
 
   -- no COPY entries, no copies
-  no_copies : (es : List Rela) → NoCopies es → gather (seen_of table a t r) es ≡ []
-  unfolding NoCopies gather one_copy
+  no_copies : (es : List Rela) → NoCopies es → filter_map (seen_of table a t r) es ≡ []
+  unfolding NoCopies
   no_copies [] n = refl
   no_copies (e ∷ es) n =
-      ap (λ (c : Copy). one_copy c ++ gather (seen_of table a t r) es) (not_copied e (row_at table e.rtype) (only_5 table e.rtype n.0))
+      ap (λ (c : Option Copy). cons_option c (filter_map (seen_of table a t r) es)) (not_copied e (row_at table e.rtype) (only_5 table e.rtype n.0))
       ∙ no_copies es n.1
 
 -- ---- ranges without a byte in common
@@ -101,106 +106,91 @@ either_not : (s t : Bool) → either s t ≡ false → (s ≡ false) × (t ≡ f
 either_not true t e = clash e
 either_not false t e = (refl, e)
 
-positive : (n : ℕ) → (n ≡ 0 → ⊥) → 0 < n
-positive zero h = absurd (h refl)
+positive : (n : ℕ) → eqb n 0 ≡ false → 0 < n
+positive zero h = cc
 positive (suc n) h = omega arith
 
 -- ---- copies whose destinations lie in claims
 
 -- the copy goes into the claim, in an object at `off` with that span, and comes from outside the object
 record Within (off span : ℕ) (c : Claim) (q : Copy) : Type 0 where
+  pub some : 0 < q.size
   pub goes : q.to ≡ off + c.place
   pub less : q.size ≤ c.size
   pub away : (q.source + q.size ≤ off) ⊎ (off + span ≤ q.source)
 
-module _ (off span end : ℕ) (short : end ≤ span) (f : Rela → Copy) (g : Rela → Claim)
-    (within : (e : Rela) → ((f e).size ≡ 0 → ⊥) → Within off span (g e) (f e)) where
-  abbrev Claims : Rela → Type 0
-  Claims e = (f e).size ≡ 0 → ⊥
-
-  -- it ends inside the object
-  in_end : (e : Rela) → Claims e → EndsIn end (g e) → (g e).place + (g e).size ≤ end
-  in_end e s i =
-      let p = positive (f e).size s in
-      let w = within e s in
-      i (λ z. absurd (omega (arith, w.less)))
-
-  module _ (e d : Rela) (se : Claims e) (sd : Claims d) (ee : EndsIn end (g e)) (ed : EndsIn end (g d))
-      (once : (b : ℕ) → b < end → claims (g e) b ≡ true → claims (g d) b ≡ false) where
-    abbrev p : ℕ
-    p = (g e).place
-
-    abbrev q : ℕ
-    q = (g d).place
-
-    apart_claims : (p + (f e).size ≤ q) ⊎ (q + (f d).size ≤ p)
-    apart_claims = go (dec_le (p + (f e).size) q) (dec_le (q + (f d).size) p)
+module _ (off span end : ℕ) (short : end ≤ span) (f : Rela → Option Copy) (g : Rela → Option Claim)
+    (within : (e : Rela) (c : Copy) → f e ≡ Some c → IsSomeAnd (g e) (λ k. Within off span k c)) where
+  -- two claims that end inside the object and have no byte in common
+  module _ (c x : Copy) (k j : Claim) (wc : Within off span k c) (wx : Within off span j x) (ek : EndsIn end k) (ej : EndsIn end j)
+      (once : (b : ℕ) → b < end → inside k.place k.size b ≡ true → inside j.place j.size b ≡ false) where
+    apart_claims : (k.place + c.size ≤ j.place) ⊎ (j.place + x.size ≤ k.place)
+    apart_claims = go (dec_le (k.place + c.size) j.place) (dec_le (j.place + x.size) k.place)
       where
-        go : Dec (p + (f e).size ≤ q) → Dec (q + (f d).size ≤ p) → (p + (f e).size ≤ q) ⊎ (q + (f d).size ≤ p)
-        go (yes x) y = inl x
-        go (no x) (yes y) = inr y
-        go (no x) (no y) =
-            let we = within e se in
-            let wd = within d sd in
-            let pe = positive (f e).size se in
-            let pd = positive (f d).size sd in
-            let b : ℕ = max p q in
-            let i = is_inside p (g e).size b (omega arith) (omega (arith, we.less)) in
-            let j = is_inside q (g d).size b (omega arith) (omega (arith, wd.less)) in
-            clash (sym j ∙ once b (omega (arith, we.less, in_end e se ee)) i)
+        go :
+            Dec (k.place + c.size ≤ j.place) → Dec (j.place + x.size ≤ k.place)
+            → (k.place + c.size ≤ j.place) ⊎ (j.place + x.size ≤ k.place)
+        go (yes l) y = inl l
+        go (no l) (yes y) = inr y
+        go (no l) (no y) =
+            let b : ℕ = max k.place j.place in
+            let i = is_inside k.place k.size b (omega arith) (omega (arith, wc.less, wc.some)) in
+            let h = is_inside j.place j.size b (omega arith) (omega (arith, wx.less, wx.some)) in
+            clash (sym h ∙ once b (omega (arith, wc.less, wc.some, ek)) i)
 
-    pair_apart : crosses (f e) (f d) ≡ false
+    pair_apart : crosses c x ≡ false
     pair_apart =
-        let we = within e se in
-        let wd = within d sd in
-        let le = in_end e se ee in
-        let ld = in_end d sd ed in
-        crosses_not (f e) (f d)
-        (meets_not (f e).to (f e).size (f d).to (f d).size
-        (⊎_elim (λ x. inl (omega (arith, we.goes, wd.goes))) (λ x. inr (omega (arith, we.goes, wd.goes))) apart_claims))
-        (meets_not (f e).source (f e).size (f d).to (f d).size
-        (⊎_elim (λ x. inl (omega (arith, wd.goes))) (λ x. inr (omega (arith, wd.goes, wd.less))) we.away))
-        (meets_not (f e).to (f e).size (f d).source (f d).size
-        (⊎_elim (λ x. inr (omega (arith, we.goes))) (λ x. inl (omega (arith, we.goes, we.less))) wd.away))
+        crosses_not c x
+        (meets_not c.to c.size x.to x.size
+        (⊎_elim (λ l. inl (omega (arith, wc.goes, wx.goes))) (λ l. inr (omega (arith, wc.goes, wx.goes))) apart_claims))
+        (meets_not c.source c.size x.to x.size
+        (⊎_elim (λ l. inl (omega (arith, wx.goes))) (λ l. inr (omega (arith, wx.goes, wx.less, ej))) wc.away))
+        (meets_not c.to c.size x.source x.size
+        (⊎_elim (λ l. inr (omega (arith, wc.goes))) (λ l. inl (omega (arith, wc.goes, wc.less, ek))) wx.away))
+
+  pair_claims :
+      (c x : Copy) (k j : Option Claim) → IsSomeAnd k (λ k. Within off span k c) → IsSomeAnd j (λ j. Within off span j x)
+      → IfSome k (EndsIn end) → IfSome j (EndsIn end) → ((b : ℕ) → b < end → claims k b ≡ true → claims j b ≡ false) → crosses c x ≡ false
+  pair_claims c x None j wc wx ek ej once = absurd wc
+  pair_claims c x (Some k) None wc wx ek ej once = absurd wx
+  pair_claims c x (Some k) (Some j) wc wx ek ej once = pair_apart c x k j wc wx ek ej once
 
   one_apart :
-      (e : Rela) → Claims e → EndsIn end (g e) → (pre : List Rela) → EachClaim g (EndsIn end) pre
-      → ((b : ℕ) → b < end → claims (g e) b ≡ true → some (λ d. claims (g d) b) pre ≡ false) → some (crosses (f e)) (gather f pre) ≡ false
-  unfolding some gather one_copy EachClaim
-  one_apart e se ee [] i once = refl
-  one_apart e se ee (d ∷ ds) i once =
-      go (eqb (f d).size 0) refl
-      (one_apart e se ee ds i.1 (λ b l h. (either_not (claims (g d) b) (some (λ d. claims (g d) b) ds) (once b l h)).1))
+      (e : Rela) (c : Copy) → f e ≡ Some c → IfSome (g e) (EndsIn end) → (pre : List Rela) → EachClaim g (EndsIn end) pre
+      → ((b : ℕ) → b < end → claims (g e) b ≡ true → some (λ d. claims (g d) b) pre ≡ false) → some (crosses c) (filter_map f pre) ≡ false
+  unfolding some EachClaim
+  one_apart e c is ee [] i once = refl
+  one_apart e c is ee (d ∷ ds) i once =
+      go (f d) refl
+      (one_apart e c is ee ds i.1 (λ b l h. (either_not (claims (g d) b) (some (λ d. claims (g d) b) ds) (once b l h)).1))
     where
       go :
-          (t : Bool) → eqb (f d).size 0 ≡ t → some (crosses (f e)) (gather f ds) ≡ false
-          → some (crosses (f e)) (pick t [] (f d ∷ []) ++ gather f ds) ≡ false
-      go true z rest = rest
-      go false z rest =
-          rw (pair_apart e d se (eqb-false (f d).size 0 z) ee i.0
+          (t : Option Copy) → f d ≡ t → some (crosses c) (filter_map f ds) ≡ false
+          → some (crosses c) (cons_option t (filter_map f ds)) ≡ false
+      go None z rest = rest
+      go (Some x) z rest =
+          rw (pair_claims c x (g e) (g d) (within e c is) (within d x z) ee i.0
           (λ b l h. (either_not (claims (g d) b) (some (λ d. claims (g d) b) ds) (once b l h)).0))
           rest
 
-  gather_end : (pre : List Rela) (e : Rela) → gather f (pre ++ (e ∷ [])) ≡ gather f pre ++ one_copy (f e)
-  unfolding gather
-  gather_end [] e = append-nil (one_copy (f e))
-  gather_end (x ∷ pre) e = ap (λ (cs : List Copy). one_copy (f x) ++ cs) (gather_end pre e) ∙ sym (append_assoc (one_copy (f x)) (gather f pre) (one_copy (f e)))
+  gather_end : (pre : List Rela) (e : Rela) → filter_map f (pre ++ (e ∷ [])) ≡ filter_map f pre ++ option_to_list (f e)
+  gather_end pre e = filter_map-append f pre (e ∷ []) ∙ ap (λ (cs : List Copy). filter_map f pre ++ cs) (cons_is (f e) [] ∙ append-nil (option_to_list (f e)))
 
   all_apart :
       (pre es : List Rela) → EachClaim g (EndsIn end) pre → EachClaim g (EndsIn end) es → ClaimedOnce g 0 end pre es
-      → Quiet (gather f pre) (gather f es)
-  unfolding EachApart gather one_copy EachClaim ClaimedOnce
+      → Quiet (filter_map f pre) (filter_map f es)
+  unfolding EachApart EachClaim ClaimedOnce
   all_apart pre [] i j once = Prim.tt {0}
   all_apart pre (e ∷ es) i j once =
-      go (eqb (f e).size 0) refl
-      (subst (λ (cs : List Copy). Quiet cs (gather f es)) (gather_end pre e)
+      go (f e) refl
+      (subst (λ (cs : List Copy). Quiet cs (filter_map f es)) (gather_end pre e)
       (all_apart (pre ++ (e ∷ [])) es (each_end g (EndsIn end) pre e i j.0) j.1 once.1))
     where
       go :
-          (t : Bool) → eqb (f e).size 0 ≡ t → Quiet (gather f pre ++ pick t [] (f e ∷ [])) (gather f es)
-          → Quiet (gather f pre) (pick t [] (f e ∷ []) ++ gather f es)
-      go true z rest = subst (λ (cs : List Copy). Quiet cs (gather f es)) (append-nil (gather f pre)) rest
-      go false z rest = (one_apart e (eqb-false (f e).size 0 z) j.0 pre i (λ b l h. once.0 b (omega arith) l h), rest)
+          (t : Option Copy) → f e ≡ t → Quiet (filter_map f pre ++ option_to_list t) (filter_map f es)
+          → Quiet (filter_map f pre) (cons_option t (filter_map f es))
+      go None z rest = subst (λ (cs : List Copy). Quiet cs (filter_map f es)) (append-nil (filter_map f pre)) rest
+      go (Some c) z rest = (one_apart e c z j.0 pre i (λ b l h. once.0 b (omega arith) l h), rest)
 
 -- ---- the symbol of an entry
 
@@ -236,7 +226,7 @@ module _ (setting : Setting) (size : ℕ) (table : List ℕ) (h pr : File) (fs :
   In1 = Within (link_at table 1).offset (link_at table 1).span
 
   -- COPY is answered by an object other than the program
-  found_range : (name : List ℕ) (k : ℕ) (d : Definition) (v : ℕ) → sought_for_copy table a name ≡ found k d v → (k < count S) × (k ≡ 1 → ⊥)
+  found_range : (name : List ℕ) (k : ℕ) (d : Definition) (v : ℕ) → sought_for_copy table a name ≡ hit_at k d v → (k < count S) × (k ≡ 1 → ⊥)
   unfolding scoped_of
   found_range name k d v e =
       resolve_copy_range S (by_name name) k (definition_of d) v (sym (copy_searches setting size table h pr fs L a steady name) ∙ ap scoped_of e)
@@ -250,68 +240,81 @@ module _ (setting : Setting) (size : ℕ) (table : List ℕ) (h pr : File) (fs :
       (apart setting size table h pr fs L k 1 l (omega arith) ne)
 
   within_at :
-      (p : ℕ) (y : Symbol) (k : ℕ) → k < count S → (k ≡ 1 → ⊥) → (d : Definition)
-      → ((copy_linked (length a) t p (link_at table k) d (min y.size d.size)).size ≡ 0 → ⊥)
-      → In1 (record { place = p; size = y.size }) (copy_linked (length a) t p (link_at table k) d (min y.size d.size))
+      (p : ℕ) (y : Symbol) (k : ℕ) → k < count S → (k ≡ 1 → ⊥) → (d : Definition) (q : Copy)
+      → copy_linked (length a) t p (link_at table k) d (min y.size d.size) ≡ Some q → In1 (record { place = p; size = y.size }) q
   unfolding copy_linked copy_fits
-  within_at p y k l ne d = go (copy_fits (length a) t p (link_at table k) d n) refl
+  within_at p y k l ne d q = go (eqb n 0) refl (copy_fits (length a) t p (link_at table k) d n) refl
     where
       n : ℕ
       n = min y.size d.size
 
+      c : Copy
+      c = record { to = t.offset + p; source = (link_at table k).offset + d.value; size = n }
+
       go :
-          (b : Bool) → copy_fits (length a) t p (link_at table k) d n ≡ b
-          → ((pick b (record { to = t.offset + p; source = (link_at table k).offset + d.value; size = n }) empty_copy).size ≡ 0 → ⊥)
-          → In1 (record { place = p; size = y.size }) (pick b (record { to = t.offset + p; source = (link_at table k).offset + d.value; size = n }) empty_copy)
-      go false z s = absurd (s refl)
-      go true z s =
+          (b : Bool) → eqb n 0 ≡ b → (f : Bool) → copy_fits (length a) t p (link_at table k) d n ≡ f
+          → pick b None (pick f (Some c) None) ≡ Some q → In1 (record { place = p; size = y.size }) q
+      go true s f z e = cc
+      go false s false z e = cc
+      go false s true z e =
+          let is : c ≡ q = cc in
           let x = both_true (not d.absolute) _ z in
           let i = leb-true (d.value + n) (link_at table k).span (both_true (leb (d.value + n) (link_at table k).span) _ x.1).0 in
-          record {
+          subst (In1 (record { place = p; size = y.size })) is
+          (record {
+            some = positive n s;
             goes = refl;
             less = omega arith;
             away = ⊎_elim (λ u. inl (omega arith)) (λ u. inr (omega arith)) (outside k l ne);
-          }
+          })
 
   within_to :
-      (e : Rela) (y : Symbol) (s : Option Found) → ((k : ℕ) (d : Definition) (v : ℕ) → s ≡ found k d v → (k < count S) × (k ≡ 1 → ⊥))
-      → ((copy_to table (length a) t e y s).size ≡ 0 → ⊥) → In1 (record { place = e.place; size = y.size }) (copy_to table (length a) t e y s)
+      (e : Rela) (y : Symbol) (s : Option Hit) → ((k : ℕ) (d : Definition) (v : ℕ) → s ≡ hit_at k d v → (k < count S) × (k ≡ 1 → ⊥))
+      → (q : Copy) → copy_to table (length a) t e y s ≡ Some q → In1 (record { place = e.place; size = y.size }) q
   unfolding copy_to
-  within_to e y None range some = absurd (some refl)
-  within_to e y (Some hit) range some = let b = range hit.object hit.definition hit.address refl in within_at e.place y hit.object b.0 b.1 hit.definition some
+  within_to e y None range q some = cc
+  within_to e y (Some hit) range q some = let b = range hit.object hit.definition hit.address refl in within_at e.place y hit.object b.0 b.1 hit.definition q some
 
   within_checked :
-      (e : Rela) (c : Result Symbol Refusal) → checked_symbol image r e.symbol ≡ c → ((copy_checked table a t r e c).size ≡ 0 → ⊥)
-      → In1 (record { place = e.place; size = (symbol_at image r.symbols e.symbol).size }) (copy_checked table a t r e c)
+      (e : Rela) (c : Result Symbol Refusal) → checked_symbol image r e.symbol ≡ c → (q : Copy) → copy_checked table a t r e c ≡ Some q
+      → In1 (record { place = e.place; size = (symbol_at image r.symbols e.symbol).size }) q
   unfolding copy_checked
-  within_checked e (Err n) is some = absurd (some refl)
-  within_checked e (Ok y) is some =
-      subst (λ (x : Symbol). In1 (record { place = e.place; size = x.size }) (copy_to table (length a) t e y (sought_for_copy table a (name_of image r y))))
-      (checked_is image r e.symbol y is)
-      (within_to e y (sought_for_copy table a (name_of image r y)) (found_range (name_of image r y)) some)
+  within_checked e (Err n) is q some = cc
+  within_checked e (Ok y) is q some =
+      subst (λ (x : Symbol). In1 (record { place = e.place; size = x.size }) q) (checked_is image r e.symbol y is)
+      (within_to e y (sought_for_copy table a (name_of image r y)) (found_range (name_of image r y)) q some)
 
   within_row :
-      (e : Rela) (x : Row) → ((copy_seen table a t r e x).size ≡ 0 → ⊥)
-      → In1 (record { place = e.place; size = (symbol_at image r.symbols e.symbol).size }) (copy_seen table a t r e x)
+      (e : Rela) (x : Row) (q : Copy) → copy_seen table a t r e x ≡ Some q
+      → In1 (record { place = e.place; size = (symbol_at image r.symbols e.symbol).size }) q
   unfolding copy_seen
-  within_row e ignored some = absurd (some refl)
-  within_row e passed_over some = absurd (some refl)
-  within_row e turned_away some = absurd (some refl)
-  within_row e marked_refuse some = absurd (some refl)
-  within_row e (writes sought f) some = absurd (some refl)
-  within_row e copies some = within_checked e (checked_symbol image r e.symbol) refl some
+  within_row e ignored q some = cc
+  within_row e passed_over q some = cc
+  within_row e turned_away q some = cc
+  within_row e marked_refuse q some = cc
+  within_row e (writes sought f) q some = cc
+  within_row e copies q some = within_checked e (checked_symbol image r e.symbol) refl q some
 
   -- the program's copies lie in its claims
-  within_claims : (e : Rela) → ((seen_at table os a 1 e).size ≡ 0 → ⊥) → In1 (claim_by image (tables_of r) e) (seen_at table os a 1 e)
+  within_claims : (e : Rela) (q : Copy) → seen_at table os a 1 e ≡ Some q → IsSomeAnd (claim_by image (tables_of r) e) (λ c. In1 c q)
   unfolding claim_of
-  within_claims e some = go (eqb e.rtype 5) refl
+  within_claims e q some = go (eqb e.rtype 5) refl (eqb own 0) refl
     where
-      go : (b : Bool) → eqb e.rtype 5 ≡ b → In1 (claim_of image r.symbols e) (seen_at table os a 1 e)
-      go true z = rw z (within_row e (row_at table e.rtype) some)
-      go false z = absurd (some (ap (λ (c : Copy). c.size) (not_copied table a t r e (row_at table e.rtype) (only_5 table e.rtype z))))
+      own : ℕ
+      own = (symbol_at image r.symbols e.symbol).size
 
-  program_apart : ClaimsApart image (tables_of r) → Quiet [] (gather (seen_at table os a 1) (entries_at table os a 1))
-  unfolding gather EachClaim
+      go :
+          (b : Bool) → eqb e.rtype 5 ≡ b → (z : Bool) → eqb own 0 ≡ z
+          → IsSomeAnd (pick b (pick z None (Some (record { place = e.place; size = own }))) None) (λ c. In1 c q)
+      go false i z j = let n = not_copied table a t r e (row_at table e.rtype) (only_5 table e.rtype i) in cc
+      go true i true j =
+          let w = within_row e (row_at table e.rtype) q some in
+          let n : own ≡ 0 = eqb-true own 0 j in
+          absurd (omega (arith, w.some, w.less, n))
+      go true i false j = within_row e (row_at table e.rtype) q some
+
+  program_apart : ClaimsApart image (tables_of r) → Quiet [] (filter_map (seen_at table os a 1) (entries_at table os a 1))
+  unfolding EachClaim
   program_apart c =
       all_apart (link_at table 1).offset (link_at table 1).span (length image) (simp length-take (omega arith)) (seen_at table os a 1)
       (claim_by image (tables_of r)) within_claims [] (entries_at table os a 1) (Prim.tt {0}) c.ends c.once
@@ -337,9 +340,9 @@ module _ (setting : Setting) (size : ℕ) (table : List ℕ) (h pr : File) (fs :
       again i l (inr x) = inr (omega (arith, x.0), x.1, x.2)
 
       last :
-          (js : List ℕ) → length js ≡ 0 → k ≡ 1 → Quiet [] (gather (seen_at table os a 1) (entries_at table os a 1))
-          → Quiet [] (gather (seen_at table os a k) (entries_at table os a k) ++ copies_among table os a js)
+          (js : List ℕ) → length js ≡ 0 → k ≡ 1 → Quiet [] (filter_map (seen_at table os a 1) (entries_at table os a 1))
+          → Quiet [] (filter_map (seen_at table os a k) (entries_at table os a k) ++ copies_among table os a js)
       last [] z e q =
-          subst (Quiet []) (sym (append-nil (gather (seen_at table os a k) (entries_at table os a k))))
-          (subst (λ (j : ℕ). Quiet [] (gather (seen_at table os a j) (entries_at table os a j))) (sym e) q)
+          subst (Quiet []) (sym (append-nil (filter_map (seen_at table os a k) (entries_at table os a k))))
+          (subst (λ (j : ℕ). Quiet [] (filter_map (seen_at table os a j) (entries_at table os a j))) (sym e) q)
       last (j ∷ js) z e q = absurd (omega arith)

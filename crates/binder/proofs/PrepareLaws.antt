@@ -9,8 +9,10 @@ use Rattle.words.specs.Memory.{Mem, In, mem, write, patch}
 use Rattle.words.proofs.Memory.{Out, in_or_out, write_in, write_out}
 use Rattle.words.proofs.Choice.{both_true}
 use Rattle.words.proofs.Slices.{put_tail, mem_past, mem_patch, length_patch}
-use Rattle.std.specs.Prelude.{Result, Ok, Err}
-use Rattle.words.specs.Refusal.{number_of}
+use Rattle.std.specs.Prelude.{Result, Ok, Err, MatchResult}
+use Rattle.std.specs.Result.{result_unwrap_or, is_ok}
+use mathlib.Core.Bool.{false≢true}
+use Rattle.words.specs.Refusal.{refusal_number}
 use Rattle.words.specs.declared.refusal.Refusal.{Refusal}
 use Rattle.words.specs.declared.refusal.Refusal.TheVariants as refusals
 use Rattle.object.proofs.RefusalLaws.{number_some}
@@ -35,6 +37,17 @@ use Rattle.scope.specs.declared.links.Link.{Link}
 use Rattle.binder.proofs.OutcomeLaws.{refused_not, first_passed, unless_passed}
 use Rattle.binder.proofs.LoadsSame.{loads_same}
 use Rattle.binder.proofs.OffsetLaws.{offset_after}
+
+-- ---- what the two ends of a `?` behind `map_err` tell
+
+pub ok_mapped : {A E : Type 0} (F : Type 0) (r : Result A E) {y : A} → MatchResult r (λ x. ◌≡◌ {A = Result A F} (Ok y) (Ok x)) (λ e. ⊥) → r ≡ Ok y
+ok_mapped F (Ok x) {y} m = ap (λ q. Ok (result_unwrap_or q y)) (sym m)
+ok_mapped F (Err e) {y} m = absurd m
+
+pub err_mapped :
+    {A E : Type 0} (r : Result A E) (No : A → Type 0) (Told : E → Type 0) → MatchResult r No Told → false ≡ is_ok r → (e : E) × (r ≡ Err e) × Told e
+err_mapped (Ok x) No Told m z = absurd (false≢true z)
+err_mapped (Err e) No Told m z = (e, refl, m)
 
 -- ---- one object
 
@@ -64,7 +77,7 @@ part_length a off = simp (length-take, length-drop) (omega arith)
 -- an object loaded into the part of the arena from `off` on
 module _ (host : Bool) (file : List ℕ) (off : ℕ) (a ys : List ℕ) where
   -- refused
-  pub refused_at : (e : Refusal) → LoadedBy host file (take (length a - off) (drop off a)) ys (Err e) → number_of e ≡ object_refusal host (length a - off) file
+  pub refused_at : (e : Refusal) → LoadedBy host file (take (length a - off) (drop off a)) ys (Err e) → refusal_number e ≡ object_refusal host (length a - off) file
   refused_at e h = h.refusal ∙ ap (λ (n : ℕ). object_refusal host n file) (part_length a off)
 
   pub linked_at :
@@ -101,7 +114,7 @@ gapped_length a free off = length_patch a free (off - free) (λ _. 0)
 
 module _ (setting : Setting) (f : File) (free : ℕ) (a : List ℕ) where
   -- a refusal by the headers
-  pub next_headers : (e : Refusal) → number_of e ≡ file_refusal f.host f.bytes → (after : List ℕ) → LoadedNext setting f free a after (Err e)
+  pub next_headers : (e : Refusal) → refusal_number e ≡ file_refusal f.host f.bytes → (after : List ℕ) → LoadedNext setting f free a after (Err e)
   next_headers e h after = h ∙ sym (load_headers f.host f.bytes (length a - offset_of setting f free) (λ z. number_some e (h ∙ z)))
 
   module _ (c : Placed) (k : Checked f.host f.bytes c) where
@@ -239,10 +252,10 @@ module _ (setting : Setting) (os : List Input) (a₀ a table : List ℕ) (off k 
         ∙ ap (λ (f : File). f ∷ drop (suc k) (files_of os)) (file_at os k l)
 
     module _ (a' : List ℕ) (p : Result Link Refusal) (r : LoadedNext setting file off a a' p) where
-      pub load_fail : (e : Refusal) → p ≡ Err e → (n : ℕ) → n ≡ number_of e → (t : List ℕ) → LoadedFiles setting (files_of os) a₀ a' t (refused n k)
+      pub load_fail : (e : Refusal) → p ≡ Err e → (n : ℕ) → n ≡ refusal_number e → (t : List ℕ) → LoadedFiles setting (files_of os) a₀ a' t (refused n k)
       unfolding load_from verdict
       load_fail e is n same t =
-          let g : number_of e ≡ object_refusal (eqb k 0) (length a - next) (get_or os k no_input).file =
+          let g : refusal_number e ≡ object_refusal (eqb k 0) (length a - next) (get_or os k no_input).file =
           subst (λ (x : Result Link Refusal). LoadedNext setting file off a a' x) is r in
           record {
             met = sym (h.met ∙ rw (left, ← h.same, ← g, ← same, ne_eqb n 0 (λ z. number_some e (sym same ∙ z))));

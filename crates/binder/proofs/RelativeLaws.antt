@@ -13,6 +13,7 @@ use Rattle.object.specs.TableBytes.{in_writable}
 use Rattle.object.specs.Steps.WritableRange.{WritableRange}
 use Rattle.object.specs.declared.relocate.Action.TheVariants.{Relative}
 use Rattle.object.specs.declared.relocate.Rela.{Rela}
+use Rattle.binder.specs.Verdict.{passed}
 use Rattle.binder.specs.declared.report.Progress.{Progress}
 use Rattle.binder.specs.declared.turn.Turn.{Turn}
 use Rattle.binder.specs.Steps.Relocating.{left, image_in, part_of, with_part, field_of, fixed_of, run_action, row_at}
@@ -97,7 +98,7 @@ module _ (table : List ℕ) (applied : row_at table 8 ≡ row_by Relative) (t : 
 
       ran :
           (r : Record) (number : ℕ) (p : Progress) (report : List ℕ) → WritableRange r.segments low high
-          → left p (with_part t a y) report ≡ run_action table t r number (rela_at (image_in a t) at i) (row_by Relative) p a report
+          → left passed p (with_part t a y) report ≡ run_action table t r number (rela_at (image_in a t) at i) (row_by Relative) p a report
       unfolding run_action fixed_of field_of
       ran r number p report wr =
           let w : in_writable r.segments (rela_at (part_of t a) at i).place 8 ≡ true
@@ -106,12 +107,12 @@ module _ (table : List ℕ) (applied : row_at table 8 ≡ row_by Relative) (t : 
 
       relative_turn :
           (start : ℕ) (a₀ : List ℕ) → EntriesPassed table t at n low high start a₀ i a → EntriesPassed table t at n low high start a₀ (i + 1) (with_part t a y)
-      relative_turn start a₀ passed r first p report wr fine =
+      relative_turn start a₀ before r first p report wr =
           let b = with_part t a y in
-          let so_far = passed r first p report wr fine in
+          let so_far = before r first p report wr in
           let run = ran r ((first + i) % 2 ^ 32) p report wr in (
-            entry_goes table t r at first n i p a report {b = b} {noted = report} some refl acts refl run so_far.0 (fine (omega (arith, one.below))),
-            kept_then t r a₀ a b so_far.1 (entry_kept t r table ((first + i) % 2 ^ 32) (rela_at (image_in a t) at i) p a report (row_by Relative) p b report run),
+            entry_goes table t r at first n i p a report {met = passed} {b = b} {noted = report} some refl acts refl run so_far.0 refl,
+            kept_then t r a₀ a b so_far.1 (entry_kept t r table ((first + i) % 2 ^ 32) (rela_at (image_in a t) at i) p a report (row_by Relative) passed p b report run),
           )
 
   -- `m` of them from entry `i` on
@@ -123,7 +124,7 @@ module _ (table : List ℕ) (applied : row_at table 8 ≡ row_by Relative) (t : 
     run_passed zero y few none =
         let same : with_part t a y ≡ a = ap (with_part t a) none ∙ with_same t a in
         let z : i + 0 ≡ i = omega arith in
-        rw (same, z) (λ r first p report wr fine. (refl, kept_none t r a))
+        rw (same, z) (λ r first p report wr. (refl, kept_none t r a))
     run_passed (suc m) y few (z, done, one) =
         let e : i + suc m ≡ i + m + 1 = omega arith in
         let step : RelativeWritten t.base at low high (i + m) (part_of t (with_part t a z)) y = rw (part_with t a fits z) one in

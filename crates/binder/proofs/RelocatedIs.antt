@@ -16,7 +16,7 @@ use Rattle.model.proofs.Orders.{times_tail}
 use Rattle.sheet.specs.Sheet.{Input, no_input}
 use Rattle.binder.specs.Instance.{File, file_image, file_record, named_words, relas_of}
 use Rattle.binder.specs.Setting.{Setting}
-use Rattle.binder.specs.Verdict.{passed, first, verdict, no_file, words_verdict}
+use Rattle.binder.specs.Verdict.{Verdict, passed, first, no_file, words_verdict}
 use Rattle.binder.specs.Steps.PlainVerdict.{plain_entries, plain_object, plain_order}
 use Rattle.binder.specs.Report.{object_words, order_words, has_undefined, first_undefined}
 use Rattle.binder.specs.Steps.Relocating.{left, started, image_in, turn_of, again_refusal, run_at, run_order, run_until}
@@ -27,9 +27,10 @@ use Rattle.binder.proofs.ObjectCount.{few_files}
 use Rattle.binder.proofs.Steady.{files, set, file_at, LoadedSet, PlacedAt, Steady}
 use Rattle.binder.proofs.SteadyLaws.{starts, placed_steady, again}
 use Rattle.binder.proofs.ReportFill.{Going, fill_none, earlier, earlier_none, earlier_first, mark_first, going_length}
-use Rattle.binder.proofs.Runs.{Ran, verdict_none, ran_passed, ran_weaker, ran_then}
+use Rattle.binder.proofs.Runs.{Ran, ran_passed, ran_weaker, ran_then}
 use Rattle.binder.proofs.ObjectIs.{Turned, turn_ran, until_ran}
-use Rattle.binder.proofs.TableIs.{relas_length, verdicts_append}
+use Rattle.binder.proofs.ClaimLaws.{relas_length}
+use Rattle.binder.proofs.TableIs.{verdicts_append}
 
 -- ---- each object has one turn
 
@@ -134,8 +135,8 @@ module _ (setting : Setting) (size : ℕ) (table : List ℕ) (h pr : File) (fs :
   fl = files setting size table h pr fs
 
   -- what is left of an order whose objects were all relocated, or one was refused
-  pub record Ended (order : List ℕ) (n : ℕ) (p' : Progress) (a' report' : List ℕ) : Type 0 where
-    pub verdict_is : verdict p'.refusal p'.object ≡ plain_order setting.row S fl order
+  pub record Ended (order : List ℕ) (n : ℕ) (met : Verdict) (p' : Progress) (a' report' : List ℕ) : Type 0 where
+    pub verdict_is : met ≡ plain_order setting.row S fl order
     pub bound_is :
         plain_order setting.row S fl order ≡ passed
         → (mem a' ≡ bound S order) × (length a' ≡ size) × Going (order_words setting.row S fl order) (first_undefined setting.row S fl order) n p' report'
@@ -186,10 +187,10 @@ module _ (setting : Setting) (size : ℕ) (table : List ℕ) (h pr : File) (fs :
         (ks more : List ℕ) → Turns (count S) (ks ++ more) → (ws : List ℕ) (u : ℕ) (m : Mem) (p : Progress) (a report : List ℕ)
         → Before (ks ++ more) ws u m p a report
         → Ran size n (plain_order setting.row S fl ks) (Before more (ws ++ order_words setting.row S fl ks) (earlier u (first_undefined setting.row S fl ks)) (run S ks m))
-        (run_order table os ks (left p a report))
+        (run_order table os ks p a report)
     unfolding plain_order order_words first_undefined run run_order
     order_ran [] more o ws u m p a report b =
-        ran_passed size n passed (Before more (ws ++ []) (earlier u 0) m) p a report refl b.going.refusal b.steady.size_is
+        ran_passed size n passed (Before more (ws ++ []) (earlier u 0) m) p a report refl b.steady.size_is
         (going_length ws u n p report b.going)
         record { going = rw (append-nil ws, earlier_none u) b.going; memory = b.memory; steady = b.steady; rest = b.rest }
     order_ran (k ∷ ks) more o ws u m p a report b =
@@ -210,12 +211,11 @@ module _ (setting : Setting) (size : ℕ) (table : List ℕ) (h pr : File) (fs :
     placed_ran :
         (ks more : List ℕ) → Turns (count S) (ks ++ more) → (a report : List ℕ) → mem a ≡ placed S → length a ≡ size → report ≡ replicate n 0
         → Ran size n (plain_order setting.row S fl ks) (Before more (order_words setting.row S fl ks) (earlier 0 (first_undefined setting.row S fl ks)) (run S ks (placed S)))
-        (run_order table os ks (left started a report))
+        (run_order table os ks started a report)
     placed_ran ks more turns a report at len zeros =
         let placed_at_lem = starts setting size table h pr fs L a (λ _. 0) len (at ∙ placed_is setting h pr fs) in
         let begins : Going [] 0 n started report =
         record {
-          refusal = refl;
           words = omega arith;
           full = sym (le-ltb n 0 (omega arith));
           undefined = refl;
@@ -233,10 +233,10 @@ module _ (setting : Setting) (size : ℕ) (table : List ℕ) (h pr : File) (fs :
       LoadedSet setting size table h pr fs → (os : List Input)
       → ((k : ℕ) → k < count S → (get_or os k no_input).file ≡ (file_at setting size table h pr fs k).bytes)
       → (order : List ℕ) → OnceEach (count S) order → (n : ℕ) (a report : List ℕ) → mem a ≡ placed S → length a ≡ size → report ≡ replicate n 0
-      → (p' : Progress) (a' report' : List ℕ) → left p' a' report' ≡ run_order table os order (left started a report)
-      → Ended order n p' a' report'
+      → (met : Verdict) (p' : Progress) (a' report' : List ℕ) → left met p' a' report' ≡ run_order table os order started a report
+      → Ended order n met p' a' report'
   unfolding bound
-  relocated_is L os inputs order once n a report at len zeros p' a' report' e =
+  relocated_is L os inputs order once n a report at len zeros met p' a' report' e =
       let small : count S ≤ 2 ^ 28 =
       omega (arith, count_is setting size h pr fs, few_files setting size fl 0 0 (omega arith) L.loads, L.small) in
       let turns = subst (Turns (count S)) (sym (append-nil order)) (turns_of (count S) order (omega arith) once) in
@@ -253,13 +253,13 @@ module _ (setting : Setting) (size : ℕ) (table : List ℕ) (h pr : File) (fs :
       }
 
   -- the objects before object `k`, and then `k` up to an entry
-  pub record Until (front : List ℕ) (k n : ℕ) (p : Progress) (a notes : List ℕ) : Type 0 where
-    pub verdict_is : verdict p.refusal p.object ≡ plain_order setting.row S fl front
-    pub readable : p.refusal ≡ 0 → again_refusal (image_in a (turn_of table k)) (file_at setting size table h pr fs k).bytes ≡ 0
+  pub record Until (front : List ℕ) (k n : ℕ) (met : Verdict) (p : Progress) (a notes : List ℕ) : Type 0 where
+    pub verdict_is : met ≡ plain_order setting.row S fl front
+    pub readable : met ≡ passed → again_refusal (image_in a (turn_of table k)) (file_at setting size table h pr fs k).bytes ≡ 0
     pub until :
-        p.refusal ≡ 0 → (m : ℕ) → m ≤ length (relas_of (file_image (get_or fl k no_file)) (file_record (get_or fl k no_file)))
-        → (q : Progress) (a' notes' : List ℕ) → left q a' notes' ≡ run_until table k (file_at setting size table h pr fs k).bytes m p a notes
-        → verdict q.refusal q.object
+        met ≡ passed → (m : ℕ) → m ≤ length (relas_of (file_image (get_or fl k no_file)) (file_record (get_or fl k no_file)))
+        → (v : Verdict) (q : Progress) (a' notes' : List ℕ) → left v q a' notes' ≡ run_until table k (file_at setting size table h pr fs k).bytes m p a notes
+        → v
         ≡ first (words_verdict k (file_record (get_or fl k no_file)) (named_words (file_image (get_or fl k no_file)) (file_record (get_or fl k no_file))))
         (plain_entries setting.row S k (file_image (get_or fl k no_file)) (file_record (get_or fl k no_file)) (take m (relas_of (file_image (get_or fl k no_file)) (file_record (get_or fl k no_file)))))
 
@@ -268,8 +268,8 @@ module _ (setting : Setting) (size : ℕ) (table : List ℕ) (h pr : File) (fs :
       → ((k : ℕ) → k < count S → (get_or os k no_input).file ≡ (file_at setting size table h pr fs k).bytes)
       → (order : List ℕ) → OnceEach (count S) order → (front : List ℕ) (k : ℕ) (back : List ℕ) → order ≡ front ++ (k ∷ back)
       → (n : ℕ) (a report : List ℕ) → mem a ≡ placed S → length a ≡ size → report ≡ replicate n 0
-      → (p : Progress) (a' notes : List ℕ) → left p a' notes ≡ run_order table os front (left started a report) → Until front k n p a' notes
-  until_is L os inputs order once front k back split n a report at len zeros p a' notes e =
+      → (met : Verdict) (p : Progress) (a' notes : List ℕ) → left met p a' notes ≡ run_order table os front started a report → Until front k n met p a' notes
+  until_is L os inputs order once front k back split n a report at len zeros met p a' notes e =
       let small : count S ≤ 2 ^ 28 =
       omega (arith, count_is setting size h pr fs, few_files setting size fl 0 0 (omega arith) L.loads, L.small) in
       let turns = subst (Turns (count S)) split (turns_of (count S) order (omega arith) once) in
@@ -281,9 +281,9 @@ module _ (setting : Setting) (size : ℕ) (table : List ℕ) (h pr : File) (fs :
       let here = turns.among k (times_here k front back) in
       record {
         verdict_is = ran.verdict_is;
-        readable = λ z. (again setting size table h pr fs L a' k here.0 here.1 ((ran.done (stays p ran.verdict_is z)).rest k (omega (arith, head_in k back)))).0;
-        until = λ z m l q a'' notes'' g.
-            let d = ran.done (stays p ran.verdict_is z) in
+        readable = λ z. (again setting size table h pr fs L a' k here.0 here.1 ((ran.done (sym ran.verdict_is ∙ z)).rest k (omega (arith, head_in k back)))).0;
+        until = λ z m l v q a'' notes'' g.
+            let d = ran.done (sym ran.verdict_is ∙ z) in
             let i : List ℕ = file_image (get_or fl k no_file) in
             let r : Record = file_record (get_or fl k no_file) in
             let x = subst
@@ -300,9 +300,6 @@ module _ (setting : Setting) (size : ℕ) (table : List ℕ) (h pr : File) (fs :
             ∙ ap (plain_entries setting.row S k i r) (sym (take_entries i r m (omega (arith, entries_length i r)))));
       }
     where
-      stays : (p : Progress) → verdict p.refusal p.object ≡ plain_order setting.row S fl front → p.refusal ≡ 0 → plain_order setting.row S fl front ≡ passed
-      stays p v z = sym v ∙ verdict_none p.refusal p.object z
-
       times_here : (k : ℕ) (front back : List ℕ) → 0 < times k (front ++ (k ∷ back))
       times_here k [] back = omega (arith, head_in k back)
       times_here k (x ∷ xs) back = let z = times_here k xs back in omega (arith, times_tail k x (xs ++ (k ∷ back)))

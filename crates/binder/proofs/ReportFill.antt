@@ -1,5 +1,5 @@
 -- The words of a report: what has been noted so far, then zeros. Assumes nothing.
-use Rattle.std.proofs.Common.{◌≡◌, ℕ, zero, suc, ◌+◌, ◌^◌, ◌<◌, ◌≤◌, min, Bool, true, false, eqb, ltb, List, [], ◌∷◌, ◌++◌, length, take, set, replicate, sym, refl, ap, ◌∙◌, subst, ⊎_elim, arith, length-append, length-take-le, le-ltb, lt-ltb, ne_eqb, eqb-true}
+use Rattle.std.proofs.Common.{◌≡◌, ℕ, zero, suc, ◌+◌, ◌^◌, ◌<◌, ◌≤◌, min, Bool, true, false, eqb, ltb, List, [], ◌∷◌, ◌++◌, length, take, set, replicate, sym, refl, ap, ◌∙◌, subst, ⊎_elim, arith, length-append, length-take-le, le-ltb, lt-ltb, ne_eqb, eqb-true, Option}
 use native.Mathlib.Decide.{dec_lt}
 use lib.ListN.{length-replicate}
 use lib.Seq.{take-append-le}
@@ -10,15 +10,15 @@ use Rattle.object.specs.Symbol.{binding_of}
 use Rattle.object.specs.declared.symbol.Symbol.{Symbol}
 use Rattle.binder.specs.Report.{report_word}
 use Rattle.binder.specs.Steps.Relocating.{Noted, noted, keeps, report_sum, note_of, mark_undefined, undefined_in, unresolved_of}
+use Rattle.binder.specs.declared.report.Kept.{Kept}
 use Rattle.binder.specs.declared.report.Progress.{Progress}
 
 -- a report of n words that has these words, then zeros; what does not fit is dropped
 unfoldable pub fill_of : ℕ → List ℕ → List ℕ
 fill_of n ws = take n (ws ++ replicate n 0)
 
--- no refusal was met, and the report of n words has the words `ws`; `u` is the first object that has an undefined entry
+-- the report of n words has the words `ws`; `u` is the first object that has an undefined entry
 pub record Going (ws : List ℕ) (u n : ℕ) (p : Progress) (report : List ℕ) : Type 0 where
-  pub refusal : p.refusal ≡ 0
   pub words : p.words ≡ min (length ws) n
   pub full : p.full ≡ ltb n (length ws)
   pub undefined : p.undefined ≡ u
@@ -82,7 +82,6 @@ module _ (ws : List ℕ) (u n : ℕ) (p : Progress) (report : List ℕ) (g : Goi
       let at : p.words ≡ length ws = omega (arith, g.words) in
       rw (lt-ltb p.words (length report) (omega (arith, going_length)))
       record {
-        refusal = g.refusal;
         words = omega (arith, one_more w);
         full = g.full ∙ (le-ltb n (length ws) (omega arith) ∙ sym (le-ltb n (length (ws ++ (w ∷ []))) (omega (arith, one_more w))));
         undefined = g.undefined;
@@ -94,7 +93,6 @@ module _ (ws : List ℕ) (u n : ℕ) (p : Progress) (report : List ℕ) (g : Goi
   no_room w h =
       rw (le-ltb p.words (length report) (omega (arith, going_length, g.words)))
       record {
-        refusal = g.refusal;
         words = omega (arith, one_more w, g.words);
         full = sym (lt-ltb n (length (ws ++ (w ∷ []))) (omega (arith, one_more w)));
         undefined = g.undefined;
@@ -115,7 +113,6 @@ module _ (ws : List ℕ) (u n : ℕ) (p : Progress) (report : List ℕ) (g : Goi
   unfolding earlier
   mark_going k =
       record {
-        refusal = g.refusal;
         words = g.words;
         full = g.full;
         undefined = ap (λ (u : ℕ). pick (eqb u 0) k u) g.undefined;
@@ -128,29 +125,28 @@ marked_going ws u n k (noted p report) g = mark_going ws u n p report g k
 -- ---- the kept answer
 
 -- an answer is kept, or none
-pub keeps_going : (ws : List ℕ) (u n last address : ℕ) (p : Progress) (report : List ℕ) → Going ws u n p report → Going ws u n (keeps last address p) report
-keeps_going ws u n last address p report g =
-    record { refusal = g.refusal; words = g.words; full = g.full; undefined = g.undefined; report_is = g.report_is }
+pub keeps_going : (ws : List ℕ) (u n : ℕ) (kept : Option Kept) (p : Progress) (report : List ℕ) → Going ws u n p report → Going ws u n (keeps kept p) report
+keeps_going ws u n kept p report g = record { words = g.words; full = g.full; undefined = g.undefined; report_is = g.report_is }
 
 -- words of the report leave it
-abbrev pub KeptAs : ℕ → ℕ → Noted → Type 0
-KeptAs last address (noted p report) = (p.last ≡ last) × (p.address ≡ address)
+abbrev pub KeptAs : Option Kept → Noted → Type 0
+KeptAs kept (noted p report) = p.kept ≡ kept
 
-pub note_kept : (w : ℕ) (p : Progress) (report : List ℕ) → KeptAs p.last p.address (note_of w p report)
+pub note_kept : (w : ℕ) (p : Progress) (report : List ℕ) → KeptAs p.kept (note_of w p report)
 unfolding note_of
 note_kept w p report =
-    ⊎_elim (λ (t : ltb p.words (length report) ≡ true). rw t (refl, refl)) (λ (t : ltb p.words (length report) ≡ false). rw t (refl, refl))
+    ⊎_elim (λ (t : ltb p.words (length report) ≡ true). rw t) (λ (t : ltb p.words (length report) ≡ false). rw t)
     (decide (ltb p.words (length report)))
 
-marked_kept : (last address k : ℕ) (q : Noted) → KeptAs last address q → KeptAs last address (mark_undefined k q)
-marked_kept last address k (noted p report) h = h
+marked_kept : (kept : Option Kept) (k : ℕ) (q : Noted) → KeptAs kept q → KeptAs kept (mark_undefined k q)
+marked_kept kept k (noted p report) h = h
 
-pub unresolved_kept : (y : Symbol) (k i : ℕ) (p : Progress) (report : List ℕ) → KeptAs p.last p.address (unresolved_of y k i p report)
+pub unresolved_kept : (y : Symbol) (k i : ℕ) (p : Progress) (report : List ℕ) → KeptAs p.kept (unresolved_of y k i p report)
 unfolding unresolved_of
 unresolved_kept y k i p report =
-    ⊎_elim (λ (t : eqb (binding_of y) 2 ≡ true). rw t (refl, refl))
+    ⊎_elim (λ (t : eqb (binding_of y) 2 ≡ true). rw t)
     (λ (t : eqb (binding_of y) 2 ≡ false).
-    rw t (marked_kept p.last p.address k (note_of (report_sum 6 i) p report) (note_kept (report_sum 6 i) p report)))
+    rw t (marked_kept p.kept k (note_of (report_sum 6 i) p report) (note_kept (report_sum 6 i) p report)))
     (decide (eqb (binding_of y) 2))
 
 -- ---- the first object that has an undefined entry

@@ -1,10 +1,9 @@
 -- Steps of binding one after another, until a refusal: what a step left, and a step after it. Assumes nothing.
-use Rattle.std.proofs.Common.{◌≡◌, ℕ, Bool, true, false, eqb, List, length, sym, refl, ◌∙◌, eq-eqb, ne_eqb, Err}
-use Rattle.words.specs.Choice.{pick}
+use Rattle.std.proofs.Common.{◌≡◌, ℕ, List, length, sym, refl, eq-eqb, ne_eqb, Err}
 use Rattle.binder.specs.Verdict.{Verdict, passed, refused, first, verdict}
 use Rattle.binder.specs.Steps.Relocating.{Left, left, unless_refused}
 use Rattle.binder.specs.declared.report.Progress.{Progress}
-use Rattle.binder.proofs.OutcomeLaws.{refused_not, verdict_passed}
+use Rattle.binder.proofs.OutcomeLaws.{refused_not}
 
 -- ---- the first of two refusals
 
@@ -16,61 +15,46 @@ pub verdict_none : (n k : ℕ) → n ≡ 0 → verdict n k ≡ passed
 unfolding verdict
 verdict_none n k e = rw (eq-eqb n 0 e)
 
+pub verdict_some : (n k : ℕ) → (n ≡ 0 → ⊥) → verdict n k ≡ refused n k
+unfolding verdict
+verdict_some n k ne = rw (ne_eqb n 0 ne)
+
 -- a refusal that was met stays
 pub first_met : (n k : ℕ) (v : Verdict) → (n ≡ 0 → ⊥) → first (verdict n k) v ≡ verdict n k
 unfolding verdict
 first_met n k v ne = rw (ne_eqb n 0 ne)
 
-picked : (t : Bool) (x o z k : ℕ) → pick t passed (refused x o) ≡ refused z k → t ≡ false
-picked true x o z k e = refused_not z k (sym e)
-picked false x o z k e = refl
-
-met : (x o z k : ℕ) → verdict x o ≡ refused z k → eqb x 0 ≡ false
-unfolding verdict
-met x o z k e = picked (eqb x 0) x o z k e
-
 -- ---- what a step left
 
 -- a step over an arena of `size` bytes and a report of `n` words has the verdict `v`; where that is none, it left what `D` says
 module _ (size n : ℕ) where
-  pub record RanTo (v : Verdict) (D : Progress → List ℕ → List ℕ → Type 0) (p : Progress) (a report : List ℕ) : Type 0 where
-    pub verdict_is : verdict p.refusal p.object ≡ v
+  pub record RanTo (v : Verdict) (D : Progress → List ℕ → List ℕ → Type 0) (met : Verdict) (p : Progress) (a report : List ℕ) : Type 0 where
+    pub verdict_is : met ≡ v
     pub arena_length : length a ≡ size
     pub report_length : length report ≡ n
     pub done : v ≡ passed → D p a report
 
   abbrev pub Ran : Verdict → (Progress → List ℕ → List ℕ → Type 0) → Left → Type 0
-  Ran v D (left p a report) = RanTo v D p a report
+  Ran v D (left met p a report) = RanTo v D met p a report
 
   -- a refusal
   pub ran_refused :
       (z k : ℕ) (D : Progress → List ℕ → List ℕ → Type 0) (p : Progress) (a report : List ℕ) → (z ≡ 0 → ⊥)
-      → p.refusal ≡ z → p.object ≡ k → length a ≡ size → length report ≡ n → Ran (verdict z k) D (left p a report)
-  ran_refused z k D p a report ne ez ek la lr =
-      record {
-        verdict_is = rw (ez, ek);
-        arena_length = la;
-        report_length = lr;
-        done = λ e. absurd (ne (verdict_passed z k e));
-      }
+      → length a ≡ size → length report ≡ n → Ran (verdict z k) D (left (refused z k) p a report)
+  ran_refused z k D p a report ne la lr = rw (verdict_some z k ne)
+      record { verdict_is = refl; arena_length = la; report_length = lr; done = λ e. refused_not z k e }
 
   -- none
   pub ran_passed :
       (v : Verdict) (D : Progress → List ℕ → List ℕ → Type 0) (p : Progress) (a report : List ℕ) → v ≡ passed
-      → p.refusal ≡ 0 → length a ≡ size → length report ≡ n → D p a report → Ran v D (left p a report)
-  ran_passed v D p a report e z la lr d =
-      record {
-        verdict_is = verdict_none p.refusal p.object z ∙ sym e;
-        arena_length = la;
-        report_length = lr;
-        done = λ _. d;
-      }
+      → length a ≡ size → length report ≡ n → D p a report → Ran v D (left passed p a report)
+  ran_passed v D p a report e la lr d = record { verdict_is = sym e; arena_length = la; report_length = lr; done = λ _. d }
 
   -- what was left says more
   pub ran_weaker :
       (v : Verdict) (D D' : Progress → List ℕ → List ℕ → Type 0) → ((p : Progress) (a report : List ℕ) → D p a report → D' p a report)
       → (st : Left) → Ran v D st → Ran v D' st
-  ran_weaker v D D' f (left p a report) r =
+  ran_weaker v D D' f (left met p a report) r =
       record {
         verdict_is = r.verdict_is;
         arena_length = r.arena_length;
@@ -80,14 +64,13 @@ module _ (size n : ℕ) where
 
   -- the next step
   pub ran_then :
-      (v w : Verdict) (D E : Progress → List ℕ → List ℕ → Type 0) (next : Left → Left)
-      → ((p : Progress) (a report : List ℕ) → D p a report → Ran w E (next (left p a report)))
+      (v w : Verdict) (D E : Progress → List ℕ → List ℕ → Type 0) (next : Progress → List ℕ → List ℕ → Left)
+      → ((p : Progress) (a report : List ℕ) → D p a report → Ran w E (next p a report))
       → (st : Left) → Ran v D st → Ran (first v w) E (unless_refused next st)
-  ran_then passed w D E next f (left p a report) r =
-      rw (eq-eqb p.refusal 0 (verdict_passed p.refusal p.object r.verdict_is)) (f p a report (r.done refl))
-  ran_then (Err m) w D E next f (left p a report) r = rw (met p.refusal p.object m.number m.object r.verdict_is)
+  ran_then v w D E next f (left passed p a report) r = rw (← r.verdict_is) (f p a report (r.done (sym r.verdict_is)))
+  ran_then v w D E next f (left (Err m) p a report) r = rw (← r.verdict_is)
       record {
-        verdict_is = r.verdict_is;
+        verdict_is = refl;
         arena_length = r.arena_length;
         report_length = r.report_length;
         done = λ e. refused_not m.number m.object e;

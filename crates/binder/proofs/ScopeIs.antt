@@ -9,8 +9,8 @@ use Rattle.model.specs.Objects.{Obj, Objs, obj, count}
 use Rattle.model.specs.Scope as model
 use Rattle.object.specs.declared.hash_tables.Definition.{Definition}
 use Rattle.scope.specs.declared.links.Link.{Link}
-use Rattle.scope.specs.declared.scope.Found.{Found}
-use Rattle.scope.specs.Steps.ScopeCode.{found}
+use Rattle.scope.specs.declared.scope.Hit.{Hit}
+use Rattle.scope.specs.Steps.ScopeCode.{hit_at}
 use Rattle.scope.specs.Steps.Links as links-specs
 use Rattle.scope.specs.Steps.Links.{link_at, links_from, count_in, address_in}
 use Rattle.binder.specs.Instance.{definition_of, exported_of}
@@ -18,7 +18,7 @@ use Rattle.scope.specs.Steps.ScopeCode as searches
 use Rattle.scope.specs.Steps.ScopeCode.{answer_at, scoped_by, protected_by, or_else, link_answer, own_answer, scan_links, resolve_links, resolve_copy_links}
 use Rattle.binder.specs.Steps.ScopeModel.{scoped_of, LinkOf, LinkedFor}
 
-scoped_else : (a b : Option Found) → scoped_of (or_else a b) ≡ model.or_else (scoped_of a) (scoped_of b)
+scoped_else : (a b : Option Hit) → scoped_of (or_else a b) ≡ model.or_else (scoped_of a) (scoped_of b)
 unfolding searches.or_else scoped_of
 scoped_else None b = refl
 scoped_else (Some hit) b = refl
@@ -30,7 +30,7 @@ unfolding scoped_of searches.scoped_by model.scope_answer symbols.address
 by_found k base o None h = refl
 by_found k base o (Some d) h = rw h
 
-picked : (hit : Found) (t : Bool) → scoped_of (pick t (Some hit) None) ≡ pick t (symbols.answer hit.object (definition_of hit.definition) hit.address) symbols.absent
+picked : (hit : Hit) (t : Bool) → scoped_of (pick t (Some hit) None) ≡ pick t (symbols.answer hit.object (definition_of hit.definition) hit.address) symbols.absent
 unfolding scoped_of
 picked hit true = refl
 picked hit false = refl

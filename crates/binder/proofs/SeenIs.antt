@@ -1,5 +1,6 @@
 -- The copies that the code finds over the placed arena are those of the entries that no refusal meets. Assumes nothing.
 use Rattle.std.proofs.Common.{◌≡◌, ℕ, suc, ◌+◌, ◌<◌, ◌≤◌, min, Bool, true, false, eqb, List, [], ◌∷◌, length, get_or, sym, refl, ap, ◌∙◌, subst, ⊎_elim, arith, Ok, Result, Option, None, Some}
+use Rattle.std.specs.Option.{option_to_list}
 use Rattle.words.specs.Choice.{pick}
 use Rattle.model.specs.Symbols.{absent, answer}
 use Rattle.model.specs.Symbols as model
@@ -18,14 +19,14 @@ use Rattle.object.specs.declared.relocate.Rela.{Rela}
 use Rattle.sheet.specs.Sheet.{Input, no_input}
 use Rattle.scope.specs.Steps.Links.{link_at}
 use Rattle.scope.specs.declared.links.Link.{Link}
-use Rattle.scope.specs.declared.scope.Found.{Found}
+use Rattle.scope.specs.declared.scope.Hit.{Hit}
 use Rattle.binder.specs.Setting.{Setting}
 use Rattle.binder.specs.Instance.{File, file_image, file_record, definition_of, relas_of, wanted_by}
 use Rattle.binder.specs.Copies.{copy_found, copy_by}
 use Rattle.binder.specs.Verdict.{copy_ok, copy_refusal, symbol_then, refusal_by}
 use Rattle.binder.specs.Steps.ScopeModel.{scoped_of}
 use Rattle.binder.specs.Steps.Relocating.{image_in, cut_to32, copy_fits, sought_for_copy, turn_of, again_refusal}
-use Rattle.binder.specs.Steps.Crossing.{empty_copy, copy_linked, copy_to, copy_checked, copy_seen, one_copy, entries_by, seen_at, again_of, entries_at}
+use Rattle.binder.specs.Steps.Crossing.{copy_linked, copy_to, copy_checked, copy_seen, entries_by, seen_at, again_of, entries_at}
 use Rattle.binder.specs.declared.turn.Turn.{Turn}
 use Rattle.binder.proofs.InsideLaws.{name_is, writable_inside}
 use Rattle.binder.proofs.Steady.{set, file_at, LoadedSet, PlacedAt, Steady}
@@ -71,17 +72,9 @@ module _ (setting : Setting) (size : ℕ) (table : List ℕ) (h pr : File) (fs :
             (require (in_writable r.segments p (min y.size x.size)) 17 (require (copy_ok S k p o (definition_of x) (min y.size x.size)) 18 0)) ≡ 0
             → pick b []
             (record { to = (obj S k).offset + p; source = (obj S o).offset + x.value; size = min y.size x.size } ∷ [])
-            ≡ one_copy (copy_linked (length a) t p (link_at table o) x (min y.size x.size))
-        unfolding copy_linked one_copy
-        found o ol x v true z e = go (copy_fits (length a) t p (link_at table o) x (min y.size x.size))
-          where
-            go :
-                (b : Bool)
-                → []
-                ≡ pick (eqb (pick b (record { to = t.offset + p; source = (link_at table o).offset + x.value; size = min y.size x.size }) empty_copy).size 0) []
-                (pick b (record { to = t.offset + p; source = (link_at table o).offset + x.value; size = min y.size x.size }) empty_copy ∷ [])
-            go true = rw z
-            go false = refl
+            ≡ option_to_list (copy_linked (length a) t p (link_at table o) x (min y.size x.size))
+        unfolding copy_linked
+        found o ol x v true z e = rw z
         found o ol x v false z e =
             let w = passed (in_writable r.segments p (min y.size x.size)) 16 _ e in
             let ok = passed (copy_ok S k p o (definition_of x) (min y.size x.size)) 17 0 w.1 in
@@ -92,9 +85,9 @@ module _ (setting : Setting) (size : ℕ) (table : List ℕ) (h pr : File) (fs :
             rw (fits, z, link_offset k hi, link_offset o ol)
 
         by :
-            (x : model.Resolved) (s : Option Found) → scoped_of s ≡ x → ((o : ℕ) (z : model.Definition) (v : ℕ) → x ≡ answer o z v → o < count S)
-            → (e : Rela) → e.place ≡ p → copy_refusal S k r p y.size x ≡ 0 → copy_found S k p y.size x ≡ one_copy (copy_to table (length a) t e y s)
-        unfolding scoped_of copy_refusal copy_found copy_to one_copy
+            (x : model.Resolved) (s : Option Hit) → scoped_of s ≡ x → ((o : ℕ) (z : model.Definition) (v : ℕ) → x ≡ answer o z v → o < count S)
+            → (e : Rela) → e.place ≡ p → copy_refusal S k r p y.size x ≡ 0 → copy_found S k p y.size x ≡ option_to_list (copy_to table (length a) t e y s)
+        unfolding scoped_of copy_refusal copy_found copy_to
         by x None eq range e is z = rw (← eq)
         by x (Some hit) eq range e is z =
             rw (is, ← eq)
@@ -108,7 +101,7 @@ module _ (setting : Setting) (size : ℕ) (table : List ℕ) (h pr : File) (fs :
           (e : Rela) (c : Result Symbol Refusal) → checked_symbol image r e.symbol ≡ c
           → symbol_then c (λ y. copy_refusal S k r e.place y.size (resolve_copy S (wanted_by image r e.symbol))) ≡ 0
           → copy_found S k e.place (symbol_at image r.symbols e.symbol).size (resolve_copy S (wanted_by image r e.symbol))
-          ≡ one_copy (copy_checked table a t r e c)
+          ≡ option_to_list (copy_checked table a t r e c)
       unfolding copy_checked
       checked e c is z =
           ⊎_elim
@@ -118,7 +111,7 @@ module _ (setting : Setting) (size : ℕ) (table : List ℕ) (h pr : File) (fs :
           let z' = subst (λ (c : Result Symbol Refusal). symbol_then c (λ y. copy_refusal S k r e.place y.size (resolve_copy S (wanted_by image r e.symbol))) ≡ 0) same z in
           let name : name_of (image_in a t) r y ≡ symbol_name image r.symbols r.strings e.symbol =
           ap (λ (i : List ℕ). name_of i r y) image_is ∙ name_is image r e.symbol in
-          subst (λ (c : Result Symbol Refusal). copy_found S k e.place y.size (resolve_copy S (wanted_by image r e.symbol)) ≡ one_copy (copy_checked table a t r e c)) (sym same)
+          subst (λ (c : Result Symbol Refusal). copy_found S k e.place y.size (resolve_copy S (wanted_by image r e.symbol)) ≡ option_to_list (copy_checked table a t r e c)) (sym same)
           (by e.place y (resolve_copy S (wanted_by image r e.symbol)) (sought_for_copy table a (name_of (image_in a t) r y))
           (ap (λ (x : List ℕ). scoped_of (sought_for_copy table a x)) name ∙ copy_searches setting size table h pr fs L a steady (symbol_name image r.symbols r.strings e.symbol))
           (λ o d v q. (resolve_copy_range S (wanted_by image r e.symbol) o d v q).0) e refl z'))
@@ -127,8 +120,8 @@ module _ (setting : Setting) (size : ℕ) (table : List ℕ) (h pr : File) (fs :
           (symbol_case image r e.symbol)
 
       by_row :
-          (e : Rela) (x : Row) → refusal_by S k image r e x ≡ 0 → copy_by S k image r e x ≡ one_copy (copy_seen table a t r e x)
-      unfolding refusal_by copy_by copy_seen one_copy
+          (e : Rela) (x : Row) → refusal_by S k image r e x ≡ 0 → copy_by S k image r e x ≡ option_to_list (copy_seen table a t r e x)
+      unfolding refusal_by copy_by copy_seen
       by_row e ignored z = refl
       by_row e passed_over z = refl
       by_row e turned_away z = refl

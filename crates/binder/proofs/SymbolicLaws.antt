@@ -1,6 +1,8 @@
 -- One turn of a run of entries that are Symbolic whose places lie in one writable segment, and whose symbols need no further test:
 -- specs/RunSteps.antt. Assumes nothing.
-use Rattle.std.proofs.Common.{◌≡◌, ℕ, ◌+◌, ◌*◌, ◌%◌, ◌^◌, ◌<◌, ◌≤◌, Bool, true, false, eqb, List, sym, refl, ap, ◌∙◌, arith, eqb-true, Ok, Option, None, Some}
+use Rattle.std.proofs.Common.{◌≡◌, ℕ, ◌+◌, ◌*◌, ◌%◌, ◌^◌, ◌<◌, ◌≤◌, Bool, true, false, List, sym, refl, ap, ◌∙◌, arith, eqb-true, Ok, Option, None, Some}
+use Rattle.std.specs.Prelude.{◌==◌, IfSome}
+use Rattle.std.proofs.lemmas.Option.{none-some, same_Some}
 use Rattle.words.specs.Choice.{pick}
 use Rattle.words.specs.Memory.{mem, patch}
 use Rattle.words.specs.Words.{le_at, byte_of}
@@ -20,24 +22,22 @@ use Rattle.object.specs.declared.symbol.Symbol.{Symbol}
 use Rattle.object.specs.declared.relocate.Rela.{Rela}
 use Rattle.object.specs.declared.relocate.Action.TheVariants.{Symbolic}
 use Rattle.object.proofs.FineLaws.{fine_checked}
-use Rattle.scope.specs.declared.scope.Found.{Found}
+use Rattle.scope.specs.declared.scope.Hit.{Hit}
 use Rattle.binder.specs.declared.report.Progress.{Progress}
 use Rattle.binder.specs.declared.turn.Turn.{Turn}
 use Rattle.binder.specs.declared.relocate.Symbols.{Symbols}
-use Rattle.binder.specs.declared.relocate.Run.{Run}
-use Rattle.binder.specs.declared.relocate.Address.TheVariants.{Nowhere, At}
-use Rattle.binder.specs.declared.relocate.Sought.TheVariants.{Known}
-use Rattle.binder.specs.Steps.Relocating.{Left, left, wrote, with_report, keeps, image_in, written_number, field_of, sought_for, sought_by, sought_of, write_sought, run_action, row_at}
-use Rattle.binder.specs.Steps.RunSteps.{EntriesPassed, SymbolsOf, EntryHere, address_found, SymbolsPassed}
+use Rattle.binder.specs.declared.relocate.Reached.{Reached}
+use Rattle.object.specs.declared.table_bytes.Writable.{Writable}
+use Rattle.binder.specs.Verdict.{passed}
+use Rattle.binder.specs.declared.report.Kept.{Kept}
+use Rattle.binder.specs.Steps.Relocating.{Left, left, wrote, with_report, keeps, kept_as, kept_for, image_in, written_number, field_of, sought_for, sought_or, sought_of, write_sought, run_action, row_at}
+use Rattle.binder.specs.Steps.RunSteps.{EntriesPassed, SymbolsOf, EntryHere, address_found, SymbolsPassed, ManyPassed}
 use Rattle.binder.proofs.RunLaws.{entries_left, entry_goes}
 use Rattle.binder.proofs.RelativeLaws.{number_in}
 use Rattle.binder.proofs.KeptLaws.{kept_then, kept_symbols, entry_kept}
 
-at_same : (x y : ℕ) → At x ≡ At y → x ≡ y
-at_same x y e = cc
-
-at_nowhere : {P : Type 0} (x : ℕ) → At x ≡ Nowhere → P
-at_nowhere x e = let z : ◌≡◌ {A = ℕ} 0 1 = cc in absurd (omega arith)
+kept_eq : (k : Kept) (i a : ℕ) → k.symbol ≡ i → a ≡ k.address → kept_as i a ≡ Some k
+kept_eq k i a e f = rw (← e, f) refl
 
 -- a field of eight bytes holds every number
 wide_fits : (f : Field) (v : ℕ) → (field_by f).width ≡ 8 → (field_by f).fits v ≡ true
@@ -55,9 +55,9 @@ module _
     (t : Turn)
     (y : Symbols)
     (at n low high : ℕ)
-    (s : Run)
+    (s : Reached)
     (a : List ℕ)
-    {k place index name addend number found : ℕ}
+    {k place index name addend found : ℕ}
     {field : Field}
     {b : List ℕ}
     (some : s.next < n)
@@ -65,9 +65,7 @@ module _
     (inside : y.symbols + 24 * y.fits ≤ t.span)
     (stands : k ≡ t.offset + at + 24 * s.next)
     (here : EntryHere table a t y k low high field place index name addend)
-    (number_is : number ≡ index + 1)
-    (found_is : At found
-    ≡ pick (eqb s.last number) (At s.address) (address_found (sought_for table t a (name_at (image_in a t) (y.strings + name)))))
+    (found_is : Some found ≡ address_found (kept_for s.kept index) (sought_for table t a (name_at (image_in a t) (y.strings + name))))
     (written : b ≡ patch a (t.offset + place) 8 (byte_of ((field_by field).value found addend t.base (t.base + place))))
   where
     abbrev e : Rela
@@ -110,66 +108,77 @@ module _
 
       module _ (p : Progress) (report : List ℕ) (i : ℕ) where
         abbrev q : Progress
-        q = keeps s.last s.address p
+        q = keeps s.kept p
 
         -- the write by the address that was found
-        field_here : (v : ℕ) (q' : Progress) → found ≡ v → wrote q' b ≡ field_of t e calculation v q' a
+        field_here : (v : ℕ) → found ≡ v → wrote passed b ≡ field_of t e calculation v a
         unfolding field_of
-        field_here v q' h = rw (wide_fits field (written_number t e calculation v) here.wide, written, here.wide, place_here, addend_here, h)
+        field_here v h = rw (wide_fits field (written_number t e calculation v) here.wide, written, here.wide, place_here, addend_here, h)
 
         -- the search found it
-        sought : (x : Option Found) → At found ≡ address_found x → left (keeps (e.symbol + 1) found p) b report ≡ write_sought t e calculation i (sought_by y_here x) q a report
+        searched : (x : Option Hit) → Some found ≡ address_found None x
+            → left passed (keeps (kept_as e.symbol found) p) b report ≡ write_sought t e calculation i (Ok (sought_or None y_here x)) q a report
         unfolding write_sought
-        sought None h = at_nowhere found h
-        sought (Some hit) h =
-            rw (at_same found hit.address h) (ap (with_report report) (field_here hit.address (keeps (e.symbol + 1) hit.address p) (at_same found hit.address h)))
+        searched None h = absurd (none-some found (sym h))
+        searched (Some hit) h =
+            let same = same_Some found hit.address h in
+            rw same (ap (with_report (keeps (kept_as e.symbol hit.address) p) report) (field_here hit.address same))
 
-        answered : (c : Bool) → eqb s.last (e.symbol + 1) ≡ c → (x : Option Found) → At found ≡ pick c (At s.address) (address_found x)
-            → left (keeps (e.symbol + 1) found p) b report
-            ≡ write_sought t e calculation i (pick c (Ok (Known s.address)) (sought_by y_here x)) q a report
+        -- or it was kept
+        answered : (kept : Option Kept) → s.kept ≡ kept → (x : Option Hit) → Some found ≡ address_found (kept_for kept e.symbol) x
+            → left passed (keeps (kept_as e.symbol found) p) b report ≡ write_sought t e calculation i (Ok (sought_or (kept_for kept e.symbol) y_here x)) q a report
         unfolding write_sought
-        answered true h x g =
-            rw (← eqb-true s.last (e.symbol + 1) h, at_same found s.address g)
-            (ap (with_report report) (field_here s.address q (at_same found s.address g)))
-        answered false h x g = sought x g
+        answered None is x h = searched x h
+        answered (Some k) is x h = known (k.symbol == e.symbol) refl h
+          where
+            known : (c : Bool) → (k.symbol == e.symbol) ≡ c → Some found ≡ address_found (pick c (Some k.address) None) x
+                → left passed (keeps (kept_as e.symbol found) p) b report ≡ write_sought t e calculation i (Ok (sought_or (pick c (Some k.address) None) y_here x)) q a report
+            known true same h =
+                let there = same_Some found k.address h in
+                rw (kept_eq k e.symbol found (eqb-true k.symbol e.symbol same) there, ← is) (ap (with_report q report) (field_here k.address there))
+            known false same h = searched x h
 
-        number_here : number ≡ e.symbol + 1
-        number_here = omega (arith, index_here)
-
-        ran : WritableRange r.segments low high → left (keeps number found p) b report ≡ run_action table t r i e (row_by (Symbolic field)) q a report
+        ran : WritableRange r.segments low high → left passed (keeps (kept_as index found) p) b report ≡ run_action table t r i e (row_by (Symbolic field)) q a report
         unfolding run_action sought_of
         ran wr =
             let w : in_writable r.segments e.place calculation.width ≡ true = rw (here.wide, place_here) (wr place 8 here.above here.below (omega arith)) in
             let z : searched_by field e.symbol ≡ true = rw index_here here.searched in
-            let g : At found ≡ pick (eqb s.last (e.symbol + 1)) (At s.address) (address_found (sought_for table t a (name_at (image_in a t) (r.strings + y_here.name)))) =
-            rw (name_here, of.strings, ← number_here) found_is in
-            rw (checked, w, z, number_here)
-            (answered (eqb s.last (e.symbol + 1)) refl (sought_for table t a (name_at (image_in a t) (r.strings + y_here.name))) g)
+            let g : Some found ≡ address_found (kept_for s.kept e.symbol) (sought_for table t a (name_at (image_in a t) (r.strings + y_here.name))) =
+            rw (name_here, of.strings, index_here) found_is in
+            rw (checked, w, z, ← index_here)
+            (answered s.kept refl (sought_for table t a (name_at (image_in a t) (r.strings + y_here.name))) g)
 
     pub symbolic_turn :
-        (s₀ : Run) (a₀ : List ℕ) → SymbolsPassed table t y at n low high s₀ a₀ s a
-        → SymbolsPassed table t y at n low high s₀ a₀ (record { next = s.next + 1; last = number; address = found }) b
-    symbolic_turn s₀ a₀ passed r first p report wr of fine =
-        let so_far = passed r first p report wr of fine in
+        (s₀ : Reached) (a₀ : List ℕ) → SymbolsPassed table t y at n low high s₀ a₀ s a
+        → SymbolsPassed table t y at n low high s₀ a₀ (record { next = s.next + 1; kept = kept_as index found }) b
+    symbolic_turn s₀ a₀ before r first p report wr of =
+        let so_far = before r first p report wr of in
         let so = kept_symbols t r y a₀ a so_far.1 of in
         let i : ℕ = (first + s.next) % 2 ^ 32 in
         let run = ran r so p report i wr in (
-          entry_goes table t r at first n s.next (keeps s.last s.address p) a report {b = b} {noted = report} some refl acts refl run
-              so_far.0 (fine (omega (arith, here.below))),
+          entry_goes table t r at first n s.next (keeps s.kept p) a report {met = passed} {b = b} {noted = report} some refl acts refl run so_far.0 refl,
           kept_then t r a₀ a b so_far.1
-              (entry_kept t r table i e (keeps s.last s.address p) a report (row_by (Symbolic field)) (keeps number found p) b report run),
+              (entry_kept t r table i e (keeps s.kept p) a report (row_by (Symbolic field)) passed (keeps (kept_as index found) p) b report run),
         )
 
 -- a run of entries that are Relative, then one of entries that are Symbolic
+pub many_passed :
+    (table : List ℕ) (t : Turn) (y : Symbols) (at n : ℕ) (w : Writable) (a b c : List ℕ) (s : Reached) (j : ℕ) (s' : Reached)
+    → EntriesPassed table t at n w.low w.high s.next a j b
+    → SymbolsPassed table t y at n w.low w.high (record { next = j; kept = s.kept }) b s' c
+    → ManyPassed table t y at n (Some w) s a s' c
+many_passed table t y at n w a b c s j s' one two r first p report wr of =
+    let x = one r first (keeps s.kept p) report wr in
+    let z = two r first p report wr (kept_symbols t r y a b x.1 of) in
+    (z.0 ∙ x.0, kept_then t r a b c x.1 z.1)
+
+-- what such a run leaves of a table
 pub runs_passed :
-    (table : List ℕ) (t : Turn) (r : Record) (y : Symbols) (at first n low high : ℕ) (q : Progress) (a b c report : List ℕ)
-    (i j : ℕ) (s : Run) {end : Left} → EntriesPassed table t at n low high i a j b
-    → SymbolsPassed table t y at n low high (record { next = j; last = q.last; address = q.address }) b s c
-    → WritableRange r.segments low high → (0 < high → q.refusal ≡ 0) → SymbolsOf t r y a
-    → entries_left table t r at first n i (left q a report) ≡ end
-    → (entries_left table t r at first n s.next (left (keeps s.last s.address q) c report) ≡ end) × SymbolsOf t r y c
-runs_passed table t r y at first n low high q a b c report i j s one two wr fine of all =
-    let x = one r first q report wr fine in
-    let here = kept_symbols t r y a b x.1 of in
-    let z = two r first q report wr here fine in
-    (z.0 ∙ (x.0 ∙ all), kept_symbols t r y b c z.1 here)
+    (table : List ℕ) (t : Turn) (r : Record) (y : Symbols) (at first n : ℕ) (w : Option Writable) (q : Progress) (a b report : List ℕ) (i : ℕ) (s : Reached)
+    {end : Left} → ManyPassed table t y at n w (record { next = i; kept = q.kept }) a s b
+    → IfSome w (λ w. WritableRange r.segments w.low w.high) → SymbolsOf t r y a
+    → entries_left table t r at first n i q a report ≡ end
+    → (entries_left table t r at first n s.next (keeps s.kept q) b report ≡ end) × SymbolsOf t r y b
+runs_passed table t r y at first n w q a b report i s many wr of all =
+    let x = many r first q report wr of in
+    (x.0 ∙ all, kept_symbols t r y a b x.1 of)

@@ -1,10 +1,9 @@
 -- The entries of RELA and PLT, one after another over the arena as it is then, do what the definitions say of the placed bytes. Assumes nothing.
-use Rattle.std.proofs.Common.{◌≡◌, ℕ, zero, suc, ◌+◌, ◌*◌, ◌%◌, ◌^◌, ◌<◌, ◌≤◌, Bool, List, [], ◌∷◌, ◌++◌, map, length, get_or, sym, refl, ap, ◌∙◌, append_assoc, arith}
-use Rattle.words.specs.Choice.{pick, either, some}
+use Rattle.std.proofs.Common.{◌≡◌, ℕ, zero, suc, ◌+◌, ◌*◌, ◌%◌, ◌^◌, ◌<◌, ◌≤◌, List, [], ◌∷◌, ◌++◌, map, length, get_or, sym, refl, ap, ◌∙◌, append_assoc, arith}
+use Rattle.words.specs.Choice.{pick, some}
 use Rattle.words.specs.Memory.{Mem}
 use Rattle.model.specs.Objects.{Entry, Objs, count, obj}
 use Rattle.model.specs.Relocation.{effect, effects}
-use Rattle.model.proofs.OrderLaws.{either_assoc}
 use Rattle.object.specs.RelocationTypes.{Row}
 use Rattle.object.specs.Entries.{rela_at, relas_from}
 use Rattle.object.specs.Record.{Record}
@@ -14,7 +13,7 @@ use Rattle.binder.specs.Setting.{Setting}
 use Rattle.binder.specs.Verdict.{passed, first, verdict, entry_refusal}
 use Rattle.binder.specs.Steps.PlainVerdict.{plain_entries}
 use Rattle.binder.specs.Report.{report_word, is_undefined, is_passed, entry_report}
-use Rattle.binder.specs.Steps.Relocating.{left, unless_refused, image_in, cut_to32, turn_of, run_action, run_table, run_tables, row_at}
+use Rattle.binder.specs.Steps.Relocating.{unless_refused, image_in, cut_to32, turn_of, run_action, run_table, run_tables, row_at}
 use Rattle.binder.specs.declared.turn.Turn.{Turn}
 use Rattle.binder.specs.declared.report.Progress.{Progress}
 use Rattle.binder.proofs.Steady.{set, file_at, LoadedSet, Steady}
@@ -22,14 +21,10 @@ use Rattle.binder.proofs.SteadyLaws.{readings, counts}
 use Rattle.binder.proofs.ReportFill.{earlier, mark_twice}
 use Rattle.binder.proofs.Runs.{Ran, first_assoc, ran_weaker, ran_then}
 use Rattle.binder.proofs.EntryIs.{Doing, plain, entry_ran}
+use Rattle.binder.proofs.ClaimLaws.{relas_length, rela_at_lem}
+use Rattle.binder.proofs.ApartLaws.{some_append}
 
 -- ---- two lists of entries
-
-pub rela_at_lem : (image : List ℕ) (at i c j : ℕ) (d : Rela) → j < c → get_or (relas_from image at i c) j d ≡ rela_at image at (i + j)
-unfolding relas_from
-rela_at_lem image at i zero j d h = absurd (omega arith)
-rela_at_lem image at i (suc c) zero d h = ap (rela_at image at) (omega arith)
-rela_at_lem image at i (suc c) (suc j) d h = rela_at_lem image at (i + 1) c j d (omega arith) ∙ ap (rela_at image at) (omega arith)
 
 -- the same lists have the same entries
 entry_same :
@@ -40,16 +35,6 @@ entry_same image image' at c e j l =
     let z : 0 + j ≡ j = omega arith in
     sym (ap (rela_at image' at) z)
     ∙ (sym (rela_at_lem image' at 0 c j d l) ∙ (ap (λ (es : List Rela). get_or es j d) e ∙ (rela_at_lem image at 0 c j d l ∙ ap (rela_at image at) z)))
-
-pub relas_length : (image : List ℕ) (at i c : ℕ) → length (relas_from image at i c) ≡ c
-unfolding relas_from
-relas_length image at i zero = refl
-relas_length image at i (suc c) = ap suc (relas_length image at (i + 1) c)
-
-pub some_append : {A : Type 0} (p : A → Bool) (xs ys : List A) → some p (xs ++ ys) ≡ either (some p xs) (some p ys)
-unfolding some
-some_append p [] ys = refl
-some_append p (x ∷ xs) ys = ap (either (p x)) (some_append p xs ys) ∙ either_assoc (p x) (some p xs) (some p ys)
 
 -- the words of an entry
 abbrev entry_word : (ℕ → Row) → Objs → ℕ → List ℕ → Record → ℕ → Rela → List ℕ
@@ -161,7 +146,7 @@ module _ (setting : Setting) (size : ℕ) (table : List ℕ) (h pr : File) (fs :
     pub table_ran :
         (c i j : ℕ) → i ≡ start + j → j + c ≤ c' → (ws : List ℕ) (u : ℕ) (m : Mem) (p : Progress) (a report : List ℕ) → Does ws u m p a report
         → Ran size n (plain_entries row S k image r (relas_from image at j c)) (Entered ws u m i (relas_from image at j c))
-        (run_table table t r at start c j (left p a report))
+        (run_table table t r at start c j p a report)
     unfolding run_table relas_from plain_entries entry_report some effects
     table_ran zero i j e b ws u m p a report d =
         plain setting size table h pr fs L k lo hi n a₀ ws u m p a report d passed m a refl d.written d.memory
@@ -177,7 +162,7 @@ module _ (setting : Setting) (size : ℕ) (table : List ℕ) (h pr : File) (fs :
         (effect S k (entry_of row image r (obj S k).base (rela_at image at j)) m) (i + 1) (relas_from image at (j + 1) c))
         (Entered ws u m i (rela_at image at j ∷ relas_from image at (j + 1) c))
         (entered_more ws u m i (rela_at image at j) (relas_from image at (j + 1) c))
-        (run_table table t r at start c (j + 1) (left p' a' report'))
+        (run_table table t r at start c (j + 1) p' a' report')
         (table_ran c (i + 1) (j + 1) (omega arith) (omega arith) (ws ++ entry_word row S k image r i (rela_at image at j))
         (earlier u (pick (is_undefined row S k image r (rela_at image at j)) k 0))
         (effect S k (entry_of row image r (obj S k).base (rela_at image at j)) m) p' a' report' d'))
@@ -192,7 +177,7 @@ module _ (setting : Setting) (size : ℕ) (table : List ℕ) (h pr : File) (fs :
   pub tables_ran :
       (ws : List ℕ) (u : ℕ) (m : Mem) (p : Progress) (a report : List ℕ) → Does ws u m p a report
       → Ran size n (plain_entries row S k image r (relas_of image r)) (Entered ws u m 0 (relas_of image r))
-      (run_tables table t r (left p a report))
+      (run_tables table t r p a report)
   unfolding relas_of run_tables
   tables_ran ws u m p a report d =
       let few = counts setting size table h pr fs L k lo hi in
@@ -208,11 +193,11 @@ module _ (setting : Setting) (size : ℕ) (table : List ℕ) (h pr : File) (fs :
       (effects S k (map (entry_of row image r (obj S k).base) xs) m) r.relas ys)
       (Entered ws u m 0 (xs ++ ys))
       (entered_join ws u m 0 r.relas xs ys (omega (arith, relas_length image r.rela 0 r.relas)))
-      (run_table table t r r.plt r.relas r.plts 0 (left p' a' report'))
+      (run_table table t r r.plt r.relas r.plts 0 p' a' report')
       (table_ran r.plt r.relas r.plts (omega (arith, few.0, few.1)) (λ a s. entry_same image (image_in a t) r.plt r.plts ((readings setting size table h pr fs L a s k hi).plts o)) r.plts r.relas 0 (omega arith) (omega arith)
       (ws ++ entry_report row S k image r 0 xs) (earlier u (pick (some (is_undefined row S k image r) xs) k 0))
       (effects S k (map (entry_of row image r (obj S k).base) xs) m) p' a' report' d'))
-      (run_table table t r r.rela 0 r.relas 0 (left p a report))
+      (run_table table t r r.rela 0 r.relas 0 p a report)
       (table_ran r.rela 0 r.relas (omega (arith, few.0)) (λ a s. entry_same image (image_in a t) r.rela r.relas ((readings setting size table h pr fs L a s k hi).relas o)) r.relas 0 0 (omega arith) (omega arith) ws u m p a report d))
 
   -- ---- the first `x` of RELA, then the first `y` of PLT
@@ -220,7 +205,7 @@ module _ (setting : Setting) (size : ℕ) (table : List ℕ) (h pr : File) (fs :
   pub tables_until :
       (x y : ℕ) → x ≤ r.relas → y ≤ r.plts → (ws : List ℕ) (u : ℕ) (m : Mem) (p : Progress) (a report : List ℕ) → Does ws u m p a report
       → Ran size n (first (plain_entries row S k image r (relas_from image r.rela 0 x)) (plain_entries row S k image r (relas_from image r.plt 0 y))) (λ _ _ _. Unit {0})
-      (unless_refused (run_table table t r r.plt (cut_to32 r.relas) y 0) (run_table table t r r.rela 0 x 0 (left p a report)))
+      (unless_refused (run_table table t r r.plt (cut_to32 r.relas) y 0) (run_table table t r r.rela 0 x 0 p a report))
   tables_until x y lx ly ws u m p a report d =
       let few = counts setting size table h pr fs L k lo hi in
       let o = L.others k lo hi in
@@ -235,9 +220,9 @@ module _ (setting : Setting) (size : ℕ) (table : List ℕ) (h pr : File) (fs :
       (effects S k (map (entry_of row image r (obj S k).base) xs) m) r.relas ys)
       (λ _ _ _. Unit {0})
       (λ _ _ _ _. Prim.tt {0})
-      (run_table table t r r.plt r.relas y 0 (left p' a' report'))
+      (run_table table t r r.plt r.relas y 0 p' a' report')
       (table_ran r.plt r.relas r.plts (omega (arith, few.0, few.1)) (λ a s. entry_same image (image_in a t) r.plt r.plts ((readings setting size table h pr fs L a s k hi).plts o)) y r.relas 0 (omega arith) (omega arith)
       (ws ++ entry_report row S k image r 0 xs) (earlier u (pick (some (is_undefined row S k image r) xs) k 0))
       (effects S k (map (entry_of row image r (obj S k).base) xs) m) p' a' report' d'))
-      (run_table table t r r.rela 0 x 0 (left p a report))
+      (run_table table t r r.rela 0 x 0 p a report)
       (table_ran r.rela 0 r.relas (omega (arith, few.0)) (λ a s. entry_same image (image_in a t) r.rela r.relas ((readings setting size table h pr fs L a s k hi).relas o)) x 0 0 (omega arith) (omega arith) ws u m p a report d))

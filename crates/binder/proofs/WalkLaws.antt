@@ -1,141 +1,100 @@
 -- The walk over the copies of an order, round by round: what it keeps and what it finds. Assumes nothing.
-use Rattle.std.proofs.Common.{◌≡◌, ℕ, suc, ◌+◌, ◌-◌, ◌*◌, ◌<◌, ◌≤◌, min, Bool, true, false, ltb, leb, List, [], ◌∷◌, ◌++◌, length, get_or, take, drop, sym, refl, ap, ◌∙◌, subst, append_assoc, append-nil, arith, length-append, take-append-drop, take_all, take-suc, eq-eqb, ne_eqb, leb-false, leb-true}
-use lib.Seq.{split_at}
+use Rattle.std.proofs.Common.{◌≡◌, ℕ, suc, ◌+◌, ◌<◌, ◌≤◌, true, false, ltb, leb, List, [], ◌∷◌, ◌++◌, length, get_or, take, drop, sym, refl, ap, ◌∙◌, subst, append_assoc, append-nil, arith, length-append, take-append-drop, take_all, take-suc, Option, None, Some}
+use lib.Seq.{split_at, drop-nil}
+use Rattle.std.specs.List.{filter_map, list_any}
+use Rattle.std.specs.Option.{option_to_list}
+use Rattle.std.proofs.lemmas.List.Elements.{filter_map-append}
 use Rattle.words.specs.Choice.{pick, both, some}
 use Rattle.object.specs.Record.{Record}
 use Rattle.object.specs.declared.relocate.Rela.{Rela}
+use Rattle.object.proofs.ListTests.{some_any}
 use Rattle.sheet.specs.Sheet.{Input, no_input}
 use Rattle.binder.specs.Copies.{crosses}
 use Rattle.binder.specs.Steps.Relocating.{image_in, turn_of, again_refusal, again_record}
-use Rattle.binder.specs.Steps.Crossing.{seen_of, entries_of, one_copy, gather, no_rela, round, kept_from, kept_with, compared}
-use Rattle.binder.specs.Steps.Crossing.{KeptCopies, EachApart, Scanned, WalksOn, Readable, seen_at, entries_at, copies_among, CrossesAt}
-use Rattle.binder.specs.Steps.Crossing.{copies_met, Passed, FirstCrossing, earlier_of}
+use Rattle.binder.specs.Steps.Crossing.{seen_of, entries_of, no_rela, round, compared}
+use Rattle.binder.specs.Steps.Crossing.{EachApart, Seen, WalksOn, Readable, seen_at, entries_at, copies_among}
+use Rattle.binder.specs.Steps.Crossing.{copies_met, Met, Passed, FirstCrossing}
 use Rattle.binder.specs.declared.turn.Turn.{Turn}
 use Rattle.binder.specs.declared.crossing.Copy.{Copy}
-use Rattle.binder.specs.declared.crossing.Scan.{Scan}
+use Rattle.binder.specs.declared.crossing.Walk.{Walk}
 use Rattle.binder.specs.declared.crossing.Crossing.{Crossing}
-use Rattle.binder.proofs.ApartLaws.{bool_clash, some_part, apart_left, apart_one, apart_more, apart_all}
-use Rattle.binder.proofs.CrossCode.{kept_none, kept_next}
+use Rattle.binder.proofs.ApartLaws.{cons_is, some_part, apart_left, apart_one, apart_more, apart_all}
+use Rattle.binder.proofs.CrossCode.{compared_next}
 
 -- ---- entries, one after another
 
-pub gather_append : (f : Rela → Copy) (xs ys : List Rela) → gather f (xs ++ ys) ≡ gather f xs ++ gather f ys
-unfolding gather
-gather_append f [] ys = refl
-gather_append f (x ∷ xs) ys =
-    ap (λ (l : List Copy). one_copy (f x) ++ l) (gather_append f xs ys) ∙ sym (append_assoc (one_copy (f x)) (gather f xs) (gather f ys))
-
-gather_one :
-    (f : Rela → Copy) (es : List Rela) (i : ℕ) → i < length es
-    → gather f (take (i + 1) es) ≡ gather f (take i es) ++ one_copy (f (get_or es i no_rela))
-unfolding gather
-gather_one f es i l =
+one_more :
+    (f : Rela → Option Copy) (es : List Rela) (i : ℕ) → i < length es
+    → filter_map f (take (i + 1) es) ≡ filter_map f (take i es) ++ option_to_list (f (get_or es i no_rela))
+one_more f es i l =
     let z : i + 1 ≡ suc i = omega arith in
-    ap (λ (n : ℕ). gather f (take n es)) z
-    ∙ (ap (gather f) (take-suc es i no_rela l)
-    ∙ (gather_append f (take i es) (get_or es i no_rela ∷ [])
-    ∙ ap (λ (l : List Copy). gather f (take i es) ++ l) (append-nil (one_copy (f (get_or es i no_rela))))))
-
--- after a copy that crosses none of the round
-scanned_one :
-    (first seen : ℕ) (ys : List Copy) (c : Copy) → Scanned first ys seen → some (crosses c) (compared first ys) ≡ false
-    → Scanned first (ys ++ (c ∷ [])) (seen + 1)
-scanned_one first seen ys c s e =
-    record {
-      count = length-append ys (c ∷ []) ∙ ap (λ (n : ℕ). n + 1) s.count;
-      apart = apart_one (compared first) ys c s.apart e;
-    }
+    ap (λ (n : ℕ). filter_map f (take n es)) z
+    ∙ (ap (filter_map f) (take-suc es i no_rela l)
+    ∙ (filter_map-append f (take i es) (get_or es i no_rela ∷ [])
+    ∙ ap (λ (l : List Copy). filter_map f (take i es) ++ l) (cons_is (f (get_or es i no_rela)) [] ∙ append-nil (option_to_list (f (get_or es i no_rela))))))
 
 -- the code compares with what is kept
-kept_is :
-    (first seen : ℕ) (ys : List Copy) (kept : List ℕ) → Scanned first ys seen → KeptCopies first ys kept → {n : ℕ} → n ≡ min (seen - first) round
-    → kept_from kept 0 n ≡ compared first ys
-kept_is first seen ys kept s k {n} e = ap (kept_from kept 0) (e ∙ ap (λ (i : ℕ). min (i - first) round) (sym s.count)) ∙ k.are
+compares : (ys : List Copy) (w : Walk) (c : Copy) → Seen ys w → list_any (crosses c) w.kept.items ≡ some (crosses c) (compared w.first ys)
+compares ys w c s = ap (list_any (crosses c)) s.kept ∙ sym (some_any (crosses c) (compared w.first ys))
 
-module _ (first seen₀ : ℕ) (kept₀ : List ℕ) (f : Rela → Copy) (es : List Rela) where
+-- after a copy that crosses none of those
+seen_one :
+    (ys : List Copy) (w w' : Walk) (c : Copy) → Seen ys w → list_any (crosses c) w.kept.items ≡ false → w'.first ≡ w.first → w'.seen ≡ w.seen + 1
+    → w'.kept.items ≡ pick (both (leb w.first w.seen) (ltb (length w.kept.items) round)) (w.kept.items ++ (c ∷ [])) w.kept.items
+    → Seen (ys ++ (c ∷ [])) w'
+seen_one ys w w' c s e same more keeps =
+    record {
+      count = length-append ys (c ∷ []) ∙ rw (more, s.count);
+      apart = rw same (apart_one (compared w.first) ys c s.apart (sym (compares ys w c s) ∙ e));
+      kept = keeps ∙ (rw (s.kept, ← s.count, same) (sym (compared_next w.first ys c)));
+    }
+
+module _ (w₀ : Walk) (f : Rela → Option Copy) (es : List Rela) where
   -- before entry `i`
-  abbrev pub Walking : ℕ → ℕ → List ℕ → Type 0
-  Walking i seen kept =
-      (ys : List Copy) → Scanned first ys seen₀ → KeptCopies first ys kept₀
-      → Scanned first (ys ++ gather f (take i es)) seen × KeptCopies first (ys ++ gather f (take i es)) kept
+  abbrev pub Walking : ℕ → Walk → Type 0
+  Walking i w = (ys : List Copy) → Seen ys w₀ → Seen (ys ++ filter_map f (take i es)) w
 
-  pub walk_begin : Walking 0 seen₀ kept₀
-  unfolding gather
-  walk_begin ys a b = rw (append-nil ys) (a, b)
+  pub walk_begin : Walking 0 w₀
+  walk_begin ys s = rw (append-nil ys) s
 
-  module _ (i seen : ℕ) (kept : List ℕ) (at : Walking i seen kept) (l : i < length es) where
-    pub walk_skips : (f (get_or es i no_rela)).size ≡ 0 → Walking (i + 1) seen kept
-    unfolding one_copy
-    walk_skips z ys a b =
-        let none : gather f (take (i + 1) es) ≡ gather f (take i es) =
-        gather_one f es i l
-        ∙ (ap (λ (t : Bool). gather f (take i es) ++ pick t [] (f (get_or es i no_rela) ∷ [])) (eq-eqb (f (get_or es i no_rela)).size 0 z)
-        ∙ append-nil (gather f (take i es))) in
-        rw none (at ys a b)
+  module _ (i : ℕ) (w : Walk) (at : Walking i w) (l : i < length es) where
+    pub walk_skips : f (get_or es i no_rela) ≡ None → Walking (i + 1) w
+    walk_skips z ys s = rw (one_more f es i l, z, append-nil) (at ys s)
 
-    module _ (c : Copy) (is : c ≡ f (get_or es i no_rela)) (some_bytes : c.size ≡ 0 → ⊥) {n : ℕ} (many : n ≡ min (seen - first) round)
-        {b : Bool} (compares : b ≡ some (crosses c) (kept_from kept 0 n)) where
-      test :
-          (ys : List Copy) → Scanned first ys seen₀ → KeptCopies first ys kept₀
-          → b ≡ some (crosses c) (compared first (ys ++ gather f (take i es)))
-      test ys s k =
-          let x = at ys s k in
-          compares ∙ ap (some (crosses c)) (kept_is first seen (ys ++ gather f (take i es)) kept x.0 x.1 many)
-
+    module _ (c : Copy) (is : f (get_or es i no_rela) ≡ Some c) where
       pub walk_goes :
-          b ≡ false → {kept' : List ℕ}
-          → kept' ≡ pick (both (leb first seen) (ltb (seen - first) round)) (kept_with kept (seen - first) c) kept
-          → Walking (i + 1) (seen + 1) kept'
-      unfolding one_copy
-      walk_goes e {kept'} keeps ys s k =
-          let more : ys ++ gather f (take (i + 1) es) ≡ (ys ++ gather f (take i es)) ++ (c ∷ []) =
-          ap (λ (x : List Copy). ys ++ x) (gather_one f es i l ∙ ap (λ (x : Copy). gather f (take i es) ++ one_copy x) (sym is))
-          ∙ (ap (λ (t : Bool). ys ++ (gather f (take i es) ++ pick t [] (c ∷ []))) (ne_eqb c.size 0 some_bytes)
-          ∙ sym (append_assoc ys (gather f (take i es)) (c ∷ []))) in
-          let x = at ys s k in
-          rw more (
-            scanned_one first seen (ys ++ gather f (take i es)) c x.0 (sym (test ys s k) ∙ e),
-            kept_next first seen (ys ++ gather f (take i es)) c x.0.count kept x.1 keeps,
-          )
+          (w' : Walk) → list_any (crosses c) w.kept.items ≡ false → w'.first ≡ w.first → w'.seen ≡ w.seen + 1
+          → w'.kept.items ≡ pick (both (leb w.first w.seen) (ltb (length w.kept.items) round)) (w.kept.items ++ (c ∷ [])) w.kept.items
+          → Walking (i + 1) w'
+      walk_goes w' e same more keeps ys s =
+          let step : ys ++ filter_map f (take (i + 1) es) ≡ (ys ++ filter_map f (take i es)) ++ (c ∷ []) =
+          rw (one_more f es i l, is) (sym (append_assoc ys (filter_map f (take i es)) (c ∷ []))) in
+          rw step (seen_one (ys ++ filter_map f (take i es)) w w' c (at ys s) e same more keeps)
 
-      pub walk_stops : b ≡ true → (kept' : List ℕ) → WalksOn first seen₀ kept₀ f es kept' (record { seen = seen; hit = true; entry = i })
-      walk_stops e kept' ys s k =
-          record {
-            passed = λ z. bool_clash z;
-            met = λ _. (
-              l,
-              (at ys s k).0,
-              subst (λ (d : Copy). some (crosses d) (ys ++ gather f (take i es)) ≡ true) is
-                  (some_part (crosses c) first round (ys ++ gather f (take i es)) (sym (test ys s k) ∙ e)),
-              subst (λ (d : Copy). d.size ≡ 0 → ⊥) is some_bytes,
-            );
-          }
+      pub walk_stops : list_any (crosses c) w.kept.items ≡ true → WalksOn w₀ f es w (Some i)
+      walk_stops e ys s =
+          let x = at ys s in
+          let z : some (crosses c) (ys ++ filter_map f (take i es)) ≡ true =
+          some_part (crosses c) w.first round (ys ++ filter_map f (take i es)) (sym (compares (ys ++ filter_map f (take i es)) w c x) ∙ e) in
+          (x, record { entry = l; crossed = rw is z })
 
-  pub walk_ends :
-      (i seen n : ℕ) (kept : List ℕ) → Walking i seen kept → length es ≤ i
-      → WalksOn first seen₀ kept₀ f es kept (record { seen = seen; hit = false; entry = n })
-  walk_ends i seen n kept at l ys s k =
-      record {
-        passed = λ _.
-            subst (λ (x : List Rela). Scanned first (ys ++ gather f x) seen × KeptCopies first (ys ++ gather f x) kept) (take_all i es l)
-            (at ys s k);
-        met = λ e. bool_clash (sym e);
-      }
+  pub walk_ends : (i : ℕ) (w : Walk) → Walking i w → length es ≤ i → WalksOn w₀ f es w None
+  walk_ends i w at l ys s = (subst (λ (x : List Rela). Seen (ys ++ filter_map f x) w) (take_all i es l) (at ys s), Prim.tt {0})
 
 -- with the record that is read again
 pub walk_at :
-    (first seen : ℕ) (kept kept' : List ℕ) (r : Scan) (table a file : List ℕ) (k : ℕ) {t : Turn} {h : Record} → t ≡ turn_of table k
+    (w w' : Walk) (r : Option ℕ) (table a file : List ℕ) (k : ℕ) {t : Turn} {h : Record} → t ≡ turn_of table k
     → (again_refusal (image_in a t) file ≡ 0 → h ≡ again_record (image_in a t) file)
-    → WalksOn first seen kept (seen_of table a t h) (entries_of (image_in a t) h) kept' r → again_refusal (image_in a (turn_of table k)) file ≡ 0
-    → WalksOn first seen kept (seen_of table a (turn_of table k) (again_record (image_in a (turn_of table k)) file))
-    (entries_of (image_in a (turn_of table k)) (again_record (image_in a (turn_of table k)) file)) kept' r
-walk_at first seen kept kept' r table a file k {t} {h} e f walk z =
+    → WalksOn w (seen_of table a t h) (entries_of (image_in a t) h) w' r → again_refusal (image_in a (turn_of table k)) file ≡ 0
+    → WalksOn w (seen_of table a (turn_of table k) (again_record (image_in a (turn_of table k)) file))
+    (entries_of (image_in a (turn_of table k)) (again_record (image_in a (turn_of table k)) file)) w' r
+walk_at w w' r table a file k {t} {h} e f walk z =
     subst
     (λ (t : Turn).
-    WalksOn first seen kept (seen_of table a t (again_record (image_in a t) file))
-    (entries_of (image_in a t) (again_record (image_in a t) file)) kept' r)
+    WalksOn w (seen_of table a t (again_record (image_in a t) file))
+    (entries_of (image_in a t) (again_record (image_in a t) file)) w' r)
     e
-    (subst (λ (h : Record). WalksOn first seen kept (seen_of table a t h) (entries_of (image_in a t) h) kept' r)
+    (subst (λ (h : Record). WalksOn w (seen_of table a t h) (entries_of (image_in a t) h) w' r)
     (f (subst (λ (t : Turn). again_refusal (image_in a t) file ≡ 0) (sym e) z)) walk)
 
 -- ---- objects, one after another
@@ -145,7 +104,7 @@ module _ (table : List ℕ) (os : List Input) (a : List ℕ) (ks : List ℕ) whe
   of = copies_among table os a
 
   abbrev own : ℕ → List Copy
-  own k = gather (seen_at table os a k) (entries_at table os a k)
+  own k = filter_map (seen_at table os a k) (entries_at table os a k)
 
   among_append : (xs ys : List ℕ) → of (xs ++ ys) ≡ of xs ++ of ys
   unfolding copies_among
@@ -160,58 +119,52 @@ module _ (table : List ℕ) (os : List Input) (a : List ℕ) (ks : List ℕ) whe
       ∙ (ap of (take-suc ks i 0 l)
       ∙ (among_append (take i ks) (get_or ks i 0 ∷ []) ∙ ap (λ (l : List Copy). of (take i ks) ++ l) (append-nil (own (get_or ks i 0)))))
 
-  module _ (first : ℕ) where
-    -- before the object at the place `i`
-    abbrev pub Scanning : ℕ → ℕ → List ℕ → Type 0
-    Scanning i seen kept = Scanned first (of (take i ks)) seen × KeptCopies first (of (take i ks)) kept
+  -- before the object at the place `i`
+  abbrev pub Scanning : ℕ → Walk → Type 0
+  Scanning i w = Seen (of (take i ks)) w
 
-    pub scan_begin : (kept : List ℕ) → length kept ≡ 3 * round → Scanning 0 0 kept
-    unfolding copies_among EachApart
-    scan_begin kept l = (record { count = refl; apart = Prim.tt {0} }, kept_none first kept l)
+  pub scan_begin : (w : Walk) → w.seen ≡ 0 → w.kept.items ≡ [] → Scanning 0 w
+  unfolding copies_among EachApart
+  scan_begin w z e = record { count = sym z; apart = Prim.tt {0}; kept = e ∙ sym (ap (take round) (drop-nil w.first)) }
 
-    module _ (i seen : ℕ) (kept : List ℕ) (at : Scanning i seen kept) (l : i < length ks) (r : Scan) (kept' : List ℕ)
-        (walk : WalksOn first seen kept (seen_at table os a (get_or ks i 0)) (entries_at table os a (get_or ks i 0)) kept' r) where
-      pub scan_goes : r.hit ≡ false → Scanning (i + 1) r.seen kept'
-      scan_goes e =
-          subst (λ (x : List Copy). Scanned first x r.seen × KeptCopies first x kept') (sym (among_one i l))
-          ((walk (of (take i ks)) at.0 at.1).passed e)
+  module _ (i : ℕ) (w w' : Walk) (at : Scanning i w) (l : i < length ks) where
+    abbrev Walks : Option ℕ → Type 0
+    Walks r = WalksOn w (seen_at table os a (get_or ks i 0)) (entries_at table os a (get_or ks i 0)) w' r
 
-      pub scan_stops : r.hit ≡ true → Passed table os a ks first (record { seen = r.seen; hit = true; index = i; entry = r.entry })
-      scan_stops e =
-          let m = (walk (of (take i ks)) at.0 at.1).met e in
-          record { scanned = m.1; met = λ _. record { object = l; entry = m.0; some_copy = m.3; crossed = m.2 } }
+    pub scan_goes : Walks None → Scanning (i + 1) w'
+    scan_goes walk = rw (among_one i l) (walk (of (take i ks)) at).0
 
-    pub scan_ends :
-        (i n seen : ℕ) (kept : List ℕ) → Scanning i seen kept → length ks ≤ i
-        → Passed table os a ks first (record { seen = seen; hit = false; index = n; entry = 0 })
-    scan_ends i n seen kept at l =
-        record {
-          scanned = subst (λ (x : List ℕ). Scanned first (of x) seen) (take_all i ks l) at.0;
-          met = λ e. bool_clash (sym e);
-        }
+    pub scan_stops : (j : ℕ) → Walks (Some j) → Passed table os a ks w' (Some (record { index = i; entry = j }))
+    scan_stops j walk = let x = walk (of (take i ks)) at in record { scanned = x.0; met = record { object = l; crossed = x.1 } }
+
+  pub scan_ends : (i : ℕ) (w : Walk) → Scanning i w → length ks ≤ i → Passed table os a ks w None
+  scan_ends i w at l =
+      record { scanned = subst (λ (x : List ℕ). Seen (of x) w) (take_all i ks l) at; met = Prim.tt {0} }
 
   -- ---- round by round
 
-  abbrev Met : Bool → ℕ → ℕ → List Copy
-  Met = copies_met table os a ks
+  abbrev before : Option Crossing → List Copy
+  before = copies_met table os a ks
 
-  prefix : (h : Bool) (i j : ℕ) → (h ≡ true → CrossesAt table os a ks i j) → (rest : List Copy) × (Met h i j ++ rest ≡ of ks)
+  prefix : (m : Option Crossing) → Met table os a ks m → (rest : List Copy) × (before m ++ rest ≡ of ks)
   unfolding copies_among
-  prefix false i j g = ([], append-nil (of ks))
-  prefix true i j g =
+  prefix None g = ([], append-nil (of ks))
+  prefix (Some m) g =
+      let i : ℕ = m.index in
+      let j : ℕ = m.entry in
       let k : ℕ = get_or ks i 0 in
-      let f : Rela → Copy = seen_at table os a k in
+      let f : Rela → Option Copy = seen_at table os a k in
       let es : List Rela = entries_at table os a k in
       let front : List Copy = of (take i ks) in
-      let pre : List Copy = gather f (take j es) in
-      let post : List Copy = gather f (drop j es) in
+      let pre : List Copy = filter_map f (take j es) in
+      let post : List Copy = filter_map f (drop j es) in
       let back : List Copy = of (drop (suc i) ks) in (
         post ++ back,
         append_assoc front pre (post ++ back)
             ∙ (ap (λ (l : List Copy). front ++ l)
             (sym (append_assoc pre post back)
-            ∙ ap (λ (l : List Copy). l ++ back) (sym (gather_append f (take j es) (drop j es)) ∙ ap (gather f) (take-append-drop j es)))
-            ∙ (sym (among_append (take i ks) (k ∷ drop (suc i) ks)) ∙ ap of (sym (split_at ks i 0 (g refl).object)))),
+            ∙ ap (λ (l : List Copy). l ++ back) (sym (filter_map-append f (take j es) (drop j es)) ∙ ap (filter_map f) (take-append-drop j es)))
+            ∙ (sym (among_append (take i ks) (k ∷ drop (suc i) ks)) ∙ ap of (sym (split_at ks i 0 g.object)))),
       )
 
   longer_of : (xs xr ys yr : List Copy) → xs ++ xr ≡ ys ++ yr → length xs ≤ length ys → (z : List Copy) × (ys ≡ xs ++ z)
@@ -223,76 +176,54 @@ module _ (table : List ℕ) (os : List Input) (a : List ℕ) (ks : List ℕ) whe
       let r = longer_of xs xr ys yr t (omega arith) in
       (r.0, ap (λ (l : List Copy). y ∷ l) r.1 ∙ ap (λ (c : Copy). c ∷ (xs ++ r.0)) (sym h))
 
-  -- before the round from `first` on
-  pub record Searching (first : ℕ) (m : Crossing) : Type 0 where
-    pub count : length (Met m.hit m.index m.entry) ≡ m.seen
-    pub apart : EachApart (take first) [] (Met m.hit m.index m.entry)
-    pub met : m.hit ≡ true → CrossesAt table os a ks m.index m.entry
+  -- before the round from `first` on; `many` copies stand before what is met
+  pub record Searching (first many : ℕ) (m : Option Crossing) : Type 0 where
+    pub count : length (before m) ≡ many
+    pub apart : EachApart (take first) [] (before m)
+    pub met : Met table os a ks m
 
-  pub search_begin : (m : Crossing) → Passed table os a ks 0 m → Searching round m
-  search_begin m p = record { count = p.scanned.count; apart = p.scanned.apart; met = p.met }
+  pub search_begin : (w : Walk) (m : Option Crossing) → w.first ≡ 0 → Passed table os a ks w m → Searching round w.seen m
+  search_begin w m e p =
+      record { count = p.scanned.count; apart = subst (λ (n : ℕ). EachApart (compared n) [] (before m)) e p.scanned.apart; met = p.met }
 
-  module _ (first : ℕ) (m q : Crossing) (now : Searching first m) (p : Passed table os a ks first q) where
-    abbrev X : List Copy
-    X = Met m.hit m.index m.entry
+  module _ (first many : ℕ) (m q : Option Crossing) (w : Walk) (now : Searching first many m) (p : Passed table os a ks w q) (here : w.first ≡ first) where
+    both_lists : before m ++ (prefix m now.met).0 ≡ before q ++ (prefix q p.met).0
+    both_lists = (prefix m now.met).1 ∙ sym (prefix q p.met).1
 
-    abbrev Y : List Copy
-    Y = Met q.hit q.index q.entry
+    in_round : EachApart (compared first) [] (before q)
+    in_round = subst (λ (n : ℕ). EachApart (compared n) [] (before q)) here p.scanned.apart
 
-    both_lists : X ++ (prefix m.hit m.index m.entry now.met).0 ≡ Y ++ (prefix q.hit q.index q.entry p.met).0
-    both_lists = (prefix m.hit m.index m.entry now.met).1 ∙ sym (prefix q.hit q.index q.entry p.met).1
-
-    keep_m : length X ≤ length Y → Searching (first + round) m
-    keep_m l =
-        let z = longer_of X _ Y _ both_lists l in
-        let s = subst (λ (l : List Copy). EachApart (compared first) [] l) z.1 p.scanned.apart in
+    pub search_keeps : many ≤ w.seen → Searching (first + round) many m
+    search_keeps l =
+        let z = longer_of (before m) _ (before q) _ both_lists (omega (arith, now.count, p.scanned.count)) in
+        let s = subst (λ (l : List Copy). EachApart (compared first) [] l) z.1 in_round in
         record {
           count = now.count;
-          apart = apart_more first round [] X now.apart (apart_left (compared first) [] X z.0 s);
+          apart = apart_more first round [] (before m) now.apart (apart_left (compared first) [] (before m) z.0 s);
           met = now.met;
         }
 
-    take_q : length Y ≤ length X → Searching (first + round) q
-    take_q l =
-        let z = longer_of Y _ X _ (sym both_lists) l in
+    pub search_takes : w.seen < many → Searching (first + round) w.seen q
+    search_takes l =
+        let z = longer_of (before q) _ (before m) _ (sym both_lists) (omega (arith, now.count, p.scanned.count)) in
         let s = subst (λ (l : List Copy). EachApart (take first) [] l) z.1 now.apart in
         record {
           count = p.scanned.count;
-          apart = apart_more first round [] Y (apart_left (take first) [] Y z.0 s) p.scanned.apart;
+          apart = apart_more first round [] (before q) (apart_left (take first) [] (before q) z.0 s) in_round;
           met = p.met;
         }
 
-    pub search_goes : Searching (first + round) (earlier_of m q)
-    search_goes = go q.hit refl
-      where
-        whole : q.hit ≡ false → length X ≤ length Y
-        whole e =
-            let r = prefix m.hit m.index m.entry now.met in
-            let y : Y ≡ of ks = ap (λ (h : Bool). Met h q.index q.entry) e in
-            let s : length X + length r.0 ≡ length Y = sym (length-append X r.0) ∙ ap length (r.1 ∙ sym y) in
-            omega arith
-
-        go : (h : Bool) → q.hit ≡ h → Searching (first + round) (pick h (pick (leb m.seen q.seen) m q) m)
-        go false e = keep_m (whole e)
-        go true e = which (leb m.seen q.seen) refl
-          where
-            which : (b : Bool) → leb m.seen q.seen ≡ b → Searching (first + round) (pick b m q)
-            which true g = keep_m (let x = leb-true m.seen q.seen g in omega (arith, now.count, p.scanned.count))
-            which false g = take_q (let x = leb-false m.seen q.seen g in omega (arith, now.count, p.scanned.count))
-
-  pub search_ends : (first : ℕ) (m : Crossing) → Searching first m → m.seen ≤ first → FirstCrossing table os a ks m
-  search_ends first m s l =
-      record { quiet = apart_all first [] (Met m.hit m.index m.entry) (omega (arith, s.count)) s.apart; met = s.met }
+  pub search_ends : (first many : ℕ) (m : Option Crossing) → Searching first many m → many ≤ first → FirstCrossing table os a ks m
+  search_ends first many m s l = record { quiet = apart_all first [] (before m) (omega (arith, s.count)) s.apart; met = s.met }
 
 -- the walk over the object at the place `i` of an order
 pub walk_here :
-    (table : List ℕ) (os : List Input) (a ks : List ℕ) (i : ℕ) → i < length ks
-    → (first seen : ℕ) (kept kept' : List ℕ) (r : Scan) {file : List ℕ}
+    (table : List ℕ) (os : List Input) (a ks : List ℕ) (i : ℕ) → i < length ks → (w w' : Walk) (r : Option ℕ) {file : List ℕ}
     → file ≡ (get_or os (get_or ks i 0) no_input).file
     → (again_refusal (image_in a (turn_of table (get_or ks i 0))) file ≡ 0
-    → WalksOn first seen kept (seen_of table a (turn_of table (get_or ks i 0)) (again_record (image_in a (turn_of table (get_or ks i 0))) file))
-    (entries_of (image_in a (turn_of table (get_or ks i 0))) (again_record (image_in a (turn_of table (get_or ks i 0))) file)) kept' r)
+    → WalksOn w (seen_of table a (turn_of table (get_or ks i 0)) (again_record (image_in a (turn_of table (get_or ks i 0))) file))
+    (entries_of (image_in a (turn_of table (get_or ks i 0))) (again_record (image_in a (turn_of table (get_or ks i 0))) file)) w' r)
     → Readable table os a ks
-    → WalksOn first seen kept (seen_at table os a (get_or ks i 0)) (entries_at table os a (get_or ks i 0)) kept' r
-walk_here table os a ks i l first seen kept kept' r f walk read =
+    → WalksOn w (seen_at table os a (get_or ks i 0)) (entries_at table os a (get_or ks i 0)) w' r
+walk_here table os a ks i l w w' r f walk read =
     rw (← f) (walk (rw f (read i l)))

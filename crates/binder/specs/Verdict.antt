@@ -6,7 +6,7 @@ use Rattle.model.specs.Symbols.{Definition, Resolved, absent, answer}
 use Rattle.model.specs.Objects.{Objs, obj}
 use Rattle.model.specs.Scope.{resolve, resolve_copy}
 use Rattle.model.specs.Relocation.{address_or0}
-use Rattle.words.specs.Refusal.{number_of}
+use Rattle.words.specs.Refusal.{refusal_number}
 use Rattle.words.specs.declared.refusal.Refusal.{Refusal}
 use Rattle.object.specs.Refusal.{require}
 use Rattle.object.specs.TableBytes.{in_writable}
@@ -78,7 +78,7 @@ field_refusal base r e f s =
 
 -- 14 and 15 of the entry's symbol, else what follows
 abbrev pub symbol_then : Result Symbol Refusal → (Symbol → ℕ) → ℕ
-symbol_then (Err x) rest = number_of x
+symbol_then (Err x) rest = refusal_number x
 symbol_then (Ok y) rest = rest y
 
 -- 14 to 18, 22 and 25 of an entry, by the row of its type

@@ -3,13 +3,12 @@ ghost use Rattle.std.specs.Prelude.{◌≡◌, ◌^◌, ◌<◌, ◌≤◌, leng
 ghost use Rattle.sheet.specs.Sheet.{no_input};
 ghost use Rattle.binder.specs.Setting.{setting_of};
 ghost use Rattle.binder.specs.Bind.{outcome, bind_of, allows};
-ghost use Rattle.scope.specs.Steps.Links.{Filtered};
-ghost use Rattle.binder.specs.Verdict.{verdict};
 ghost use Rattle.binder.specs.Steps.Finished.{ends_by, UntilReadable, Crossed, RelocatedOr, BoundSet, finished_of};
 
 use crate::crossing::Crossing;
 use crate::report::Progress;
 use crate::{Policy, Refused};
+use scope::links::Links;
 use sheet::sheet::Set;
 use words::refusal::Refusal;
 
@@ -23,26 +22,11 @@ fn allows_undefined(policy: Policy, undefined: u32) -> bool
     }
 }
 
-// The refusal that relocating met: 14 to 18, 22 or 25.
-#[tactic(auto, unfolding(crate::specs::Verdict::verdict))]
-fn met(p: Progress) -> Result<(), Refused>
-    ensures { result ≡ verdict p.refusal p.object }
-{
-    if p.refusal != 0 {
-        return Err(Refused {
-            number: p.refusal,
-            object: p.object,
-        });
-    }
-    Ok(())
-}
-
-// The refusal of relocating: that one, then 19, then 20.
-#[tactic(auto, unfolding(crate::specs::Steps::Finished::ends_by, crate::specs::Verdict::verdict, crate::specs::Bind::unless))]
+// What is refused at the end of relocating: 19, then 20.
+#[tactic(auto, unfolding(crate::specs::Steps::Finished::ends_by, crate::specs::Bind::unless))]
 fn end(p: Progress, policy: Policy) -> Result<(), Refused>
     ensures { result ≡ ends_by policy p }
 {
-    met(p)?;
     if !allows_undefined(policy, p.undefined) {
         return Err(Refused::new(Refusal::Undefined, p.undefined));
     }
@@ -57,44 +41,46 @@ fn crossed(
     set: &Set,
     arena: &mut [u8],
     report: &mut [u32],
-    table: &[u64],
+    links: &Links,
     order: &[u32],
     m: Crossing,
 ) -> Result<(), Refused>
-    requires { (length order.now ≤ 64) × (m.index < length order.now) × (m.entry ≤ 2 ^ 33) × Filtered table.now }
-    ensures { UntilReadable set.now table.now order.now m.index arena.old report.old → Crossed set.now table.now order.now m.index m.entry arena.old report.old result }
+    requires { (length order.now ≤ 64) × (m.index < length order.now) × (m.entry ≤ 2 ^ 33) }
+    ensures { UntilReadable set.now links.now order.now m.index arena.old report.old → Crossed set.now links.now order.now m.index m.entry arena.old report.old result }
 {
     let i = m.index;
-    let p = crate::relocate::run_order(set, arena, report, table, &order[..i]);
-    met(p)?;
+    let mut p = Progress::new();
+    crate::relocate::run_order(set, arena, report, &mut p, links, &order[..i])?;
     let k = order[i];
     let file = set.file(k as usize);
-    let q = crate::relocate::run_until(arena, report, p, table, k, file, m.entry + 1);
-    met(q)?;
+    crate::relocate::run_until(arena, report, &mut p, links, k, file, m.entry + 1)?;
     Err(Refused::new(Refusal::Crossing, k))
 }
 
-// Refusals 14 to 20, 22, 25 and 28 of the objects of the set, which are loaded: they are relocated in any order of them.
+// Refusals 14 to 20, 22, 25 and 28 of the objects of the set, which are loaded: they are relocated in any order of them. The order is a plain
+// slice, as a caller's own may be, so each function of a set asks for at most 64 numbers by a clause: no type says it.
 pub fn bind_in(
     set: &Set,
     arena: &mut [u8],
     policy: Policy,
     report: &mut [u32],
-    table: &[u64],
+    links: &Links,
     order: &[u32],
 ) -> Result<(), Refused>
-    requires { (length order.now ≤ 64) × Filtered table.now }
-    ensures { RelocatedOr set.now table.now order.now arena.old policy report.old arena.new report.new result }
+    requires { length order.now ≤ 64 }
+    ensures { RelocatedOr set.now links.now order.now arena.old policy report.old arena.new report.new result }
 {
-    let m = crate::crossing::crossing_in(set, arena, table, order);
-    if m.hit {
-        return crossed(set, arena, report, table, order, m);
+    if let Some(m) = crate::crossing::crossing_in(set, arena, links, order) {
+        return crossed(set, arena, report, links, order, m);
     }
-    let p = crate::relocate::run_order(set, arena, report, table, order);
+    let mut p = Progress::new();
+    crate::relocate::run_order(set, arena, report, &mut p, links, order)?;
     end(p, policy)
 }
 
-// Refusals 2 to 25 of the set's objects, bound in the order of the set.
+// Refusals 2 to 25 of the set's objects, bound in the order of the set. `Set::of` gives the two objects; no invariant says it, since
+// `Set::from_objects` makes smaller sets. The caller clears the report; a slice of words has no type that says so. The
+// parameters are the public call's own, one for each thing of the C call.
 fn bind_set(
     set: &Set,
     arena: &mut [u8],
@@ -108,14 +94,13 @@ fn bind_set(
     ensures { BoundSet (setting_of address types.now) set.now (length arena.old) policy (length report.old) arena.new report.new result }
 {
     let mut table = [0u64; 1090];
-    let v = crate::types::types_verdict(types);
-    crate::prepare::prepare(set, arena, address, v, &mut table)?;
-    crate::types::put_types(&mut table, types);
+    crate::prepare::prepare_to_bind(set, arena, address, types, &mut table)?;
     let order = crate::needs::order_of(set, arena, &table);
-    bind_in(set, arena, policy, report, &table, &order)
+    bind_in(set, arena, policy, report, &Links::of(&table), &order)
 }
 
-// The answer; a refusal leaves zeros. No other function clears after a refusal of a call that binds.
+// The answer; a refusal leaves zeros. No other function clears after a refusal of a call that binds. Four functions `finish`, since each says
+// another outcome: `outcome`, `replied`, `replied_all` and `listing` are constructors of different types.
 #[tactic(auto, using(crate::proofs::OutcomeLaws::finish_bound, crate::proofs::OutcomeLaws::keep_bound))]
 pub(crate) fn finish(
     m: Result<(), Refused>,

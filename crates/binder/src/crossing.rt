@@ -1,25 +1,26 @@
 // COPY entries whose places cross, refusal 28: the first entry of an order whose copy crosses an earlier one. Copies do not depend on what
 // relocation writes, so they are looked at before it, over the placed bytes.
-ghost use Rattle.std.specs.Prelude.{◌≡◌, ◌+◌, ◌-◌, ◌*◌, ◌^◌, ◌<◌, ◌≤◌, min, max, true, false, length, take, nat_le, nat_lt, slice_index_or, IfSome};
+ghost use Rattle.std.specs.Prelude.{◌≡◌, ◌+◌, ◌-◌, ◌*◌, ◌^◌, ◌<◌, ◌≤◌, min, max, true, false, ℕ, List, length, take, ◌==◌, nat_le, nat_lt, slice_index_or, IfSome, [], ◌∷◌, ◌++◌};
+ghost use Rattle.std.specs.List.{list_any, range_with_len};
 ghost use Rattle.words.specs.Choice.{pick, both, some};
 ghost use Rattle.object.specs.Entries.{rela_at, relas_from};
 ghost use Rattle.object.specs.Steps.Actions.{row_by};
 ghost use Rattle.object.specs.Record.{held_by};
-ghost use Rattle.scope.specs.Steps.Links.{Filtered};
 ghost use Rattle.binder.specs.Copies.{meets, crosses};
 ghost use Rattle.binder.specs.Steps.Relocating.{image_in, again_refusal, again_record, turn_of, row_at};
-ghost use Rattle.binder.specs.Steps.Crossing.{copies_row, empty_copy, copy_linked, seen_of, entries_by, entries_of, tables_of, no_rela, round, kept_at, kept_from, kept_with, WalksOn, Readable, Passed, FirstCrossing, Bounded, earlier_of, no_claim, claim_of, window, MarksTaken, ClaimedIn, ClaimsApart, NoCopies, PlainlyApart, CrossingIn};
+ghost use Rattle.binder.specs.Steps.Crossing.{copies_row, copy_linked, seen_of, entries_by, entries_of, tables_of, no_rela, round, WalksOn, Readable, Passed, FirstCrossing, Bounded, claim_of, window, MarksTaken, ClaimedIn, ClaimsApart, NoCopies, PlainlyApart, CrossingIn};
 
 use crate::turn::Turn;
+use arrayvec::ArrayVec;
 use object::dynamic_fields::ObjectData;
 use object::hash_tables::Definition;
 use object::relocate::{Action, Rela};
-use scope::links::Link;
+use scope::links::{Link, Links};
 use sheet::sheet::Set;
 use words::word::Word;
 
-// `size` bytes from the arena offset `source` to the arena offset `to`; 0 bytes are no copy.
-#[derive(Clone, Copy)]
+// `size` bytes from the arena offset `source` to the arena offset `to`.
+#[derive(Clone, Copy, Default)]
 pub struct Copy {
     pub to: usize,
     pub source: usize,
@@ -43,6 +44,41 @@ pub struct Tables {
     pub plts: u32,
 }
 
+impl Tables {
+    fn of(o: &ObjectData) -> Tables
+        ensures { result ≡ tables_of (held_by o.now) }
+    {
+        Tables {
+            symbols: o.symbols,
+            rela: o.rela,
+            relas: crate::relr::cut_to_32(o.relas),
+            plt: o.plt,
+            plts: crate::relr::cut_to_32(o.plts),
+        }
+    }
+
+    // How many entries RELA and PLT have.
+    fn count(self) -> usize
+        ensures { result ≡ self.relas + self.plts }
+    {
+        self.relas as usize + self.plts as usize
+    }
+
+    // Where the table of entry `i` of both stands, and the entry's number there. The bound is a clause: `i` is a plain number that a loop counts.
+    #[tactic(auto, using(crate::proofs::ClaimLaws::entry_first, crate::proofs::ClaimLaws::entry_second))]
+    fn place(self, i: usize) -> (usize, u32)
+        requires { i < self.relas + self.plts }
+        ensures { (image : List ℕ) → rela_at image result.0 result.1 ≡ slice_index_or (entries_by image self) i no_rela }
+    {
+        let relas = self.relas as usize;
+        if i < relas {
+            (self.rela, i as u32)
+        } else {
+            (self.plt, (i - relas) as u32)
+        }
+    }
+}
+
 // ---- ranges
 
 // Whether `a` is below `b` + `n`.
@@ -53,12 +89,14 @@ fn below_sum(a: usize, b: usize, n: usize) -> bool
 }
 
 // Whether `n` bytes at `at` and `m` bytes at `other` have a byte in common.
+#[tactic(auto, unfolding(crate::specs::Copies::meets))]
 fn ranges_meet(at: usize, n: usize, other: usize, m: usize) -> bool
     ensures { result ≡ meets at n other m }
 {
     below_sum(at, other, m) && below_sum(other, at, n)
 }
 
+#[tactic(auto, unfolding(crate::specs::Copies::crosses))]
 fn copies_cross(c: Copy, d: Copy) -> bool
     ensures { result ≡ crosses c d }
 {
@@ -67,114 +105,76 @@ fn copies_cross(c: Copy, d: Copy) -> bool
         || ranges_meet(c.to, c.size, d.source, d.size)
 }
 
-// ---- the copies that are kept: up to 1,024, three words each
+// ---- a walk over copies
 
-// Copy `j` of those.
-fn kept_at(kept: &[usize], j: usize) -> Copy
-    requires { 3 * j + 3 ≤ length kept.now }
-    ensures { result ≡ kept_at kept.now j }
-{
-    Copy {
-        to: kept[3 * j],
-        source: kept[3 * j + 1],
-        size: kept[3 * j + 2],
+// How many copies it has seen, and those of them that later ones are compared with: up to 1,024 from number `first` on.
+#[derive(Drop)]
+pub struct Walk {
+    pub first: usize,
+    pub seen: usize,
+    pub kept: ArrayVec<Copy, 1024>,
+}
+
+impl Walk {
+    // Before the first copy.
+    fn begin(&mut self, first: usize)
+        ensures { (self.new.first ≡ first) × (self.new.seen ≡ 0) × (self.new.kept.items ≡ []) }
+    {
+        self.first = first;
+        self.seen = 0;
+        self.kept.clear();
     }
-}
 
-// Whether the copy crosses one of the first `n`.
-fn crosses_kept(kept: &[usize], n: usize, c: Copy) -> bool
-    requires { 3 * n ≤ length kept.now }
-    ensures { result ≡ some (crosses c) (kept_from kept.now 0 n) }
-{
-    for j in 0..n {
-        if copies_cross(c, kept_at(kept, j)) {
-            return true;
-        }
+    // Whether the copy crosses one that is kept.
+    fn crosses(&self, c: Copy) -> bool
+        ensures { result ≡ list_any (crosses c) self.now.kept.items }
+    {
+        self.kept.iter().any(|d| copies_cross(c, *d))
     }
-    false
-}
 
-// The copy becomes copy `j` of those.
-fn keep_at(kept: &mut [usize], j: usize, c: Copy)
-    requires { 3 * j + 3 ≤ length kept.old }
-    ensures { kept.new ≡ kept_with kept.old j c }
-{
-    kept[3 * j] = c.to;
-    kept[3 * j + 1] = c.source;
-    kept[3 * j + 2] = c.size;
-}
-
-// The copy, before which `seen` others were seen, is kept where it is one of the 1,024 from number `first` on.
-fn keep_copy(kept: &mut [usize], first: usize, seen: usize, c: Copy)
-    requires { length kept.old ≡ 3 * round }
-    ensures { kept.new ≡ pick (both (nat_le first seen) (nat_lt (seen - first) round)) (kept_with kept.old (seen - first) c) kept.old }
-{
-    if first <= seen {
-        if seen - first < 1024 {
-            keep_at(kept, seen - first, c);
+    // Past the copy, which is kept where it is one of those.
+    fn pass(&mut self, c: Copy)
+        requires { self.old.seen < 2 ^ 63 }
+        ensures same { self.new.first ≡ self.old.first }
+        ensures count { self.new.seen ≡ self.old.seen + 1 }
+        ensures kept { self.new.kept.items ≡ pick (both (nat_le self.old.first self.old.seen) (nat_lt (length self.old.kept.items) round)) (self.old.kept.items ++ c ∷ []) self.old.kept.items }
+    {
+        if self.first <= self.seen && !self.kept.is_full() {
+            self.kept.push(c);
         }
+        self.seen += 1;
     }
 }
 
 // ---- an object
-
-fn no_copy() -> Copy
-    ensures { result ≡ empty_copy }
-{
-    Copy {
-        to: 0,
-        source: 0,
-        size: 0,
-    }
-}
 
 // The record of an object that was loaded, read again from its placed bytes. No Option: what was loaded is not refused, and nothing is said of
 // a record that is.
 pub(crate) fn record_again(arena: &[u8], t: Turn, file: &[u8]) -> ObjectData
     ensures { again_refusal (image_in arena.now t) file.now ≡ 0 → held_by result ≡ again_record (image_in arena.now t) file.now }
 {
-    let Some(loads) = object::program_header::read_loads(file) else {
+    let Ok(loads) = object::program_header::read_loads(file) else {
         return ObjectData::default();
     };
     let image = crate::turn::image_of(arena, t);
     let d = object::program_header::dynamic_at(file);
-    match object::dynamic_fields::read_fields(image, loads, d) {
-        Ok(o) => o,
-        Err(_) => ObjectData::default(),
-    }
+    object::dynamic_fields::read_fields(image, &loads, d).unwrap_or_default()
 }
 
 // Entry `i` of RELA and PLT.
-fn entry_at(arena: &[u8], t: Turn, o: &ObjectData, i: usize) -> Rela
-    requires { i < length (entries_of (image_in arena.now t) (held_by o.now)) }
-    ensures { result ≡ slice_index_or (entries_of (image_in arena.now t) (held_by o.now)) i no_rela }
+fn entry_at(arena: &[u8], t: Turn, r: Tables, i: usize) -> Rela
+    requires { i < r.relas + r.plts }
+    ensures { result ≡ slice_index_or (entries_by (image_in arena.now t) r) i no_rela }
 {
-    let relas = crate::relr::cut_to_32(o.relas);
-    if i < relas as usize {
-        return crate::relocate::rela_in(arena, t, o.rela, i as u32);
-    }
-    crate::relocate::rela_in(arena, t, o.plt, (i - relas as usize) as u32)
-}
-
-fn copies_by(a: Action) -> bool
-    ensures { result ≡ copies_row (row_by a) }
-{
-    match a {
-        Action::Ignored => false,
-        Action::Passed => false,
-        Action::Irelative => false,
-        Action::Refused => false,
-        Action::Relative => false,
-        Action::Symbolic(f) => false,
-        Action::Copy => true,
-    }
+    let (at, k) = r.place(i);
+    crate::relocate::rela_in(arena, t, at, k)
 }
 
 // Whether entries of a type copy.
-fn is_copy(table: &[u64], rtype: u32) -> bool
-    ensures { result ≡ copies_row (row_at table.now rtype) }
+fn is_copy(links: &Links, rtype: u32) -> bool
+    ensures { result ≡ copies_row (row_at links.now rtype) }
 {
-    copies_by(crate::types::action_at(table, rtype))
+    matches!(crate::types::action_at(links, rtype), Action::Copy)
 }
 
 // The same, where both ranges end inside `size` bytes.
@@ -191,174 +191,124 @@ fn copy_inside(size: usize, t: Turn, to: usize, s: Link, d: Definition, n: usize
 }
 
 // The copy of `n` bytes of the definition `d`, in the object at the link `s`, to the place `to`; none, where refusal 18 meets it.
-fn copy_range(size: usize, t: Turn, to: usize, s: Link, d: Definition, n: usize) -> Copy
+#[tactic(auto, using(crate::proofs::CrossCode::fits_sums), unfolding(crate::specs::Steps::Crossing::copy_linked))]
+fn copy_range(size: usize, t: Turn, to: usize, s: Link, d: Definition, n: usize) -> Option<Copy>
     ensures { result ≡ copy_linked size t to s d n }
 {
-    if !crate::copy::copy_fits(size, t, to, s, d, n) {
-        return no_copy();
+    if n == 0 || !crate::copy::copy_fits(size, t, to, s, d, n) {
+        return None;
     }
-    copy_inside(size, t, to, s, d, n)
+    Some(copy_inside(size, t, to, s, d, n))
 }
 
 // The copy that an entry makes; none, where refusal 14, 15 or 18 meets the entry.
-fn copy_of(arena: &[u8], table: &[u64], t: Turn, o: &ObjectData, e: Rela) -> Copy
-    requires { Filtered table.now }
-    ensures { result ≡ seen_of table.now arena.now t (held_by o.now) e }
+#[tactic(auto, using(crate::proofs::CrossCode::copies_row_lem, crate::proofs::CrossCode::no_copies_row, crate::proofs::CrossCode::copy_refused))]
+fn copy_of(arena: &[u8], links: &Links, t: Turn, o: &ObjectData, e: Rela) -> Option<Copy>
+    ensures { result ≡ seen_of links.now arena.now t (held_by o.now) e }
 {
-    if !is_copy(table, e.rtype) {
-        return no_copy();
+    if !is_copy(links, e.rtype) {
+        return None;
     }
-    let Ok(y) = crate::relocate::symbol_of(arena, t, o, e.symbol) else {
-        return no_copy();
-    };
-    let Some(found) = crate::relocate::search_copy(arena, table, t, o.strings, y.name) else {
-        return no_copy();
-    };
+    let y = crate::relocate::symbol_of(arena, t, o, e.symbol).ok()?;
+    let found = crate::relocate::search_copy(arena, links, t, o.strings, y.name)?;
     let n = (y.size as usize).min(found.definition.size as usize);
-    let link = scope::links::link_at(table, found.object);
+    let link = links.link(found.object);
     copy_range(arena.len(), t, e.place, link, found.definition, n)
 }
 
-// How far a walk over copies came: how many it has seen, and whether the entry with that number crosses an earlier one.
-#[derive(Clone, Copy)]
-pub struct Scan {
-    pub seen: usize,
-    pub hit: bool,
-    pub entry: usize,
-}
-
-// The copies of an object's entries, after `seen` others: each is compared with those that are kept, and kept where there is room.
+// The first of an object's entries whose copy crosses one that is kept.
 fn scan_object(
     arena: &[u8],
-    table: &[u64],
+    links: &Links,
     t: Turn,
     o: &ObjectData,
-    kept: &mut [usize],
-    first: usize,
-    seen: usize,
-) -> Scan
-    requires { Filtered table.now × (length kept.old ≡ 3 * round) × (seen ≤ 2 ^ 62) }
-    ensures { (result.seen ≤ seen + 2 ^ 33) × (result.entry ≤ 2 ^ 33) × (length kept.new ≡ 3 * round) × WalksOn first seen kept.old (seen_of table.now arena.now t (held_by o.now)) (entries_of (image_in arena.now t) (held_by o.now)) kept.new result }
+    walk: &mut Walk,
+) -> Option<usize>
+    requires { walk.old.seen ≤ 2 ^ 62 }
+    ensures { (walk.new.first ≡ walk.old.first) × (walk.new.seen ≤ walk.old.seen + 2 ^ 33) × IfSome result (λ j. j ≤ 2 ^ 33) × WalksOn walk.old (seen_of links.now arena.now t (held_by o.now)) (entries_of (image_in arena.now t) (held_by o.now)) walk.new result }
 {
-    let n = crate::relr::cut_to_32(o.relas) as usize + crate::relr::cut_to_32(o.plts) as usize;
-    let mut s = seen;
-    for i in 0..n {
-        let c = copy_of(arena, table, t, o, entry_at(arena, t, o, i));
-        if c.size != 0 {
-            if crosses_kept(kept, s.saturating_sub(first).min(1024), c) {
-                return Scan {
-                    seen: s,
-                    hit: true,
-                    entry: i,
-                };
+    let r = Tables::of(o);
+    for i in 0..r.count() {
+        if let Some(c) = copy_of(arena, links, t, o, entry_at(arena, t, r, i)) {
+            if walk.crosses(c) {
+                return Some(i);
             }
-            keep_copy(kept, first, s, c);
-            s += 1;
+            walk.pass(c);
         }
     }
-    Scan {
-        seen: s,
-        hit: false,
-        entry: n,
-    }
+    None
 }
 
-fn scan_at(
-    arena: &[u8],
-    table: &[u64],
-    k: u32,
-    file: &[u8],
-    kept: &mut [usize],
-    first: usize,
-    seen: usize,
-) -> Scan
-    requires { Filtered table.now × (length kept.old ≡ 3 * round) × (seen ≤ 2 ^ 62) }
-    ensures { (result.seen ≤ seen + 2 ^ 33) × (result.entry ≤ 2 ^ 33) × (length kept.new ≡ 3 * round) × (again_refusal (image_in arena.now (turn_of table.now k)) file.now ≡ 0 → WalksOn first seen kept.old (seen_of table.now arena.now (turn_of table.now k) (again_record (image_in arena.now (turn_of table.now k)) file.now)) (entries_of (image_in arena.now (turn_of table.now k)) (again_record (image_in arena.now (turn_of table.now k)) file.now)) kept.new result) }
+fn scan_at(arena: &[u8], links: &Links, k: u32, file: &[u8], walk: &mut Walk) -> Option<usize>
+    requires { walk.old.seen ≤ 2 ^ 62 }
+    ensures { (walk.new.first ≡ walk.old.first) × (walk.new.seen ≤ walk.old.seen + 2 ^ 33) × IfSome result (λ j. j ≤ 2 ^ 33) × (again_refusal (image_in arena.now (turn_of links.now k)) file.now ≡ 0 → WalksOn walk.old (seen_of links.now arena.now (turn_of links.now k) (again_record (image_in arena.now (turn_of links.now k)) file.now)) (entries_of (image_in arena.now (turn_of links.now k)) (again_record (image_in arena.now (turn_of links.now k)) file.now)) walk.new result) }
 {
-    let t = crate::turn::turn_of(table, k);
+    let t = crate::turn::turn_of(links, k);
     let o = record_again(arena, t, file);
-    scan_object(arena, table, t, &o, kept, first, seen)
+    scan_object(arena, links, t, &o, walk)
 }
 
 // ---- an order
 
-// The first entry whose copy crosses an earlier one, if any: its object's place in the order, its number, and how many copies stand before it.
+// An entry whose copy crosses an earlier one: its object's place in the order, and its number.
 #[derive(Clone, Copy)]
 pub struct Crossing {
-    pub seen: usize,
-    pub hit: bool,
     pub index: usize,
     pub entry: usize,
 }
 
-// The first that crosses one of the 1,024 copies from number `first` on.
+// The first entry of an order whose copy crosses one that is kept. Set, arena, links and order come apart, as `bind_in`, a public function, has
+// them: a struct of the four would serve the four functions here alone.
 fn scan_order(
     set: &Set,
     arena: &[u8],
-    table: &[u64],
+    links: &Links,
     order: &[u32],
-    kept: &mut [usize],
-    first: usize,
-) -> Crossing
-    requires { (length order.now ≤ 64) × Filtered table.now × (length kept.old ≡ 3 * round) }
-    ensures { Bounded (length order.now) result × (result.seen ≤ 2 ^ 62) × (length kept.new ≡ 3 * round) × (Readable table.now set.now arena.now order.now → Passed table.now set.now arena.now order.now first result) }
+    walk: &mut Walk,
+) -> Option<Crossing>
+    requires { (length order.now ≤ 64) × (walk.old.seen ≡ 0) × (walk.old.kept.items ≡ []) }
+    ensures { IfSome result (Bounded (length order.now)) × (walk.new.first ≡ walk.old.first) × (walk.new.seen ≤ 2 ^ 62) × (Readable links.now set.now arena.now order.now → Passed links.now set.now arena.now order.now walk.new result) }
 {
-    let mut seen = 0;
     for (i, k) in order.iter().enumerate() {
         let k = *k;
         let file = set.file(k as usize);
-        let s = scan_at(arena, table, k, file, kept, first, seen);
-        if s.hit {
-            return Crossing {
-                seen: s.seen,
-                hit: true,
-                index: i,
-                entry: s.entry,
-            };
+        if let Some(entry) = scan_at(arena, links, k, file, walk) {
+            return Some(Crossing { index: i, entry });
         }
-        seen = s.seen;
     }
-    Crossing {
-        seen: seen,
-        hit: false,
-        index: order.len(),
-        entry: 0,
-    }
-}
-
-// What was met first.
-fn earlier_of(m: Crossing, q: Crossing) -> Crossing
-    ensures { result ≡ earlier_of m q }
-{
-    if !q.hit {
-        return m;
-    }
-    if m.seen <= q.seen {
-        return m;
-    }
-    q
+    None
 }
 
 // The first that crosses an earlier one: 1,024 earlier ones at a time.
-fn first_crossing(set: &Set, arena: &[u8], table: &[u64], order: &[u32]) -> Crossing
-    requires { (length order.now ≤ 64) × Filtered table.now }
-    ensures { Bounded (length order.now) result × (Readable table.now set.now arena.now order.now → FirstCrossing table.now set.now arena.now order.now result) }
+fn first_crossing(set: &Set, arena: &[u8], links: &Links, order: &[u32]) -> Option<Crossing>
+    requires { length order.now ≤ 64 }
+    ensures { IfSome result (Bounded (length order.now)) × (Readable links.now set.now arena.now order.now → FirstCrossing links.now set.now arena.now order.now result) }
 {
-    let mut kept = [0usize; 3072];
-    let mut m = scan_order(set, arena, table, order, &mut kept, 0);
+    let mut walk = Walk {
+        first: 0,
+        seen: 0,
+        kept: ArrayVec::new(),
+    };
+    let mut met = scan_order(set, arena, links, order, &mut walk);
+    // The copies before that, or all.
+    let mut many = walk.seen;
     let mut first = 1024;
     // No `for`: how far it goes falls with what is met.
-    while first < m.seen {
-        let q = scan_order(set, arena, table, order, &mut kept, first);
-        m = earlier_of(m, q);
+    while first < many {
+        walk.begin(first);
+        let q = scan_order(set, arena, links, order, &mut walk);
+        if walk.seen < many {
+            met = q;
+            many = walk.seen;
+        }
         first += 1024;
     }
-    m
+    met
 }
 
 // ---- sets in which only the program copies: where its symbols' own sizes keep the destinations apart, nothing is searched
 
-// The marks `low` to `high`, of which each is 1 where its byte is taken, become 1; whether none was.
+// The marks `low` to `high`, of which each is 1 where its byte is taken, become 1; whether none was. No chain: a mark that is read is written.
 fn take_marks(marks: &mut [u8], low: usize, high: usize) -> bool
     requires { high ≤ length marks.old }
     ensures { (length marks.new ≡ length marks.old) × (result ≡ true → MarksTaken marks.old marks.new low high) }
@@ -379,36 +329,31 @@ fn in_window(w: usize, at: usize) -> usize
     at.saturating_sub(w).min(32768)
 }
 
-fn no_claim() -> Claim
-    ensures { result ≡ no_claim }
-{
-    Claim { place: 0, size: 0 }
-}
-
-// The bytes that the copy of entry `i` of the table at `at` may write: its place, and the size of its own symbol; none, where it is no COPY entry.
-fn claim_at(image: &[u8], symbols: usize, at: usize, i: u32) -> Claim
+// The bytes that the copy of entry `i` of the table at `at` may write: its place, and the size of its own symbol; none, where that is 0 or it is
+// no COPY entry.
+fn claim_at(image: &[u8], symbols: usize, at: usize, i: u32) -> Option<Claim>
     ensures { result ≡ claim_of image.now symbols (rela_at image.now at i) }
 {
     let k = 24 * (i as usize);
     if words::bytes::word_off::<u32>(image, at, k + 8) != 5 {
-        return no_claim();
+        return None;
     }
     let s = words::bytes::word_off::<u32>(image, at, k + 12);
-    Claim {
-        place: words::bytes::word_off::<u64>(image, at, k) as usize,
-        size: words::bytes::word_off::<u64>(image, symbols, 24 * (s as usize) + 16) as usize,
+    let size = words::bytes::word_off::<u64>(image, symbols, 24 * (s as usize) + 16) as usize;
+    if size == 0 {
+        return None;
     }
+    let place = words::bytes::word_off::<u64>(image, at, k) as usize;
+    Some(Claim { place, size })
 }
 
 // Of entry `i` of RELA and PLT.
-fn claim_in(image: &[u8], r: Tables, i: usize) -> Claim
+fn claim_in(image: &[u8], r: Tables, i: usize) -> Option<Claim>
     requires { i < r.relas + r.plts }
     ensures { result ≡ claim_of image.now r.symbols (slice_index_or (entries_by image.now r) i no_rela) }
 {
-    if i < r.relas as usize {
-        return claim_at(image, r.symbols, r.rela, i as u32);
-    }
-    claim_at(image, r.symbols, r.plt, (i - r.relas as usize) as u32)
+    let (at, k) = r.place(i);
+    claim_at(image, r.symbols, at, k)
 }
 
 // The lowest place behind the window from `w` on that is claimed, with the claim's; all end at `end` or below.
@@ -437,9 +382,8 @@ fn claims_in(image: &[u8], r: Tables, marks: &mut [u8], w: usize) -> Option<usiz
     let end = image.len();
     marks.fill(0);
     let mut next = end;
-    for i in 0..r.relas as usize + r.plts as usize {
-        let c = claim_in(image, r, i);
-        if c.size != 0 {
+    for i in 0..r.count() {
+        if let Some(c) = claim_in(image, r, i) {
             if !claim_fits(end, c) {
                 return None;
             }
@@ -453,6 +397,7 @@ fn claims_in(image: &[u8], r: Tables, marks: &mut [u8], w: usize) -> Option<usiz
 }
 
 // Whether no two claims of an object meet, and none leaves its image: window by window of 32 KiB.
+#[tactic(auto, using(crate::proofs::ClaimLaws::windows_begin, crate::proofs::ClaimLaws::windows_go))]
 fn claims_apart(image: &[u8], r: Tables) -> bool
     ensures { result ≡ true → ClaimsApart image.now r }
 {
@@ -468,39 +413,29 @@ fn claims_apart(image: &[u8], r: Tables) -> bool
     true
 }
 
-fn tables_of(o: &ObjectData) -> Tables
-    ensures { result ≡ tables_of (held_by o.now) }
+// Whether an entry of a table that lies in the image has type 5.
+#[tactic(auto, unfolding(object::specs::Entries::rela_at))]
+fn some_copies(image: &[u8], at: usize, n: u32) -> bool
+    requires { at + 24 * n ≤ length image.now }
+    ensures { result ≡ list_any (λ i. (rela_at image.now at i).rtype == 5) (range_with_len 0 n) }
 {
-    Tables {
-        symbols: o.symbols,
-        rela: o.rela,
-        relas: crate::relr::cut_to_32(o.relas),
-        plt: o.plt,
-        plts: crate::relr::cut_to_32(o.plts),
-    }
+    (0..n as usize).any(
+        |i|
+            requires { at + 24 * i + 24 ≤ length image.now }
+        { u32::load(image, at + 24 * i + 8) == 5 },
+    )
 }
 
 // Whether one of the `n` entries of the table at `at` has type 5.
+#[tactic(auto, using(crate::proofs::ClaimLaws::no_copies_any))]
 fn has_copies(image: &[u8], at: usize, n: u32) -> bool
     ensures { result ≡ false → NoCopies (relas_from image.now at 0 n) }
 {
-    if image.len() < at {
-        return true;
-    }
-    if (image.len() - at) / 24 < n as usize {
-        return true;
-    }
-    let mut k = at;
-    for i in 0..n {
-        if u32::load(image, k + 8) == 5 {
-            return true;
-        }
-        k += 24;
-    }
-    false
+    image.len() < at || (image.len() - at) / 24 < n as usize || some_copies(image, at, n)
 }
 
 // Whether an object has COPY entries.
+#[tactic(auto, using(crate::proofs::ClaimLaws::no_copies_both))]
 fn tables_copy(image: &[u8], r: Tables) -> bool
     ensures { result ≡ false → NoCopies (entries_by image.now r) }
 {
@@ -511,45 +446,34 @@ fn tables_copy(image: &[u8], r: Tables) -> bool
 fn tables_again(arena: &[u8], t: Turn, file: &[u8]) -> Tables
     ensures { again_refusal (image_in arena.now t) file.now ≡ 0 → result ≡ tables_of (again_record (image_in arena.now t) file.now) }
 {
-    tables_of(&record_again(arena, t, file))
+    Tables::of(&record_again(arena, t, file))
 }
 
 // Whether only the last object of the order copies, if one does, and that is the program, to places that are apart by its symbols' own sizes.
-fn plainly_apart(set: &Set, arena: &[u8], table: &[u64], order: &[u32]) -> bool
-    requires { (length order.now ≤ 64) × Filtered table.now }
-    ensures { Readable table.now set.now arena.now order.now → result ≡ true → PlainlyApart table.now set.now arena.now order.now }
+fn plainly_apart(set: &Set, arena: &[u8], links: &Links, order: &[u32]) -> bool
+    requires { length order.now ≤ 64 }
+    ensures { Readable links.now set.now arena.now order.now → result ≡ true → PlainlyApart links.now set.now arena.now order.now }
 {
     for (i, k) in order.iter().enumerate() {
         let k = *k;
         let file = set.file(k as usize);
-        let t = crate::turn::turn_of(table, k);
+        let t = crate::turn::turn_of(links, k);
         let r = tables_again(arena, t, file);
         let image = crate::turn::image_of(arena, t);
         if tables_copy(image, r) {
-            if i + 1 < order.len() {
-                return false;
-            }
-            if k != 1 {
-                return false;
-            }
-            return claims_apart(image, r);
+            return i + 1 == order.len() && k == 1 && claims_apart(image, r);
         }
     }
     true
 }
 
 // The first entry of the order whose copy crosses an earlier one, if there is one.
-pub(crate) fn crossing_in(set: &Set, arena: &[u8], table: &[u64], order: &[u32]) -> Crossing
-    requires { (length order.now ≤ 64) × Filtered table.now }
-    ensures { Bounded (length order.now) result × (Readable table.now set.now arena.now order.now → CrossingIn table.now set.now arena.now order.now result) }
+pub(crate) fn crossing_in(set: &Set, arena: &[u8], links: &Links, order: &[u32]) -> Option<Crossing>
+    requires { length order.now ≤ 64 }
+    ensures { IfSome result (Bounded (length order.now)) × (Readable links.now set.now arena.now order.now → CrossingIn links.now set.now arena.now order.now result) }
 {
-    if plainly_apart(set, arena, table, order) {
-        return Crossing {
-            seen: 0,
-            hit: false,
-            index: 0,
-            entry: 0,
-        };
+    if plainly_apart(set, arena, links, order) {
+        return None;
     }
-    first_crossing(set, arena, table, order)
+    first_crossing(set, arena, links, order)
 }

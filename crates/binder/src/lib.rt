@@ -2,7 +2,7 @@
 #![tactic(auto)]
 
 ghost use Rattle.std.specs.Prelude.{◌≡◌};
-ghost use Rattle.words.specs.Refusal.{number_of};
+ghost use Rattle.words.specs.Refusal.{refusal_number};
 
 use std::fmt;
 use words::refusal::Refusal;
@@ -29,7 +29,8 @@ pub enum Policy {
     Lenient,
 }
 
-// The refusal of a call: its number and its object. What relocation meets it keeps by number, so it stands here by number too.
+// The refusal of a call: its number and its object. The rules, the definitions (`refused n k`), C and the printed line name a refusal by its
+// number; the definitions are over any number.
 #[derive(Clone, Copy, Debug, PartialEq, Eq)]
 pub struct Refused {
     pub number: u32,
@@ -38,7 +39,7 @@ pub struct Refused {
 
 impl Refused {
     pub fn new(refusal: Refusal, object: u32) -> Refused
-        ensures { result ≡ record { number = number_of refusal; object = object } }
+        ensures { result ≡ record { number = refusal_number refusal; object = object } }
     {
         Refused {
             number: u32::from(refusal),

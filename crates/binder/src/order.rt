@@ -44,9 +44,7 @@ fn unlisted(libs: usize) -> [bool; 64]
     ensures { Unlisted libs result }
 {
     let mut s = [true; 64];
-    for j in 2..libs + 2 {
-        s[j] = false;
-    }
+    s[2..libs + 2].fill(false);
     s
 }
 

@@ -11,6 +11,7 @@ ghost use Rattle.binder.specs.OwnOrder.{is_order, is_copy, bind_ordered_of};
 ghost use Rattle.binder.specs.Steps.OrderTaken.{copy_again, copies_at, Taken, BoundOrdered};
 
 use crate::{Policy, Refused};
+use scope::links::Links;
 use sheet::sheet::Set;
 use words::refusal::Refusal;
 
@@ -23,17 +24,12 @@ fn times_in(list: &[u32], k: u32) -> usize
     list.iter().filter(|j| **j == k).count()
 }
 
-// Whether each library is in the list once.
+// Whether each library is in the list once. The bound is a clause: a count is a plain `usize`, and `may_take` has it from the set.
 fn each_once(list: &[u32], libraries: usize) -> bool
     requires { libraries ≤ 62 }
     ensures { result ≡ every (λ k. nat_eq (times k list.now) 1) (up_from 2 libraries) }
 {
-    for k in 2..libraries + 2 {
-        if times_in(list, k as u32) != 1 {
-            return false;
-        }
-    }
-    true
+    (2..libraries + 2).all(|k| times_in(list, k as u32) == 1)
 }
 
 fn is_library(k: u32, libraries: usize) -> bool
@@ -51,7 +47,8 @@ fn only_libraries(list: &[u32], libraries: usize) -> bool
     list.iter().all(|k| is_library(*k, libraries))
 }
 
-// Whether the words are an order of the program and that many libraries.
+// Whether the words are an order of the program and that many libraries. No `is_some_and`: tried, with the four tests in a closure the answer did
+// not prove.
 fn is_order(order: &[u32], libraries: usize) -> bool
     requires { libraries ≤ 62 }
     ensures { result ≡ is_order libraries order.now }
@@ -59,46 +56,39 @@ fn is_order(order: &[u32], libraries: usize) -> bool
     let Some((last, front)) = order.split_last() else {
         return false;
     };
-    if front.len() != libraries {
-        return false;
-    }
-    *last == 1 && each_once(front, libraries) && only_libraries(front, libraries)
+    front.len() == libraries
+        && *last == 1
+        && each_once(front, libraries)
+        && only_libraries(front, libraries)
 }
 
 // ---- COPY entries of libraries
 
-// Whether one of the `n` entries of the table at `at` has type 5.
+// Whether one of the `n` entries of the table at `at` has type 5. Not crossing's `has_copies`: that one has to be fast, and may be true where
+// entries leave the image.
 fn copy_in(image: &[u8], at: usize, n: u32) -> bool
     ensures { result ≡ some is_copy (relas_from image.now at 0 n) }
 {
-    for i in 0..n {
-        let e = object::relocate::rela_at(image, at, i);
-        if e.rtype == 5 {
-            return true;
-        }
-    }
-    false
+    (0..n).any(|i| object::relocate::rela_at(image, at, i).rtype == 5)
 }
 
 // Whether a loaded object has an entry of type 5: its image and its file are given, and its record is read again.
+#[tactic(auto, using(crate::proofs::OwnOrderLaws::copy_stops, crate::proofs::OwnOrderLaws::copy_goes, object::proofs::RefusalLaws::number_some))]
 fn has_copy(image: &[u8], file: &[u8]) -> bool
     ensures { result ≡ copy_again image.now file.now }
 {
-    let Ok(o) = crate::relocate::read_again(image, file) else {
-        return false;
-    };
-    if copy_in(image, o.rela, crate::relr::cut_to_32(o.relas)) {
-        return true;
-    }
-    copy_in(image, o.plt, crate::relr::cut_to_32(o.plts))
+    crate::relocate::read_again(image, file).is_ok_and(|o| {
+        copy_in(image, o.rela, crate::relr::cut_to_32(o.relas))
+            || copy_in(image, o.plt, crate::relr::cut_to_32(o.plts))
+    })
 }
 
-// Whether a library has one.
-fn library_copies(set: &Set, arena: &[u8], table: &[u64]) -> bool
-    ensures { result ≡ copies_at set.now (length set.now) arena.now table.now }
+// Whether a library has one. No `any`: nothing is known of a closure that borrows the set.
+fn library_copies(set: &Set, arena: &[u8], links: &Links) -> bool
+    ensures { result ≡ copies_at set.now arena.now links.now }
 {
     for k in 2..set.len() {
-        let s = scope::links::link_at(table, k);
+        let s = links.link(k);
         if has_copy(sheet::sheet::part_of(arena, s.offset, s.span), set.file(k)) {
             return true;
         }
@@ -109,16 +99,17 @@ fn library_copies(set: &Set, arena: &[u8], table: &[u64]) -> bool
 // ---- the call
 
 // Whether the order may be taken, of objects that are loaded: not refusal 35.
-fn may_take(set: &Set, arena: &[u8], table: &[u64], order: &[u32]) -> bool
+#[tactic(auto, using(crate::proofs::OwnOrderLaws::same_pointwise))]
+fn may_take(set: &Set, arena: &[u8], links: &Links, order: &[u32]) -> bool
     requires { 2 ≤ length set.now }
-    ensures { Taken set.now (length set.now) arena.now table.now order.now result }
+    ensures { Taken set.now arena.now links.now order.now result }
 {
-    let own = crate::needs::order_of(set, arena, table);
+    let own = crate::needs::order_of(set, arena, links.words());
     is_order(order, set.len() - 2)
-        && (order == own.as_slice() || !library_copies(set, arena, table))
+        && (order == own.as_slice() || !library_copies(set, arena, links))
 }
 
-// Refusals 2 to 25 and 35 of the set's objects, bound in that order.
+// Refusals 2 to 25 and 35 of the set's objects, bound in that order. The parameters are the public call's own, one for each thing of the C call.
 fn bind_set_ordered(
     set: &Set,
     arena: &mut [u8],
@@ -133,13 +124,12 @@ fn bind_set_ordered(
     ensures { BoundOrdered (setting_of address types.now) set.now (length arena.old) policy (length report.old) order.now arena.new report.new result }
 {
     let mut table = [0u64; 1090];
-    let v = crate::types::types_verdict(types);
-    crate::prepare::prepare(set, arena, address, v, &mut table)?;
-    crate::types::put_types(&mut table, types);
-    if !may_take(set, arena, &table, order) {
+    crate::prepare::prepare_to_bind(set, arena, address, types, &mut table)?;
+    let links = Links::of(&table);
+    if !may_take(set, arena, &links, order) {
         return Err(Refused::new(Refusal::Order, 0));
     }
-    crate::bind::bind_in(set, arena, policy, report, &table, order)
+    crate::bind::bind_in(set, arena, policy, report, &links, order)
 }
 
 // Binds the set of a sheet and its bytes in the arena at `address`, in the order that is handed in.

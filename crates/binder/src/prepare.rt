@@ -1,7 +1,9 @@
 // What every call does with a set first: refusals 2 and 3, then its objects into the arena, refusals 4 to 12 and 21, object by object.
-ghost use Rattle.std.specs.Prelude.{◌≡◌, ◌+◌, ◌^◌, ◌≤◌, length};
-ghost use Rattle.binder.specs.Setting.{setting_at};
-ghost use Rattle.binder.specs.Bind.{files_of};
+ghost use Rattle.std.specs.Prelude.{◌≡◌, ℕ, ◌+◌, ◌^◌, ◌≤◌, length};
+ghost use Rattle.binder.specs.Setting.{setting_at, setting_of};
+ghost use Rattle.binder.specs.Bind.{files_of, types_verdict};
+ghost use Rattle.binder.specs.Verdict.{passed};
+ghost use Rattle.binder.specs.Steps.Relocating.{row_at};
 ghost use Rattle.object.specs.Placed.{Checked};
 ghost use Rattle.binder.specs.Instance.{next_offset};
 ghost use Rattle.binder.specs.Steps.Prepared.{LoadedAt, LoadedNext, LoadedFiles, Prepared};
@@ -14,6 +16,7 @@ use words::refusal::Refusal;
 
 // Where an object goes: the host to the next free offset, any other to the least one from there on whose address is a multiple of its
 // alignment.
+#[tactic(auto, using(crate::proofs::OffsetLaws::next_host, crate::proofs::OffsetLaws::next_here, crate::proofs::OffsetLaws::next_past))]
 fn offset_of(address: u64, free: usize, align: usize, host: bool) -> usize
     requires { (address + free ≤ 2 ^ 63) × (free ≤ 2 ^ 28) × (1 ≤ align) × (align ≤ 2 ^ 21) }
     ensures { result ≡ next_offset host align address free }
@@ -39,7 +42,7 @@ fn load_at(
     requires { (off ≤ length arena.old) × Checked host file.now checked }
     ensures { LoadedAt host file.now off arena.old arena.new result }
 {
-    let object = object::object_data::load(&mut arena[off..], file, host, checked)?;
+    let object = object::object_data::load(&mut arena[off..], file, host, &checked)?;
     Ok(Link {
         offset: off,
         span: object.span,
@@ -73,32 +76,20 @@ fn load_all(set: &Set, arena: &mut [u8], address: u64, table: &mut [u64]) -> Res
     requires { (1024 ≤ length table.old) × (length arena.old ≤ 2 ^ 28) × (address + length arena.old ≤ 2 ^ 63) }
     ensures { LoadedFiles (setting_at address) (files_of set.now) arena.old arena.new table.new result }
 {
-    let count = set.len();
     let mut free = 0;
-    let mut k = 0;
-    while k < count {
-        let file = set.file(k);
-        let p = load_next(arena, address, free, file, k == 0);
-        match p {
-            Err(refusal) => {
-                return Err(Refused {
-                    number: refusal.into(),
-                    object: k as u32,
-                });
-            }
-            Ok(s) => {
-                scope::links::put_link(table, k, s);
-                free = s.offset + s.span;
-                k += 1;
-            }
-        }
+    for k in 0..set.len() {
+        let s = load_next(arena, address, free, set.file(k), k == 0).map_err(|refusal| Refused::new(
+            refusal, k as u32,
+        ))?;
+        scope::links::put_link(table, k, s);
+        free = s.offset + s.span;
     }
     words::bytes::zero(arena, free, arena.len() - free);
     Ok(())
 }
 
 // Refusals 2 to 12 and 21 of the set's objects, and `types` between 2 and 3; what passes is loaded, whatever the arena holds before, and its links,
-// its count and the arena's address are in the table.
+// its count and the arena's address are in the table. The table's length is a clause: a `Links` is of a table that is filled, and this fills it.
 pub fn prepare(
     set: &Set,
     arena: &mut [u8],
@@ -120,5 +111,29 @@ pub fn prepare(
     }
     load_all(set, arena, address, table)?;
     scope::links::put_set(table, count, address);
+    Ok(())
+}
+
+// The same for a call that binds: its words of the types may be refused between 2 and 3, and stand in the table behind the set's count and address.
+pub fn prepare_to_bind(
+    set: &Set,
+    arena: &mut [u8],
+    address: u64,
+    types: &[u32],
+    table: &mut [u64],
+) -> Result<(), Refused>
+    requires { 1090 ≤ length table.old }
+    ensures made { Prepared (setting_of address types.now) (types_verdict (setting_of address types.now)) set.now arena.old arena.new table.new result }
+    ensures typed { result ≡ passed → (rtype : ℕ) → row_at table.new rtype ≡ (setting_of address types.now).row rtype }
+    ensures objects { length set.now ≤ 64 }
+{
+    prepare(
+        set,
+        arena,
+        address,
+        crate::types::types_verdict(types),
+        table,
+    )?;
+    crate::types::put_types(table, types);
     Ok(())
 }

@@ -6,12 +6,14 @@ ghost use Rattle.binder.specs.Bind.{replied, reply_of, ask_set, query_of};
 ghost use Rattle.binder.specs.Steps.Finished.{replied_by};
 
 use crate::{Found, Refused};
+use scope::links::Links;
+use scope::scope::Hit;
 use sheet::sheet::Set;
 use words::refusal::Refusal;
 
 // The answer of a search, as a query gives it.
 #[tactic(auto, unfolding(crate::specs::Steps::ScopeModel::scoped_of))]
-fn found_by(s: Option<scope::scope::Found>) -> Option<Found>
+fn found_by(s: Option<Hit>) -> Option<Found>
     ensures { Ok result ≡ reply_of (scoped_of s) }
 {
     let found = s?;
@@ -40,11 +42,11 @@ fn ask_set(
         return Err(Refused::new(Refusal::Requester, 0));
     }
     let gnu = words::hash::gnu_hash(name);
-    let s = scope::scope::resolve(arena, &table, requester, name, gnu);
+    let s = Links::of(&table).resolve(arena, requester, name, gnu);
     Ok(found_by(s))
 }
 
-// The answer; a refusal leaves zeros.
+// The answer; a refusal leaves zeros. One of four `finish`, as bind::finish says.
 #[tactic(auto, using(crate::proofs::OutcomeLaws::finish_asked, crate::proofs::OutcomeLaws::keep_asked))]
 fn finish(r: Result<Option<Found>, Refused>, arena: &mut [u8]) -> Result<Option<Found>, Refused>
     ensures { replied result arena.new ≡ replied_by r arena.old }

@@ -1,7 +1,6 @@
 // The public query for many names: their addresses in a set, for an object of it. The set is loaded once.
 ghost use Rattle.std.specs.Prelude.{◌≡◌, ◌≤◌, true, map, length, count_by, ◌==◌};
 ghost use Rattle.model.specs.Relocation.{address_or0};
-ghost use Rattle.scope.specs.Steps.Links.{Filtered};
 ghost use Rattle.binder.specs.Steps.ScopeModel.{scoped_of};
 ghost use Rattle.binder.specs.Steps.AllNames.{link_addresses};
 ghost use Rattle.binder.specs.Setting.{setting_at};
@@ -9,17 +8,16 @@ ghost use Rattle.binder.specs.Steps.Finished.{replied_all_by};
 ghost use Rattle.binder.specs.QueryAll.{names_in, ends_in_zero, list_ok, replied_all, ask_all_set, query_all_of};
 
 use crate::Refused;
-use scope::scope::Found;
+use scope::links::Links;
+use scope::scope::Hit;
 use sheet::sheet::Set;
 use words::refusal::Refusal;
 
+#[tactic(auto, using(crate::proofs::AllNamesLaws::ends_none, crate::proofs::AllNamesLaws::ends_last))]
 fn ends_in_zero(list: &[u8]) -> bool
     ensures { result ≡ ends_in_zero list.now }
 {
-    match list.last() {
-        None => true,
-        Some(b) => *b == 0,
-    }
+    list.last().is_none_or(|b| *b == 0)
 }
 
 fn zero_bytes(list: &[u8]) -> usize
@@ -29,6 +27,7 @@ fn zero_bytes(list: &[u8]) -> usize
 }
 
 // Not 23: each name of the list has its zero byte, and each word its name.
+#[tactic(auto, using(crate::proofs::AllNamesLaws::zeros_counted), unfolding(crate::specs::QueryAll::list_ok))]
 fn list_ok(list: &[u8], words: usize) -> bool
     ensures { result ≡ list_ok list.now words }
 {
@@ -37,27 +36,24 @@ fn list_ok(list: &[u8], words: usize) -> bool
 
 // The word for what a search yields.
 #[tactic(auto, unfolding(crate::specs::Steps::ScopeModel::scoped_of, model::specs::Relocation::address_or0))]
-fn address_or_0(s: Option<Found>) -> u64
+fn address_or_0(s: Option<Hit>) -> u64
     ensures { result ≡ address_or0 (scoped_of s) }
 {
     s.map_or(0, |found| found.address)
 }
 
-// The addresses of the names of the list, one after another: a name is the part from `at` up to its zero byte.
-fn resolve_all(arena: &[u8], table: &[u64], requester: usize, list: &[u8], words: &mut [u64])
-    requires { Filtered table.now × (list_ok list.now (length words.old) ≡ true) }
-    ensures { words.new ≡ link_addresses arena.now table.now requester (names_in list.now) }
+// The addresses of the names of the list, one after another: a name is what is left of the list up to its zero byte.
+fn resolve_all(arena: &[u8], links: &Links, requester: usize, list: &[u8], words: &mut [u64])
+    requires { list_ok list.now (length words.old) ≡ true }
+    ensures { words.new ≡ link_addresses arena.now links.now requester (names_in list.now) }
 {
-    let mut at = 0;
-    let mut i = 0;
-    // No `for`: each name begins behind the one before it.
-    while at < list.len() {
-        let name = words::names::name_at(list, at);
+    let mut rest = list;
+    for word in words.iter_mut() {
+        let name = words::names::name_at(rest, 0);
         let gnu = words::hash::gnu_hash(name);
-        let s = scope::scope::resolve(arena, table, requester, name, gnu);
-        words[i] = address_or_0(s);
-        at = at + name.len() + 1;
-        i += 1;
+        let s = links.resolve(arena, requester, name, gnu);
+        *word = address_or_0(s);
+        rest = &rest[name.len() + 1..];
     }
 }
 
@@ -82,11 +78,11 @@ fn ask_all_set(
     if !list_ok(list, words.len()) {
         return Err(Refused::new(Refusal::NameList, 0));
     }
-    resolve_all(arena, &table, requester, list, words);
+    resolve_all(arena, &Links::of(&table), requester, list, words);
     Ok(())
 }
 
-// The answer; a refusal leaves zeros.
+// The answer; a refusal leaves zeros. One of four `finish`, as bind::finish says.
 #[tactic(auto, using(crate::proofs::OutcomeLaws::finish_all, crate::proofs::OutcomeLaws::keep_all))]
 fn finish(m: Result<(), Refused>, arena: &mut [u8], words: &mut [u64]) -> Result<(), Refused>
     ensures { replied_all result arena.new words.new ≡ replied_all_by m arena.old words.old }

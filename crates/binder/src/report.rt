@@ -1,120 +1,78 @@
 // How far binding has come, and the words of the report.
-ghost use Rattle.std.specs.Prelude.{◌≡◌, ◌==◌};
-ghost use Rattle.words.specs.Choice.{pick};
-ghost use Rattle.object.specs.Symbol.{binding_of};
-ghost use Rattle.binder.specs.Steps.Relocating.{noted, refused_by, keeps, note_of, undefined_in, unresolved_of};
+ghost use Rattle.std.specs.Prelude.{◌≡◌, None};
+ghost use Rattle.binder.specs.Steps.Relocating.{noted, started, keeps, note_of, undefined_in, unresolved_of};
 
-use crate::turn::Turn;
 use object::symbol::Symbol;
 
-// How far binding has come.
+// The answer of a search that is kept: the symbol of the object by its index, and the address that was found.
 #[derive(Clone, Copy)]
-pub struct Progress {
-    // the refusal that was met, and its object; 0 is none
-    pub refusal: u32,
-    pub object: u32,
-    // how many words the report has, and whether there was no room for one
-    pub words: usize,
-    pub full: bool,
-    // the first object that has an undefined entry, or 0
-    pub undefined: u32,
-    // the symbol of the object whose answer is kept, its index + 1, or 0; and the address that was found
-    pub last: u64,
+pub struct Kept {
+    pub symbol: u32,
     pub address: u64,
 }
 
-pub(crate) fn refused(p: Progress, t: Turn, number: u32) -> Progress
-    ensures { result ≡ refused_by t number p }
-{
-    Progress {
-        refusal: number,
-        object: t.number,
-        words: p.words,
-        full: p.full,
-        undefined: p.undefined,
-        last: p.last,
-        address: p.address,
-    }
+// How far binding has come. The report is lent beside it: a struct with both would have to say in each of nine contracts that its reference
+// stays the same, as start_stop's `Addresses` does.
+#[derive(Clone, Copy)]
+pub struct Progress {
+    // how many words the report has, and whether there was no room for one
+    pub words: usize,
+    pub full: bool,
+    // the first object that has an undefined entry. No Option: object 0, the host, has no entries, and the definitions, too, say 0 for none
+    pub undefined: u32,
+    pub kept: Option<Kept>,
 }
 
-// The answer of a search is kept: `last` is its symbol's index + 1; 0 keeps none.
-pub(crate) fn keep(p: Progress, last: u64, address: u64) -> Progress
-    ensures { result ≡ keeps last address p }
-{
-    Progress {
-        refusal: p.refusal,
-        object: p.object,
-        words: p.words,
-        full: p.full,
-        undefined: p.undefined,
-        last: last,
-        address: address,
+impl Progress {
+    // Before any object's turn.
+    pub(crate) fn new() -> Progress
+        ensures { result ≡ started }
+    {
+        Progress {
+            words: 0,
+            full: false,
+            undefined: 0,
+            kept: None,
+        }
     }
-}
 
-// Adds a word to the report, where there is room.
-pub(crate) fn note(report: &mut [u32], p: Progress, w: u32) -> Progress
-    ensures { noted result report.new ≡ note_of w p report.old }
-{
-    let at = p.words;
-    if at < report.len() {
-        report[at] = w;
-        return Progress {
-            refusal: p.refusal,
-            object: p.object,
-            words: at + 1,
-            full: p.full,
-            undefined: p.undefined,
-            last: p.last,
-            address: p.address,
-        };
+    // Before an object's turn no answer is kept: a symbol's index is the object's own.
+    pub(crate) fn forget(&mut self)
+        ensures { self.new ≡ keeps None self.old }
+    {
+        self.kept = None;
     }
-    Progress {
-        refusal: p.refusal,
-        object: p.object,
-        words: at,
-        full: true,
-        undefined: p.undefined,
-        last: p.last,
-        address: p.address,
-    }
-}
 
-// Object `k` has an undefined entry.
-pub(crate) fn mark_undefined(p: Progress, k: u32) -> Progress
-    ensures { result ≡ undefined_in k p }
-{
-    if p.undefined != 0 {
-        return p;
+    // Adds a word to the report, where there is room.
+    #[tactic(auto, unfolding(crate::specs::Steps::Relocating::note_of))]
+    pub(crate) fn note(&mut self, report: &mut [u32], w: u32)
+        ensures { noted self.new report.new ≡ note_of w self.old report.old }
+    {
+        if self.words < report.len() {
+            report[self.words] = w;
+            self.words += 1;
+        } else {
+            self.full = true;
+        }
     }
-    Progress {
-        refusal: p.refusal,
-        object: p.object,
-        words: p.words,
-        full: p.full,
-        undefined: k,
-        last: p.last,
-        address: p.address,
-    }
-}
 
-// Entry `i` of object `k`, whose symbol was found nowhere: undefined, unless the symbol is weak.
-pub(crate) fn unresolved(report: &mut [u32], p: Progress, y: Symbol, k: u32, i: u32) -> Progress
-    ensures { noted result report.new ≡ unresolved_of y k i p report.old }
-{
-    if object::symbol::binding(y) == 2 {
-        return p;
+    // Object `k` has an undefined entry.
+    fn mark_undefined(&mut self, k: u32)
+        ensures { self.new ≡ undefined_in k self.old }
+    {
+        if self.undefined == 0 {
+            self.undefined = k;
+        }
     }
-    let q = note(report, p, std::num::wrapping_add_u32(0x6000_0000, i));
-    mark_undefined(q, k)
-}
 
-// Absence is kept where the symbol is weak: as the address 0, since no report word tells the two apart.
-pub(crate) fn keep_weak(p: Progress, last: u64, s: Symbol) -> Progress
-    ensures { result ≡ pick (binding_of s == 2) (keeps last 0 p) p }
-{
-    if object::symbol::binding(s) == 2 {
-        return keep(p, last, 0);
+    // Entry `i` of object `k`, whose symbol was found nowhere: undefined, unless the symbol is weak.
+    #[tactic(auto, unfolding(crate::specs::Steps::Relocating::unresolved_of))]
+    pub(crate) fn unresolved(&mut self, report: &mut [u32], y: Symbol, k: u32, i: u32)
+        ensures { noted self.new report.new ≡ unresolved_of y k i self.old report.old }
+    {
+        if object::symbol::binding(y) != 2 {
+            self.note(report, std::num::wrapping_add_u32(0x6000_0000, i));
+            self.mark_undefined(k);
+        }
     }
-    p
 }

@@ -2,8 +2,13 @@
 ghost use Rattle.std.specs.Prelude.{◌≡◌, ◌+◌, ◌≤◌, length, slice_set};
 ghost use Rattle.words.specs.Memory.{mem, from, patch};
 ghost use Rattle.words.specs.Words.{byte_of};
-ghost use Rattle.scope.specs.Steps.Links.{Filtered};
+ghost use Rattle.words.specs.Refusal.{refusal_number};
 ghost use Rattle.binder.specs.Steps.Relocating.{image_in, CopyApart, turn_of};
+
+use crate::Refused;
+use scope::links::Links;
+use words::refusal::Refusal;
+use words::word::Word;
 
 // The object whose turn it is: its number, its part of the arena, and its base.
 #[derive(Clone, Copy)]
@@ -14,16 +19,24 @@ pub struct Turn {
     pub base: u64,
 }
 
-pub(crate) fn turn_of(table: &[u64], k: u32) -> Turn
-    requires { Filtered table.now }
-    ensures { result ≡ turn_of table.now k }
+impl Turn {
+    // It meets a refusal.
+    pub(crate) fn refused(self, refusal: Refusal) -> Refused
+        ensures { result ≡ record { number = refusal_number refusal; object = self.number } }
+    {
+        Refused::new(refusal, self.number)
+    }
+}
+
+pub(crate) fn turn_of(links: &Links, k: u32) -> Turn
+    ensures { result ≡ turn_of links.now k }
 {
-    let s = scope::links::link_at(table, k as usize);
+    let s = links.link(k as usize);
     Turn {
         number: k,
         offset: s.offset,
         span: s.span,
-        base: scope::links::address_in(table).wrapping_add(s.offset as u64),
+        base: links.address().wrapping_add(s.offset as u64),
     }
 }
 
@@ -34,24 +47,14 @@ pub(crate) fn image_of<'a>(arena: &'a [u8], t: Turn) -> &'a [u8]
     sheet::sheet::part_of(arena, t.offset, t.span)
 }
 
-// The word at `place` of the object at `off` becomes `v`.
-pub(crate) fn write_word(arena: &mut [u8], off: usize, place: usize, v: u64)
-    ensures { arena.new ≡ patch arena.old (off + place) 8 (byte_of v) }
+// The low bytes of `v`, as many as a `T` has, go to the places from `place` of the object at `off`.
+pub(crate) fn write<T: Word>(arena: &mut [u8], off: usize, place: usize, v: u64)
+    ensures { arena.new ≡ patch arena.old (off + place) T.WIDTH (byte_of v) }
 {
     if arena.len() < off {
         return;
     }
-    words::bytes::store::<u64>(&mut arena[off..], place, v);
-}
-
-// The four bytes at `place` of the object at `off` become the low ones of `v`.
-pub(crate) fn write_half(arena: &mut [u8], off: usize, place: usize, v: u64)
-    ensures { arena.new ≡ patch arena.old (off + place) 4 (byte_of v) }
-{
-    if arena.len() < off {
-        return;
-    }
-    words::bytes::store::<u32>(&mut arena[off..], place, v);
+    words::bytes::store::<T>(&mut arena[off..], place, v);
 }
 
 // The `n` bytes at `start` of the arena go to the place `to` of the object at `off`; the two ranges are apart.

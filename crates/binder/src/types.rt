@@ -9,6 +9,7 @@ ghost use Rattle.binder.specs.Steps.Relocating.{row_at};
 
 use crate::Refused;
 use object::relocate::Action;
+use scope::links::Links;
 use words::refusal::Refusal;
 
 // ---- what is handed in
@@ -19,24 +20,19 @@ fn word_ok(word: u32, rtype: u32) -> bool
 {
     let word = u64::from(word);
     let low = u64::from(rtype);
-    if word == 0x9000_0000 + low {
-        return object::relocate::may_apply(rtype);
-    }
-    word == 0xa000_0000 + low || word == 0xb000_0000 + low
+    word == 0x9000_0000 + low && object::relocate::may_apply(rtype)
+        || word == 0xa000_0000 + low
+        || word == 0xb000_0000 + low
 }
 
 fn types_ok(types: &[u32]) -> bool
     ensures { result ≡ types_ok types.now }
 {
-    if types.len() != 64 {
-        return false;
-    }
-    for (i, word) in types.iter().enumerate() {
-        if !word_ok(*word, i as u32) {
-            return false;
-        }
-    }
-    true
+    types.len() == 64
+        && types
+            .iter()
+            .enumerate()
+            .all(|(i, word)| word_ok(*word, i as u32))
 }
 
 // Refusal 24.
@@ -51,6 +47,7 @@ pub fn types_verdict(types: &[u32]) -> Result<(), Refused>
 }
 
 // The supplied word of type `i`; 0 past the last.
+#[tactic(auto, using(crate::proofs::TypeWords::supplied_small, crate::proofs::TypeWords::supplied_in, crate::proofs::TypeWords::supplied_past))]
 fn supplied_at(i: usize) -> u32
     ensures { result ≡ mem supplied_types i }
 {
@@ -64,8 +61,8 @@ fn supplied_at(i: usize) -> u32
 pub fn supply(types: &mut [u32])
     ensures { types.new ≡ tab (length types.old) (mem supplied_types) }
 {
-    for i in 0..types.len() {
-        types[i] = supplied_at(i);
+    for (i, word) in types.iter_mut().enumerate() {
+        *word = supplied_at(i);
     }
 }
 
@@ -89,18 +86,16 @@ fn word_of(table: &[u64], rtype: u32) -> u64
 }
 
 // What the type of an entry asks for.
-pub(crate) fn action_at(table: &[u64], rtype: u32) -> Action
-    ensures { row_by result ≡ row_at table.now rtype }
+#[tactic(auto, unfolding(crate::specs::Steps::Relocating::row_at))]
+pub(crate) fn action_at(links: &Links, rtype: u32) -> Action
+    ensures { row_by result ≡ row_at links.now rtype }
 {
-    object::relocate::action_of(word_of(table, rtype), rtype)
+    object::relocate::action_of(word_of(links.words(), rtype), rtype)
 }
 
 // Whether type 8 is applied.
-pub(crate) fn applies_relative(table: &[u64]) -> bool
-    ensures { result ≡ true → row_at table.now 8 ≡ row_by actions.Relative }
+pub(crate) fn applies_relative(links: &Links) -> bool
+    ensures { result ≡ true → row_at links.now 8 ≡ row_by actions.Relative }
 {
-    match action_at(table, 8) {
-        Action::Relative => true,
-        _ => false,
-    }
+    matches!(action_at(links, 8), Action::Relative)
 }

@@ -11,10 +11,10 @@ use Rattle.object.specs.DynamicFields.{Fields}
 use Rattle.object.specs.ProgramHeader.{dynamic_of}
 use Rattle.binder.specs.Instance.{File}
 use Rattle.binder.specs.Verdict.{passed, refused, no_file}
+use Rattle.start_stop.specs.declared.rows.Array.{Array}
 use Rattle.start_stop.specs.StartStop.{
   fields_at,
   placed_fields,
-  Array,
   array_of,
   Calls,
   calls_of,

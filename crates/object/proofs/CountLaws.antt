@@ -1,5 +1,6 @@
 -- The largest bucket word and the last symbol of a walk, turn by turn. No contract cites this file. Assumes nothing.
-use Rattle.std.specs.Prelude.{Some}
+use Rattle.std.specs.Prelude.{Some, fold}
+use Rattle.std.specs.List.{range_with_len}
 use mathlib.Core.Path.{◌≡◌, refl, sym, ap, ◌∙◌, subst}
 use mathlib.Core.Logic.{⊎_elim}
 use mathlib.Core.Bool.{true, false}
@@ -18,7 +19,7 @@ use Rattle.object.specs.HashTable.{bucket_count, bucket_at, chain_at, is_last, n
 use Rattle.object.specs.SymbolCount.{highest, last_reached, count_of}
 use Rattle.object.proofs.Ranges.{split}
 
-pub highest_more : (m : List ℕ) (t : HashTable) (i b w r : ℕ) → b ≡ highest m t i → w ≡ le_at 4 (mem m) (bucket_at t i) → r ≡ max b w
+highest_more : (m : List ℕ) (t : HashTable) (i b w r : ℕ) → b ≡ highest m t i → w ≡ le_at 4 (mem m) (bucket_at t i) → r ≡ max b w
     → r ≡ highest m t (i + 1)
 unfolding highest
 highest_more m t i b w r e f g = g ∙ rw (e, f, add-one)
@@ -45,6 +46,24 @@ pub highest_cut : (m : List ℕ) (t : HashTable) (k : ℕ) → k ≡ min (bucket
 highest_cut m Without k e = let q : k ≡ 0 = omega arith in ap (highest m Without) q
 highest_cut m (SysV at n c) k e = cut m (SysV at n c) n k (λ i. omega arith) e
 highest_cut m (Gnu at n symoffset b shift) k e = cut m (Gnu at n symoffset b shift) n k (λ i. omega arith) e
+
+-- a fold over the first buckets
+highest_from : (m : List ℕ) (t : HashTable) (i k : ℕ)
+    → fold (λ (b : ℕ) (j : ℕ). max b (le_at 4 (mem m) (bucket_at t j))) (highest m t i) (range_with_len i k) ≡ highest m t (i + k)
+unfolding highest
+highest_from m t i zero = ap (highest m t) (sym (add-zero i))
+highest_from m t i (suc k) =
+    let s : i + suc k ≡ (i + 1) + k = omega arith in
+    let w = le_at 4 (mem m) (bucket_at t i) in
+    ap (λ (c : ℕ). fold (λ (b : ℕ) (j : ℕ). max b (le_at 4 (mem m) (bucket_at t j))) c (range_with_len (i + 1) k)) (highest_more m t i (highest m t i) w (max (highest m t i) w) refl refl refl)
+    ∙ highest_from m t (i + 1) k ∙ ap (highest m t) (sym s)
+
+pub highest_fold : (m : List ℕ) (t : HashTable) (k : ℕ)
+    → fold (λ (b : ℕ) (j : ℕ). max b (le_at 4 (mem m) (bucket_at t j))) 0 (range_with_len 0 k) ≡ highest m t k
+unfolding highest
+highest_fold m t k =
+    let z : 0 + k ≡ k = omega arith in
+    highest_from m t 0 k ∙ ap (highest m t) z
 
 -- what holds of 0 and of the word of each bucket holds of the largest
 pub highest_of : (m : List ℕ) (t : HashTable) (P : ℕ → Type 0) → P 0 → (n : ℕ)

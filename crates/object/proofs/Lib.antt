@@ -9,9 +9,11 @@ pub mod RunLaws
 pub mod ObjectRuns
 pub mod PlaceLaws
 pub mod FieldLaws
+pub mod FirstLaws
 pub mod ReadLaws
 pub mod LoadedLaws
 pub mod Ranges
+pub mod LastHeader
 pub mod LastZeroLaws
 pub mod SymbolLaws
 pub mod FindLaws

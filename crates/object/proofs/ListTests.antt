@@ -48,13 +48,6 @@ every_step l i d h p t e =
     let f : drop i l ≡ get_or l i d ∷ drop (i + 1) l = rw (add-one i) (drop-cons l i d h) in
     ap (every p) f ∙ ap (λ (b : Bool). both b (every p (drop (i + 1) l))) e
 
-pub some_step : {A : Type 0} (l : List A) (i : ℕ) (d : A) → i < length l
-    → (p : A → Bool) (t : Bool) → p (get_or l i d) ≡ t → some p (drop i l) ≡ either t (some p (drop (i + 1) l))
-unfolding some
-some_step l i d h p t e =
-    let f : drop i l ≡ get_or l i d ∷ drop (i + 1) l = rw (add-one i) (drop-cons l i d h) in
-    ap (some p) f ∙ ap (λ (b : Bool). either b (some p (drop (i + 1) l))) e
-
 pub every_none : {A : Type 0} (p : A → Bool) (l : List A) (i : ℕ) → length l ≤ i → every p (drop i l) ≡ true
 unfolding every
 every_none p l i h = rw (drop_of_length-le l {i = i} h)

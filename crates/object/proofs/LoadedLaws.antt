@@ -16,7 +16,7 @@ use Rattle.object.specs.Record.{record_in, record_at, read_refusal, ReadBy}
 use Rattle.object.specs.Loaded.{object_record, object_refusal, LoadedBy}
 use Rattle.object.specs.declared.object_data.Placed.{Placed}
 use Rattle.object.specs.declared.dynamic_fields.ObjectData.{ObjectData}
-use Rattle.words.specs.Refusal.{number_of}
+use Rattle.words.specs.Refusal.{refusal_number}
 use Rattle.words.specs.declared.refusal.Refusal.{Refusal}
 use Rattle.object.proofs.RefusalLaws.{required, after_met, after_none, after_zero, number_some}
 use Rattle.object.proofs.PlaceLaws.{part_placed, place_file, place_eight}
@@ -76,7 +76,7 @@ loaded_part host file entry exit e z = e ∙ part_placed host file entry (after_
 module _ (host : Bool) (file entry exit : List ℕ) where
   -- placing is refused
   pub load_refused :
-      (e : Refusal) → number_of e ≡ place_refusal host (length entry) file → exit ≡ placed_part host file entry
+      (e : Refusal) → refusal_number e ≡ place_refusal host (length entry) file → exit ≡ placed_part host file entry
       → LoadedBy host file entry exit (Err e)
   unfolding object_refusal
   load_refused e h x =

@@ -4,7 +4,7 @@ use mathlib.Core.Bool.{Bool, true, false}
 use mathlib.Core.List.{List, [], ◌∷◌}
 use mathlib.Core.Logic.{◌⊎◌, inl, inr, ⊎_elim}
 use Prim.Native.Nat.{ℕ, zero, suc, ◌+◌, ◌-◌, ◌*◌, ◌/◌, ◌%◌, ◌^◌, ◌≤◌, ◌<◌, max}
-use native.Mathlib.Nat.{div-add-mod', pow-suc, pow-le-pow_right, div-eq_of_lt, mul-div-mul_right, zero-div}
+use native.Mathlib.Nat.{pow-suc, pow-le-pow_right, div-eq_of_lt, mul-div-mul_right, zero-div}
 use native.Mathlib.Omega.{arith}
 use borrow.Author.Tests.{eqb-true, eqb-false}
 use lib.Bits.{bit_or, or_shr, or_step}
@@ -35,9 +35,6 @@ module _ (low step : ℕ) (P : ℕ → Type 0) (s : ℕ) where
 
   pub marked_more : (old new : List ℕ) → Marked old low step P → NewMark old new low step s → P s → Marked new low step P
   marked_more old new mk nm h j g = ⊎_elim (λ (o : mark_bit old j ≡ 1). mk j o) (λ (e : s ≡ low + j * step). rw e at h) (nm j g)
-
-pub mark_div : (low step s : ℕ) → low ≤ s → (s - low) % step ≡ 0 → s ≡ low + (s - low) / step * step
-mark_div low step s l e = let h = div-add-mod' (s - low) step in omega arith
 
 pow_bit : (k i : ℕ) → 2 ^ k / 2 ^ i % 2 ≡ 1 → k ≡ i
 pow_bit zero zero e = refl

@@ -9,15 +9,14 @@ use native.Mathlib.Numerals.{add-one}
 use native.Mathlib.Omega.{arith}
 use borrow.Author.Tests.{eq-eqb, le-leb, lt-ltb, le-ltb, eqb-true, leb-true, leb-false, ltb-true, ltb-false}
 use lib.Dec.{eqb, leb, ltb}
-use lib.ListN.{length, get_or, drop}
-use Rattle.std.specs.Prelude.{◌&&◌}
-use Rattle.std.specs.List.{list_all, list_any}
+use Rattle.std.specs.Prelude.{◌&&◌, Option, Some, None}
+use Rattle.std.specs.List.{list_all, list_any, find}
 use Rattle.words.specs.Choice.{both, either, every, some, below}
 use Rattle.words.proofs.Choice.{both_true, both_false, either_right}
 use Rattle.object.specs.declared.program_header.Segment.{Segment}
 use Rattle.object.specs.TableBytes.{is_writable, holds_range, is_table, table_bytes, in_writable}
 use Rattle.object.specs.Steps.WritableRange.{WritableRange}
-use Rattle.object.proofs.ListTests.{some_step, some_any}
+use Rattle.object.proofs.ListTests.{some_any}
 
 pub split : (a b : ℕ) → (a < b) ⊎ (b ≤ a)
 split a b = go (ltb a b) refl
@@ -198,24 +197,37 @@ writable_part (s ∷ ss) at m p n e l u = go (both (is_writable s) (holds_range 
     go true f h next = rw (segment_part s at m p n f l u)
     go false f h next = either_right (both (is_writable s) (holds_range s p n)) (in_writable ss p n) (next h)
 
-writable_after : (i : ℕ) (ss : List Segment) (at n : ℕ) → in_writable (drop i ss) at n ≡ true → in_writable ss at n ≡ true
-unfolding in_writable some
-writable_after zero ss at n e = e
-writable_after (suc i) [] at n e = e
-writable_after (suc i) (s ∷ ss) at n e = either_right (both (is_writable s) (holds_range s at n)) (in_writable ss at n) (writable_after i ss at n e)
-
 -- no place
 pub range_none : (ss : List Segment) → WritableRange ss 0 0
 range_none ss at n l u pos = absurd (omega arith)
 
--- the places of a segment
-pub range_at :
-    (l : List Segment) (i : ℕ) (d : Segment) (at n high : ℕ) → i < length l
-    → both (is_writable (get_or l i d)) (holds_range (get_or l i d) at n) ≡ true → high ≤ (get_or l i d).vaddr + (get_or l i d).memsz
-    → WritableRange l (get_or l i d).vaddr high
+-- what `find` gives passes the test, and whatever else it passes, one of the list passes
+find_is :
+    (l : List Segment) (test : Segment → Bool) (s : Segment) → find test l ≡ Some s
+    → (test s ≡ true) × ((q : Segment → Bool) → q s ≡ true → some q l ≡ true)
+unfolding some
+find_is [] test s e = absurd (let z : ◌≡◌ {A = Option Segment} None (Some s) = e in cc)
+find_is (t ∷ l) test s e = go (find_is l test s) (test t) refl
+  where
+    go : (find test l ≡ Some s → (test s ≡ true) × ((q : Segment → Bool) → q s ≡ true → some q l ≡ true)) → (b : Bool) → test t ≡ b
+        → (test s ≡ true) × ((q : Segment → Bool) → q s ≡ true → some q (t ∷ l) ≡ true)
+    go rest true is =
+        let z : ◌≡◌ {A = Option Segment} (Some t) (Some s) = rw is at e in
+        let u : t ≡ s = cc in
+        (rw u at is, λ q p. let p' : q t ≡ true = rw (← u) at p in rw p')
+    go rest false is =
+        let z : find test l ≡ Some s = rw is at e in
+        let r = rest z in
+        (r.0, λ q p. either_right (q t) (some q l) (r.1 q p))
+
+-- the first writable segment that holds the bytes
+pub range_found :
+    (l : List Segment) (at n : ℕ) (s : Segment) (high : ℕ) → find (λ t. both (is_writable t) (holds_range t at n)) l ≡ Some s
+    → high ≤ s.vaddr + s.memsz → WritableRange l s.vaddr high
 unfolding in_writable
-range_at l i d at n high h e top p k low fits pos =
-    let w = both_true (is_writable (get_or l i d)) (holds_range (get_or l i d) at n) e in
-    let u : p + k ≤ (get_or l i d).vaddr + (get_or l i d).memsz = omega arith in
-    let here : both (is_writable (get_or l i d)) (holds_range (get_or l i d) p k) ≡ true = rw (w.0, le-leb _ _ low, le-leb _ _ u) in
-    writable_after i l p k (some_step l i d h (λ s. both (is_writable s) (holds_range s p k)) true here)
+range_found l at n s high is h p k low fits pos =
+    let r = find_is l (λ t. both (is_writable t) (holds_range t at n)) s is in
+    let w = both_true (is_writable s) (holds_range s at n) r.0 in
+    let u : p + k ≤ s.vaddr + s.memsz = omega arith in
+    let here : both (is_writable s) (holds_range s p k) ≡ true = rw (w.0, le-leb _ _ low, le-leb _ _ u) in
+    r.1 (λ t. both (is_writable t) (holds_range t p k)) here

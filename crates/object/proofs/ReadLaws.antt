@@ -2,11 +2,11 @@
 use mathlib.Core.Path.{◌≡◌, refl, sym, ap, ◌∙◌}
 use mathlib.Core.Bool.{Bool}
 use mathlib.Core.List.{List}
-use Prim.Native.Nat.{ℕ, ◌≤◌, ◌<◌}
+use Prim.Native.Nat.{ℕ}
 use native.Mathlib.Omega.{arith}
 use borrow.Author.Tests.{le-leb, lt-leb}
 use lib.ListN.{length}
-use Rattle.std.specs.Prelude.{Option, None, Some}
+use Rattle.std.specs.Prelude.{Option, None, Some, Ok, Err}
 use Rattle.object.specs.Refusal.{require}
 use Rattle.object.specs.declared.program_header.Segment.{Segment}
 use Rattle.object.specs.declared.dynamic_fields.ObjectData.{ObjectData}
@@ -15,6 +15,7 @@ use Rattle.object.specs.declared.dynamic_array.DynamicArray.{DynamicArray}
 use Rattle.object.specs.DynamicArray.{ends_inside}
 use Rattle.object.specs.DynamicTags as DT
 use Rattle.object.specs.DynamicFields.{Fields, fields_of, needed_offsets}
+use Rattle.object.specs.Steps.FirstOf.{FirstOf}
 use Rattle.object.specs.Steps.Slots.{slot_of, field_in, SameFields, ArrayAt}
 use Rattle.object.proofs.RefusalLaws.{after_met, after_none}
 use Rattle.object.specs.Steps.FieldsRead.{FieldsOf}
@@ -66,21 +67,21 @@ module _ (host : Bool) (image : List ℕ) (segments : List Segment) where
       read_refused ne = rw (← number) (after_met n _ ne)
 
       module _ (z : n ≡ 0) where
-        pub read_many : a.needs ≡ None → read_refusal host image segments (Some at) ≡ 11
+        pub read_many : (many : ArrayVec ℕ) → a.needs ≡ Err many → read_refusal host image segments (Some at) ≡ 11
         unfolding read_refusal require
-        read_many l =
-            let many : 64 < length (needed_offsets image at) = rw l at r.needs in
-            after_none _ _ (sym number ∙ z) ∙ rw (lt-leb (length (needed_offsets image at)) 64 many)
+        read_many many l =
+            let more : FirstOf 64 (needed_offsets image at) (Err many) = rw l at r.needs in
+            after_none _ _ (sym number ∙ z) ∙ rw (lt-leb (length (needed_offsets image at)) 64 more.0)
 
         -- the record, and refusal 12
         pub read_record :
-            (needs : ArrayVec ℕ) → a.needs ≡ Some needs → (o : Record)
+            (needs : ArrayVec ℕ) → a.needs ≡ Ok needs → (o : Record)
             → o ≡ record_in image segments (field_in a.slots) needs.items
             → (read_refusal host image segments (Some at) ≡ require (tables_ok host image (record_at image segments (Some at))) 12 0)
             × (o ≡ record_at image segments (Some at))
         unfolding read_refusal record_at require
         read_record needs l o eo =
-            let held : (length (needed_offsets image at) ≤ 64) × (needs.items ≡ needed_offsets image at) = rw l at r.needs in
+            let held : FirstOf 64 (needed_offsets image at) (Ok needs) = rw l at r.needs in
             let same : o ≡ record_in image segments (fields_of image at) (needed_offsets image at) =
             eo ∙ (rw held.1 (record_same (field_in a.slots) (fields_of image at) r.fields image segments (needed_offsets image at)))
             in

@@ -7,7 +7,7 @@ use native.Mathlib.Omega.{arith}
 use borrow.Author.Tests.{leb-true}
 use lib.Dec.{leb}
 use lib.ListN.{length}
-use Rattle.words.specs.Refusal.{number_of}
+use Rattle.words.specs.Refusal.{refusal_number}
 use Rattle.words.specs.declared.refusal.Refusal.{Refusal}
 use Rattle.words.specs.declared.refusal.Refusal.TheVariants as refusals
 use Rattle.words.proofs.Choice.{both_true}
@@ -55,7 +55,7 @@ table_inside file e =
     leb-true (table_end file) (length file) (both_true (leb (header_count file) 64) _ c.0).1
 
 -- each refusal has a number
-pub number_some : (e : Refusal) → number_of e ≡ 0 → ⊥
+pub number_some : (e : Refusal) → refusal_number e ≡ 0 → ⊥
 number_some refusals.Sheet h = absurd (omega (arith, h))
 number_some refusals.Arena h = absurd (omega (arith, h))
 number_some refusals.Duplicate h = absurd (omega (arith, h))

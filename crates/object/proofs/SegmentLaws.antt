@@ -3,6 +3,7 @@ use mathlib.Core.Path.{◌≡◌, refl, ap, ◌∙◌}
 use mathlib.Core.Bool.{Bool, true, not}
 use mathlib.Core.List.{List, [], ◌∷◌}
 use Prim.Native.Nat.{ℕ, ◌+◌, ◌-◌, ◌%◌, ◌^◌, ◌≤◌, ◌<◌, max}
+use Rattle.std.specs.Prelude.{fold, min}
 use native.Mathlib.Omega.{arith}
 use native.Mathlib.Nat.{mod-eq_of_lt}
 use borrow.Author.Tests.{leb-true, eqb-true, eqb-false, not-true}
@@ -82,14 +83,18 @@ module _ (l : List Segment) (i : ℕ) (d : Segment) (h : i < length l) where
   unfolding all_apart
   apart_turn t e = ap all_apart one_left ∙ ap (λ (b : Bool). both b (all_apart (drop (i + 1) l))) e
 
-  pub end_turn : end_of (drop i l) ≡ max ((get_or l i d).vaddr + (get_or l i d).memsz) (end_of (drop (i + 1) l))
-  unfolding end_of
-  end_turn = ap end_of one_left
-
 pub apart_end : (l : List Segment) (i : ℕ) → length l ≤ i → all_apart (drop i l) ≡ true
 unfolding all_apart
 apart_end l i h = rw (drop_of_length-le l {i = i} h)
 
-pub end_end : (l : List Segment) (i : ℕ) → length l ≤ i → end_of (drop i l) ≡ 0
-unfolding end_of
-end_end l i h = rw (drop_of_length-le l {i = i} h)
+-- the fold of the code: no end is past 2^28, so that none is cut off
+pub end_fold :
+    (ss : List Segment) (a : ℕ) → every address_ok ss ≡ true → a ≤ 2 ^ 28
+    → (fold (λ (a : ℕ) (s : Segment). max (min (s.vaddr + s.memsz) (2 ^ 64 - 1)) a) a ss ≡ max a (end_of ss)) × (max a (end_of ss) ≤ 2 ^ 28)
+unfolding end_of every
+end_fold [] a e h = (omega arith, omega arith)
+end_fold (s ∷ ss) a e h =
+    let t = both_true (address_ok s) (every address_ok ss) e in
+    let low = address_low s t.0 in
+    let r = end_fold ss (max (min (s.vaddr + s.memsz) (2 ^ 64 - 1)) a) t.1 (omega (arith, low)) in
+    (omega (arith, r.0, low), omega (arith, r.1, low))

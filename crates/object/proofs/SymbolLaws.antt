@@ -6,7 +6,9 @@ use native.Mathlib.Omega.{arith}
 use native.Mathlib.Decide.{dec_lt}
 use lib.ListN.{length}
 use Rattle.words.proofs.Slices.{mem_past}
-use Rattle.words.proofs.Words.{le_at_past}
+use Rattle.words.specs.Memory.{mem}
+use Rattle.words.specs.Words.{le_at}
+use Rattle.words.proofs.Words.{le_at_past, le_at_same}
 use Rattle.object.specs.Symbol.{symbol_from}
 
 past_end : (xs : List ℕ) (at : ℕ) → length xs ≤ at
@@ -29,3 +31,11 @@ symbol_end_at xs at p e = go (dec_lt at (length xs))
     go : Dec (at < length xs) → symbol_from xs p ≡ symbol_from xs at
     go (yes h) = ap (symbol_from xs) (omega arith)
     go (no h) = past_end xs p (omega arith) ∙ sym (past_end xs at (omega arith))
+
+-- a symbol of a copy of its 24 bytes
+pub symbol_copied : (xs ys : List ℕ) (p : ℕ) → ((i : ℕ) → i < 24 → mem xs i ≡ mem ys (p + i)) → symbol_from xs 0 ≡ symbol_from ys p
+unfolding symbol_from
+symbol_copied xs ys p same = rw (word 4 0 (omega arith), same 4 (omega arith), same 5 (omega arith), word 2 6 (omega arith), word 8 8 (omega arith), word 8 16 (omega arith))
+  where
+    word : (n k : ℕ) → k + n ≤ 24 → le_at n (mem xs) k ≡ le_at n (mem ys) (p + k)
+    word n k fits = le_at_same n (mem xs) (mem ys) k (p + k) (λ j h. same (k + j) (omega arith) ∙ ap (mem ys) (omega arith))

@@ -3,6 +3,7 @@
 pub mod WritableRange
 pub mod WriteRuns
 pub mod LastZero
+pub mod FirstOf
 pub mod Slots
 pub mod RecordBounds
 pub mod FieldsRead

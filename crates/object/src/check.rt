@@ -14,16 +14,16 @@ use crate::marks::Marks;
 use crate::table_bytes::{Bounds, Zeros};
 use crate::walks::Walks;
 
-// Whether symbol `s`, and its name with the zero byte, are in table bytes.
+// Whether symbol `s`, and its name with the zero byte, are in table bytes. That a symbol's number is below 2^40 stays a clause, here and in
+// others: a walk computes on it at each turn, and a type of its own would have to be unpacked in each.
+#[tactic(auto, unfolding(crate::specs::HashCheck::symbol_ok))]
 fn symbol_fits(image: &[u8], b: Bounds, symbols: usize, strings: usize, s: usize) -> bool
     requires { s < 2 ^ 40 }
     ensures { result ≡ symbol_ok (is_table b.entry.span b.entry.segments.now) image.now symbols strings s }
 {
-    if !crate::table_bytes::table_off(b, symbols, 24 * s, 24) {
-        return false;
-    }
-    let w = words::bytes::word_off::<u32>(image, symbols, 24 * s) as usize;
-    crate::table_bytes::name_ok(image, b, strings, w)
+    let name = words::bytes::word_off::<u32>(image, symbols, 24 * s) as usize;
+    crate::table_bytes::table_off(b, symbols, 24 * s, 24)
+        && crate::table_bytes::name_ok(image, b, strings, name)
 }
 
 // The same for any index: refusal 15.
@@ -42,14 +42,14 @@ enum Walked {
 }
 
 impl Walks<'_> {
-    // Follows the walk from `word`.
-    fn follow(&self, seen: &Marks, word: usize) -> Walked
-        requires { (word < 2 ^ 32) × MarksOk self.now seen.now }
+    // Follows the walk from `word`. What the marks say stays a clause, here and in two others: it speaks of the walks too, and they are lent beside.
+    fn follow(&self, seen: &Marks, word: u32) -> Walked
+        requires { MarksOk self.now seen.now }
         ensures { WalkedTo self.now.zeros.image.now self.now.view.table (step_by self.now) word result }
     {
         let image = self.zeros.image;
         let t = self.view.table;
-        let mut s = word;
+        let mut s = word as usize;
         for _ in 0..crate::hash_tables::fuel_of(image, t) {
             if seen.holds(s) {
                 return Walked::Ended;
@@ -66,18 +66,17 @@ impl Walks<'_> {
         Walked::Cut
     }
 
-    // The walk from a bucket's word, other than 0; its symbols get marks.
+    // The walk from a bucket's word, other than 0; its symbols get marks. A guard, and no one test: marks are set in one case alone.
     fn walk_ok(&self, seen: &mut Marks, word: u32) -> bool
         requires { (0 < word) × MarksOk self.now seen.old }
         ensures { (result ≡ word_ok self.now.zeros.image.now self.now.view.table (step_by self.now) word) × MarksOk self.now seen.new }
     {
-        let s = word as usize;
-        if s < self.low {
+        if (word as usize) < self.low {
             return false;
         }
-        match self.follow(seen, s) {
+        match self.follow(seen, word) {
             Walked::Ended => {
-                seen.set_walk(self.zeros.image, self.view.table, s);
+                seen.set_walk(self.zeros.image, self.view.table, word);
                 true
             }
             Walked::Failed => false,
@@ -85,7 +84,7 @@ impl Walks<'_> {
         }
     }
 
-    // The walks of all buckets.
+    // The walks of all buckets. No `all`: each walk leaves marks.
     fn walks_ok(&self, seen: &mut Marks) -> bool
         requires { MarksOk self.now seen.old }
         ensures { result ≡ below (walk_ok (is_table self.now.zeros.bounds.span self.now.zeros.bounds.segments.now) self.now.zeros.image.now self.now.view.symbols self.now.view.strings self.now.view.table) (bucket_count self.now.view.table) }
@@ -159,20 +158,11 @@ fn table_fits(b: Bounds, t: HashTable) -> bool
     }
 }
 
-// Whether the object's hash table is not refused.
-pub fn hash_table_ok(image: &[u8], b: Bounds, v: View) -> bool
-    ensures { result ≡ table_ok (is_table b.entry.span b.entry.segments.now) image.now v.symbols v.strings v.table }
+// Whether the walks of all buckets pass. Never inlined: its marks, 16 KiB, stand on the stack while it runs alone.
+#[inline(never)]
+fn walks_pass(image: &[u8], b: Bounds, v: View) -> bool
+    ensures { result ≡ below (walk_ok (is_table b.entry.span b.entry.segments.now) image.now v.symbols v.strings v.table) (bucket_count v.table) }
 {
-    let t = v.table;
-    if !numbers_ok(t) {
-        return false;
-    }
-    if !table_fits(b, t) {
-        return false;
-    }
-    if crate::hash_tables::bucket_count(t) == 0 {
-        return true;
-    }
     let walks = Walks::of(Zeros::of(image, b), v);
     let mut seen = Marks {
         words: [0u64; 2048],
@@ -180,4 +170,14 @@ pub fn hash_table_ok(image: &[u8], b: Bounds, v: View) -> bool
         step: walks.step(),
     };
     walks.walks_ok(&mut seen)
+}
+
+// Whether the object's hash table is not refused. Marks are made only where there is a bucket.
+#[tactic(auto, unfolding(crate::specs::HashCheck::table_ok, words::specs::Choice::below))]
+pub fn hash_table_ok(image: &[u8], b: Bounds, v: View) -> bool
+    ensures { result ≡ table_ok (is_table b.entry.span b.entry.segments.now) image.now v.symbols v.strings v.table }
+{
+    numbers_ok(v.table)
+        && table_fits(b, v.table)
+        && (crate::hash_tables::bucket_count(v.table) == 0 || walks_pass(image, b, v))
 }

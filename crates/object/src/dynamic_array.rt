@@ -1,7 +1,8 @@
 // The dynamic array: port of dynamic_array.rs, and of the walk in dynamic_fields.rs.
 ghost use Rattle.std.specs.Prelude.{◌≡◌, ◌<◌, ℕ, List, [], ◌∷◌, ◌++◌};
 ghost use Rattle.object.specs.DynamicFields.{needed_offsets};
-ghost use Rattle.object.specs.Steps.Slots.{slot_of, kept_of, put_of, field_in, NeedsRead, ArrayAt};
+ghost use Rattle.object.specs.Steps.FirstOf.{FirstOf};
+ghost use Rattle.object.specs.Steps.Slots.{slot_of, kept_of, put_of, field_in, ArrayAt};
 
 use arrayvec::ArrayVec;
 
@@ -56,11 +57,11 @@ pub type Slots = [Option<usize>; 38];
 // The needs' offsets that a record keeps.
 pub type Needs = ArrayVec<usize, 64>;
 
-// The array, read in one pass. There are no `needs` where there are more than 64; `ended` says whether the array ends inside the span.
-#[derive(Drop)]
+// The array, read in one pass. `needs` are all needs, or as an error the first 64 of more; `ended` says whether the array ends inside the span.
+#[derive(Clone, Drop)]
 pub struct DynamicArray {
     pub slots: Slots,
-    pub needs: Option<Needs>,
+    pub needs: Result<Needs, Needs>,
     pub ended: bool,
 }
 
@@ -69,13 +70,11 @@ pub struct DynamicArray {
 fn slot_of(tag: u64) -> usize
     ensures { (result ≡ slot_of tag) × (result < 38) }
 {
-    if tag < 37 {
-        return tag as usize;
+    match tag {
+        0..37 => tag as usize,
+        DT_GNU_HASH => 37,
+        _ => 0,
     }
-    if tag == DT_GNU_HASH {
-        return 37;
-    }
-    0
 }
 
 // What a slot holds after an entry: the last counts, of DT_HASH the first.
@@ -104,12 +103,14 @@ pub fn field_in(slots: &Slots, tag: u64) -> Option<usize>
 }
 
 // One need more.
-fn put_need(needs: &mut Option<Needs>, offset: usize)
-    ensures { (xs : List ℕ) → NeedsRead xs needs.old → NeedsRead (xs ++ offset ∷ []) needs.new }
+fn put_need(needs: &mut Result<Needs, Needs>, offset: usize)
+    ensures { (xs : List ℕ) → FirstOf 64 xs needs.old → FirstOf 64 (xs ++ offset ∷ []) needs.new }
 {
-    if let Some(list) = needs {
-        if list.try_push(offset).is_err() {
-            *needs = None;
+    if let Ok(list) = needs {
+        if list.is_full() {
+            *needs = Err(std::mem::take(list));
+        } else {
+            list.push(offset);
         }
     }
 }
@@ -119,7 +120,7 @@ pub fn read_array(image: &[u8], at: usize) -> DynamicArray
     ensures { ArrayAt image.now at result }
 {
     let mut slots = [None; 38];
-    let mut needs = Some(ArrayVec::new());
+    let mut needs = Ok(ArrayVec::new());
     for k in 0..image.len().saturating_sub(at) / 16 {
         let i = at + 16 * k;
         let tag = words::bytes::word_at::<u64>(image, i);
@@ -143,9 +144,9 @@ pub fn read_array(image: &[u8], at: usize) -> DynamicArray
     }
 }
 
-// The needs of the array at `at`; none where there are more than 64.
-pub fn read_needs(image: &[u8], at: usize) -> Option<Needs>
-    ensures { NeedsRead (needed_offsets image.now at) result }
+// The needs of the array at `at`; as an error the first 64 where there are more.
+pub fn read_needs(image: &[u8], at: usize) -> Result<Needs, Needs>
+    ensures { FirstOf 64 (needed_offsets image.now at) result }
 {
     read_array(image, at).needs
 }

@@ -19,7 +19,7 @@ use words::refusal::Refusal;
 
 // The record of an object: its load segments, of which the host has none, and its needs' offsets; the span and the alignment; the string and
 // symbol tables, the chosen hash table, the symbol count, and the relocation tables with their counts. Pointers are offsets in the span.
-#[derive(Drop, Default)]
+#[derive(Clone, Default, Drop)]
 pub struct ObjectData {
     pub segments: Loads,
     pub needed: Needs,
@@ -41,10 +41,7 @@ pub struct ObjectData {
 fn field_is(slots: &Slots, tag: u64, n: usize) -> bool
     ensures { result ≡ field_is n (field_in slots.now tag) }
 {
-    match field_in(slots, tag) {
-        Some(value) => value == n,
-        None => true,
-    }
+    field_in(slots, tag).is_none_or(|value| value == n)
 }
 
 // The sizes and DT_PLTREL.
@@ -106,12 +103,12 @@ fn table_in(image: &[u8], slots: &Slots) -> HashTable
     }
 }
 
-// The record of an image.
-fn object_in(image: &[u8], loads: Loads, slots: &Slots, needed: Needs) -> ObjectData
-    ensures held { held_by result ≡ record_in image.now loads.items (field_in slots.now) needed.items }
+// The record of an image. A field that is not given is 0 in it, as its definition says.
+fn object_in(image: &[u8], loads: &Loads, slots: &Slots, needed: Needs) -> ObjectData
+    ensures held { held_by result ≡ record_in image.now loads.now.items (field_in slots.now) needed.items }
     ensures counts { RelocationCounts result }
 {
-    let align = crate::alignment::align_of(&loads);
+    let align = crate::alignment::align_of(loads);
     let strings = field_in(slots, DT_STRTAB).unwrap_or(0);
     let symbols = field_in(slots, DT_SYMTAB).unwrap_or(0);
     let rela = field_in(slots, DT_RELA);
@@ -130,8 +127,9 @@ fn object_in(image: &[u8], loads: Loads, slots: &Slots, needed: Needs) -> Object
     let relas = entry_count(rela, relasz, 24);
     let plts = entry_count(jmprel, pltrelsz, 24);
     let relrs = entry_count(relr, relrsz, 8);
+    let segments = loads.clone().unwrap();
     ObjectData {
-        segments: loads,
+        segments,
         needed,
         span: image.len(),
         align,
@@ -176,18 +174,15 @@ fn needs_ok(image: &[u8], b: Bounds, o: &ObjectData) -> bool
     names_ok(image, b, o.strings, &o.needed)
 }
 
-// Whether the relocation tables are in table bytes.
+// Whether the relocation tables are in table bytes. Its counts are a clause and no ghost field: anyone may write a record.
+#[tactic(auto, unfolding(crate::specs::Record::relocations_ok))]
 fn relocations_ok(b: Bounds, o: &ObjectData) -> bool
     requires { BoundsOf o.now b × RelocationCounts o.now }
     ensures { result ≡ relocations_ok (held_by o.now) }
 {
-    if !crate::table_bytes::table_bytes(b, o.rela, 24 * o.relas) {
-        return false;
-    }
-    if !crate::table_bytes::table_bytes(b, o.plt, 24 * o.plts) {
-        return false;
-    }
-    crate::table_bytes::table_bytes(b, o.relr, 8 * o.relrs)
+    crate::table_bytes::table_bytes(b, o.rela, 24 * o.relas)
+        && crate::table_bytes::table_bytes(b, o.plt, 24 * o.plts)
+        && crate::table_bytes::table_bytes(b, o.relr, 8 * o.relrs)
 }
 
 // What a lookup reads of the record.
@@ -202,27 +197,21 @@ pub fn view_of(o: &ObjectData) -> View
 }
 
 // Refusal 12: whether all tables are in table bytes.
+#[tactic(auto, unfolding(crate::specs::Record::tables_ok))]
 fn tables_ok(image: &[u8], o: &ObjectData, host: bool) -> bool
     requires { RelocationCounts o.now }
     ensures { result ≡ tables_ok host image.now (held_by o.now) }
 {
     let b = bounds_of(o);
-    if !needs_ok(image, b, o) {
-        return false;
-    }
-    if host {
-        return crate::check::hash_table_ok(image, b, view_of(o));
-    }
-    if !relocations_ok(b, o) {
-        return false;
-    }
-    crate::check::hash_table_ok(image, b, view_of(o))
+    needs_ok(image, b, o)
+        && (host || relocations_ok(b, o))
+        && crate::check::hash_table_ok(image, b, view_of(o))
 }
 
 // Refusals 9 to 11, and the record where there is none: all that is read of an image, but its tables are not checked. For records that are
 // read again.
-pub fn read_fields(image: &[u8], loads: Loads, d: Option<usize>) -> Result<ObjectData, Refusal>
-    ensures { FieldsRead image.now loads.items d result }
+pub fn read_fields(image: &[u8], loads: &Loads, d: Option<usize>) -> Result<ObjectData, Refusal>
+    ensures { FieldsRead image.now loads.now.items d result }
 {
     let at = d.ok_or(Refusal::NoDynamicArray)?;
     let DynamicArray {
@@ -231,18 +220,20 @@ pub fn read_fields(image: &[u8], loads: Loads, d: Option<usize>) -> Result<Objec
         ended,
     } = crate::dynamic_array::read_array(image, at);
     check_fields(&slots, ended)?;
-    let needed = needs.ok_or(Refusal::TableSizes)?;
+    let Ok(needed) = needs else {
+        return Err(Refusal::TableSizes);
+    };
     Ok(object_in(image, loads, &slots, needed))
 }
 
 // Reads the record of an image, the placed bytes of an object's span, whose dynamic array stands at `d`.
 pub fn read_object(
     image: &[u8],
-    loads: Loads,
+    loads: &Loads,
     d: Option<usize>,
     host: bool,
 ) -> Result<ObjectData, Refusal>
-    ensures { ReadBy host image.now loads.items d result }
+    ensures { ReadBy host image.now loads.now.items d result }
 {
     let object = read_fields(image, loads, d)?;
     if !tables_ok(image, &object, host) {

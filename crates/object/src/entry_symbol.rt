@@ -36,10 +36,7 @@ pub fn checked_symbol(image: &[u8], o: &ObjectData, index: u32) -> Result<Symbol
 fn known_of(known: Option<usize>, n: usize) -> usize
     ensures { (result ≤ n) × ((s : ℕ) → s < result → index_ok known s ≡ true) }
 {
-    match known {
-        None => n,
-        Some(count) => n.min(count),
-    }
+    known.map_or(n, |count| n.min(count))
 }
 
 // Which symbols and names of the object need no further test.

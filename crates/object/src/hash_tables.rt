@@ -46,6 +46,19 @@ pub struct Definition {
     pub absolute: bool,
 }
 
+impl Definition {
+    // Its address in an object at `base`.
+    pub fn address_at(self, base: u64) -> u64
+        ensures { result ≡ address_of base self }
+    {
+        if self.absolute {
+            self.value
+        } else {
+            base.wrapping_add(self.value)
+        }
+    }
+}
+
 // The System V table at `at`: bucket count, chain count, buckets, chain.
 pub fn sysv_table(image: &[u8], at: usize) -> HashTable
     ensures { result ≡ sysv_at image.now at }
@@ -309,27 +322,13 @@ pub fn ask(image: &[u8], v: View, name: &[u8], gnu: u32, elf: u32) -> Option<Def
     })
 }
 
-// The address of a definition in an object at `base`.
-pub fn address_of(base: u64, d: Definition) -> u64
-    ensures { result ≡ address_of base d }
-{
-    if d.absolute {
-        return d.value;
-    }
-    base.wrapping_add(d.value)
-}
-
 // The largest word of the buckets.
 pub(crate) fn highest_bucket(image: &[u8], t: HashTable) -> usize
     ensures { (result ≡ highest image.now t (bucket_count t)) × (result < 2 ^ 32) }
 {
     // a bucket past the image's end has the word 0
     let n = (bucket_count(t) as usize).min(image.len() / 4 + 1);
-    let mut best: usize = 0;
-    for i in 0..n {
-        best = best.max(bucket_word(image, t, i) as usize);
-    }
-    best
+    (0..n).fold(0, |best, i| best.max(bucket_word(image, t, i) as usize))
 }
 
 // The last symbol of the walk from the bucket word `word`.

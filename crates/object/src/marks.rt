@@ -15,7 +15,7 @@ pub(crate) struct Marks {
 
 impl Marks {
     // The number of the mark of symbol `s`, if it has one.
-    fn number_of(&self, s: usize) -> Option<usize>
+    fn mark_of(&self, s: usize) -> Option<usize>
         ensures { IfSome result (λ j. (j < 131072) × (s ≡ self.now.low + j * self.now.step)) }
     {
         if s < self.low {
@@ -33,17 +33,15 @@ impl Marks {
     pub(crate) fn holds(&self, s: usize) -> bool
         ensures { result ≡ true → MarkAt self.now.words self.now.low self.now.step s }
     {
-        match self.number_of(s) {
-            Some(j) => (self.words[j / 64] >> ((j % 64) as u32)) % 2 == 1,
-            None => false,
-        }
+        self.mark_of(s)
+            .is_some_and(|j| (self.words[j / 64] >> ((j % 64) as u32)) % 2 == 1)
     }
 
-    // Marks symbol `s`, if it has a mark; whether it was marked.
+    // Marks symbol `s`, if it has a mark; whether it was marked. No one test: a word is written after the last.
     fn set(&mut self, s: usize) -> bool
         ensures { (self.new.low ≡ self.old.low) × (self.new.step ≡ self.old.step) × NewMark self.old.words self.new.words self.old.low self.old.step s }
     {
-        let Some(j) = self.number_of(s) else {
+        let Some(j) = self.mark_of(s) else {
             return false;
         };
         let w = self.words[j / 64];
@@ -56,11 +54,10 @@ impl Marks {
     }
 
     // Marks the symbols of the walk from `word`, to its end or a marked one.
-    pub(crate) fn set_walk(&mut self, image: &[u8], t: HashTable, word: usize)
-        requires { word < 2 ^ 32 }
+    pub(crate) fn set_walk(&mut self, image: &[u8], t: HashTable, word: u32)
         ensures { (self.new.low ≡ self.old.low) × (self.new.step ≡ self.old.step) × MarksMore image.now t self.old.low self.old.step self.old.words self.new.words word }
     {
-        let mut s = word;
+        let mut s = word as usize;
         for _ in 0..crate::hash_tables::fuel_of(image, t) {
             if self.set(s) {
                 return;

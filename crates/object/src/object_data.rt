@@ -12,14 +12,15 @@ use arrayvec::ArrayVec;
 use words::refusal::Refusal;
 
 // An object that passed the header checks: its span, its alignment and its load segments, of which the host has none.
-#[derive(Drop)]
+#[derive(Clone, Drop)]
 pub struct Placed {
     pub span: usize,
     pub align: usize,
     pub loads: Loads,
 }
 
-// The host, of which refusals 4 to 6 were passed.
+// The host, of which refusals 4 to 6 were passed. That stays a clause, here and in two others: anyone may hand in a file, and a type for one
+// that was passed would be unpacked in each.
 fn check_host(file: &[u8]) -> Result<Placed, Refusal>
     requires { header_refusal file.now ≡ 0 }
     ensures { CheckedBy true file.now result }
@@ -39,7 +40,9 @@ fn check_file(file: &[u8]) -> Result<Placed, Refusal>
     requires { header_refusal file.now ≡ 0 }
     ensures { CheckedBy false file.now result }
 {
-    let loads = crate::program_header::read_loads(file).ok_or(Refusal::Segments)?;
+    let Ok(loads) = crate::program_header::read_loads(file) else {
+        return Err(Refusal::Segments);
+    };
     if !crate::segments::segments_ok(file, &loads) {
         return Err(Refusal::Segments);
     }
@@ -76,7 +79,8 @@ fn place_runs(part: &mut [u8], file: &[u8], host: bool, segments: &[Segment])
     crate::segments::place_segments(part, file, segments);
 }
 
-// Places an object whose headers were checked at the start of `part`, the arena from the object's offset to its end: refusal 8.
+// Places an object whose headers were checked at the start of `part`, the arena from the object's offset to its end: refusal 8. That they were
+// stays a clause, here and in two others: a type of file, host and `checked` would be packed for one call alone.
 pub fn place(part: &mut [u8], file: &[u8], host: bool, checked: &Placed) -> Result<(), Refusal>
     requires { Checked host file.now checked.now }
     ensures { PlacedBy host file.now part.old part.new result }
@@ -94,13 +98,13 @@ pub fn load(
     part: &mut [u8],
     file: &[u8],
     host: bool,
-    checked: Placed,
+    checked: &Placed,
 ) -> Result<ObjectData, Refusal>
-    requires { Checked host file.now checked }
+    requires { Checked host file.now checked.now }
     ensures { LoadedBy host file.now part.old part.new result }
 {
-    place(part, file, host, &checked)?;
+    place(part, file, host, checked)?;
     let d = crate::program_header::dynamic_at(file);
     let span = checked.span;
-    crate::dynamic_fields::read_object(&part[..span], checked.loads, d, host)
+    crate::dynamic_fields::read_object(&part[..span], &checked.loads, d, host)
 }

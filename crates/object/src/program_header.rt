@@ -1,7 +1,8 @@
 // Program headers: port of program_header.rs. The flags are the gABI's: PF_X 1, PF_W 2, PF_R 4.
-ghost use Rattle.std.specs.Prelude.{◌≡◌, ◌≤◌, ◌<◌, length, MatchOption};
+ghost use Rattle.std.specs.Prelude.{◌≡◌, ◌<◌};
 ghost use Rattle.object.specs.Header.{table_start};
 ghost use Rattle.object.specs.ProgramHeader.{type_at, segment_at, loads_of, dynamic_of};
+ghost use Rattle.object.specs.Steps.FirstOf.{FirstOf};
 
 use crate::header::{header_count, table_start};
 use arrayvec::ArrayVec;
@@ -44,21 +45,21 @@ fn segment_at(file: &[u8], start: usize, i: usize) -> Segment
     }
 }
 
-// The PT_LOAD headers, in their order; none where there are more than 16.
-pub fn read_loads(file: &[u8]) -> Option<Loads>
-    ensures { MatchOption result (16 < length (loads_of file.now)) (λ l. (length (loads_of file.now) ≤ 16) × (l.items ≡ loads_of file.now)) }
+// The PT_LOAD headers, in their order; as an error the first 16 where there are more.
+pub fn read_loads(file: &[u8]) -> Result<Loads, Loads>
+    ensures { FirstOf 16 (loads_of file.now) result }
 {
     let start = table_start(file);
     let mut found = ArrayVec::new();
     for i in 0..header_count(file) {
         if type_at(file, start, i) == 1 {
             if found.is_full() {
-                return None;
+                return Err(found);
             }
             found.push(segment_at(file, start, i));
         }
     }
-    Some(found)
+    Ok(found)
 }
 
 // Where the dynamic array stands: p_vaddr of the last PT_DYNAMIC, where there is one.
@@ -67,10 +68,8 @@ pub fn dynamic_at(file: &[u8]) -> Option<usize>
     ensures { result ≡ dynamic_of file.now }
 {
     let start = table_start(file);
-    for i in (0..header_count(file)).rev() {
-        if type_at(file, start, i) == 2 {
-            return Some(segment_at(file, start, i).vaddr);
-        }
-    }
-    None
+    let i = (0..header_count(file))
+        .rev()
+        .find(|i| type_at(file, start, *i) == 2)?;
+    Some(segment_at(file, start, i).vaddr)
 }

@@ -132,36 +132,49 @@ pub fn supplied_word(rtype: u32) -> u64
     0xa000_0000 + rtype as u64
 }
 
-// Whether a field searches for the name of the symbol with that index.
-pub fn searches(f: Field, index: u32) -> bool
-    ensures { result ≡ searched_by f index }
-{
-    match f {
-        Field::Address => true,
-        _ => index != 0,
+impl Field {
+    // Whether it searches for the name of the symbol with that index.
+    pub fn searches(self, index: u32) -> bool
+        ensures { result ≡ searched_by self index }
+    {
+        match self {
+            Field::Address => true,
+            _ => index != 0,
+        }
     }
-}
 
-// How many bytes a field has.
-pub fn width_of(f: Field) -> usize
-    ensures { result ≡ (field_by f).width }
-{
-    match f {
-        Field::Address | Field::Direct64 | Field::Pc64 => 8,
-        Field::Pc32 | Field::Direct32 | Field::Direct32S => 4,
+    // How many bytes it has.
+    pub fn width(self) -> usize
+        ensures { result ≡ (field_by self).width }
+    {
+        match self {
+            Field::Address | Field::Direct64 | Field::Pc64 => 8,
+            Field::Pc32 | Field::Direct32 | Field::Direct32S => 4,
+        }
     }
-}
 
-// What a field gets, of S, the addend, the object's base and the place.
-pub fn value_of(f: Field, s: u64, addend: u64, base: u64, place: u64) -> u64
-    ensures { result ≡ (field_by f).value s addend base (base + place) }
-{
-    let sum = s.wrapping_add(addend);
-    let less = sum.wrapping_sub(base.wrapping_add(place));
-    match f {
-        Field::Address => s,
-        Field::Direct64 | Field::Direct32 | Field::Direct32S => sum,
-        Field::Pc64 | Field::Pc32 => less,
+    // What it gets, of S, the addend, the object's base and the place.
+    pub fn value(self, s: u64, addend: u64, base: u64, place: u64) -> u64
+        ensures { result ≡ (field_by self).value s addend base (base + place) }
+    {
+        let sum = s.wrapping_add(addend);
+        let less = sum.wrapping_sub(base.wrapping_add(place));
+        match self {
+            Field::Address => s,
+            Field::Direct64 | Field::Direct32 | Field::Direct32S => sum,
+            Field::Pc64 | Field::Pc32 => less,
+        }
+    }
+
+    // Whether it holds that number.
+    pub fn fits(self, v: u64) -> bool
+        ensures { result ≡ (field_by self).fits v }
+    {
+        match self {
+            Field::Address | Field::Direct64 | Field::Pc64 => true,
+            Field::Pc32 | Field::Direct32S => fits_signed(v),
+            Field::Direct32 => fits_unsigned(v),
+        }
     }
 }
 
@@ -176,17 +189,6 @@ fn fits_unsigned(v: u64) -> bool
     ensures { result ≡ fits_unsigned32 v }
 {
     v < 0x1_0000_0000
-}
-
-// Whether a field holds that number.
-pub fn fits(f: Field, v: u64) -> bool
-    ensures { result ≡ (field_by f).fits v }
-{
-    match f {
-        Field::Address | Field::Direct64 | Field::Pc64 => true,
-        Field::Pc32 | Field::Direct32S => fits_signed(v),
-        Field::Direct32 => fits_unsigned(v),
-    }
 }
 
 // Entry `i` of the RELR table at `table`.

@@ -14,7 +14,7 @@ pub struct Symbol {
     pub size: u64,
 }
 
-// The symbol whose bytes stand at `p`, all of them in the image. Beside `symbol_over`, which tests each byte: every hit of a search reads one.
+// The symbol whose bytes stand at `p`, all of them in the image.
 fn symbol_in(image: &[u8], p: usize) -> Symbol
     requires { p + 24 ≤ length image.now }
     ensures { result ≡ symbol_from image.now p }
@@ -29,28 +29,17 @@ fn symbol_in(image: &[u8], p: usize) -> Symbol
     }
 }
 
-// The symbol whose bytes stand at `p`, some of them past the image's end.
-fn symbol_over(image: &[u8], p: usize) -> Symbol
-    ensures { result ≡ symbol_from image.now p }
-{
-    Symbol {
-        name: words::bytes::word_off::<u32>(image, p, 0),
-        info: words::bytes::byte_at(image, p, 4),
-        other: words::bytes::byte_at(image, p, 5),
-        section: words::bytes::word_off::<u16>(image, p, 6),
-        value: words::bytes::word_off::<u64>(image, p, 8),
-        size: words::bytes::word_off::<u64>(image, p, 16),
-    }
-}
-
-// The symbol whose bytes stand `k` places after `at`.
+// The symbol whose bytes stand `k` places after `at`. One that the image's end cuts is read from a copy, with zeros behind: every hit of a
+// search reads a symbol, and tests its place once.
 pub fn symbol_off(image: &[u8], at: usize, k: usize) -> Symbol
     ensures { result ≡ symbol_from image.now (at + k) }
 {
     let n = image.len();
     let p = words::bytes::place(n, at, k);
     if n - p < 24 {
-        return symbol_over(image, p);
+        let mut bytes = [0u8; 24];
+        words::bytes::copy(&mut bytes, 0, image, p, 24);
+        return symbol_in(&bytes, 0);
     }
     symbol_in(image, p)
 }
@@ -104,14 +93,9 @@ pub fn is_exported(y: Symbol) -> bool
     is_defined(y) && is_public(y) && is_visible(y)
 }
 
-// Whether the symbol whose bytes stand `k` places after `at` is exported: what a search asks of each hit by name. Of a whole symbol it needs three fields.
+// Whether the symbol whose bytes stand `k` places after `at` is exported: what a search asks of each hit by name.
 pub(crate) fn exported_off(image: &[u8], at: usize, k: usize) -> bool
     ensures { result ≡ is_exported (symbol_from image.now (at + k)) }
 {
-    let n = image.len();
-    let p = words::bytes::place(n, at, k);
-    if n - p < 24 {
-        return is_exported(symbol_over(image, p));
-    }
-    is_exported(symbol_in(image, p))
+    is_exported(symbol_off(image, at, k))
 }

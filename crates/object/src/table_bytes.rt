@@ -27,7 +27,7 @@ pub struct Bounds<'a> {
 }
 
 impl Segment {
-    // Whether none of the `n` bytes from `at` is in the segment, or it is not writable.
+    // Whether none of the `n` bytes from `at` is in the segment, or it is not writable. Guards: a subtraction is computed only after its test.
     fn spares(&self, at: usize, n: usize) -> bool
         ensures { result ≡ below (λ k. not (both (is_writable self.now) (holds_range self.now (at + k) 1))) n }
     {
@@ -69,13 +69,7 @@ fn all_spare(segments: &[Segment], at: usize, n: usize) -> bool
 pub fn table_bytes(b: Bounds, at: usize, n: usize) -> bool
     ensures { result ≡ table_bytes (is_table b.entry.span (b.entry.segments.now)) at n }
 {
-    if n == 0 {
-        return true;
-    }
-    if b.span < n || b.span - n < at {
-        return false;
-    }
-    all_spare(b.segments, at, n)
+    n == 0 || (n <= b.span && at <= b.span - n && all_spare(b.segments, at, n))
 }
 
 // Whether the `n` bytes `k` places after `at` are table bytes.
@@ -90,14 +84,11 @@ pub fn name_ok(image: &[u8], b: Bounds, at: usize, k: usize) -> bool
     ensures { result ≡ table_name (is_table b.entry.span (b.entry.segments.now)) image.now (at + k) }
 {
     let name = words::names::name_off(image, at, k);
-    let n = name.len();
-    if b.span <= n {
-        return false;
-    }
-    table_off(b, at, k, n + 1)
+    name.len() < b.span && table_off(b, at, k, name.len() + 1)
 }
 
-// One past the last zero byte before `end`; 0 where there is none.
+// One past the last zero byte before `end`; 0 where there is none: a bound on places, and no number for none. No `map_or`: the check alone
+// does not close it, as it does not split what is known of the place into the two cases.
 fn last_zero(image: &[u8], end: usize) -> usize
     ensures { LastZero (mem image.now) end result }
 {
@@ -156,6 +147,7 @@ fn run_from(image: &[u8], b: Bounds, p: usize) -> Run
         end: b.span,
         low: 0,
     };
+    // no fold: the proof speaks of the segments still to come, and what is known of a fold only of those before
     for s in b.segments {
         run = run.before(s, p, 0);
     }
@@ -200,6 +192,7 @@ pub(crate) fn chained_of(image: &[u8], b: Bounds, at: usize, chain: usize) -> us
 }
 
 // An image with its bounds, and one past the last zero byte before each segment and before the span's end: with these no name is read.
+// The places stand beside the segments, which are lent, in their order.
 #[derive(Clone, Copy)]
 pub(crate) struct Zeros<'a> {
     pub(crate) image: &'a [u8],
@@ -244,26 +237,22 @@ impl<'a> Zeros<'a> {
     }
 }
 
-// Places that lie in one writable segment: from `low` to below `high`. None where `high` is 0.
+// Places that lie in one writable segment: from `low` to below `high`.
 #[derive(Clone, Copy)]
 pub struct Writable {
     pub low: usize,
     pub high: usize,
 }
 
-// The writable segment that holds the `n` bytes from `at`, or none.
-pub fn writable_at(b: Bounds, at: usize, n: usize) -> Writable
-    ensures { WritableRange (b.entry.segments.now) result.low result.high }
+// The writable segment that holds the `n` bytes from `at`, if one does.
+pub fn writable_at(b: Bounds, at: usize, n: usize) -> Option<Writable>
+    ensures { IfSome result (λ w. WritableRange (b.entry.segments.now) w.low w.high) }
 {
-    for s in b.segments {
-        if s.holds(at, n) {
-            return Writable {
-                low: s.vaddr,
-                high: s.vaddr.saturating_add(s.memsz),
-            };
-        }
-    }
-    Writable { low: 0, high: 0 }
+    let s = b.segments.iter().find(|s| s.holds(at, n))?;
+    Some(Writable {
+        low: s.vaddr,
+        high: s.vaddr.saturating_add(s.memsz),
+    })
 }
 
 // Whether a writable segment holds the `n` bytes from `at`.

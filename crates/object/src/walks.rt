@@ -29,15 +29,9 @@ fn symbol_in(zeros: &Zeros, v: View, s: usize) -> bool
 {
     let span = zeros.bounds.span;
     let p = v.symbols.saturating_add(24 * s);
-    if span <= p {
-        return false;
-    }
-    let w = words::bytes::word_at::<u32>(zeros.image, p) as usize;
-    let q = v.strings.saturating_add(w);
-    if span <= q {
-        return false;
-    }
-    zeros.both_in(p, 24, q)
+    let name = words::bytes::word_at::<u32>(zeros.image, p) as usize;
+    let q = v.strings.saturating_add(name);
+    p.max(q) < span && zeros.both_in(p, 24, q)
 }
 
 // What the walks of a table are checked by. At once pass: the first `chained` symbols from `low` on, as far as the chain goes; the first

@@ -17,6 +17,8 @@ use std::io;
 use testing::input::{Input, head, patches, stain};
 use words::refusal::Refusal;
 
+// What is printed are types of other crates, where this program's words for them do not belong: a function each, and no Display.
+
 fn yes_or_no(b: bool) -> &'static str {
     if b { "yes" } else { "no" }
 }
@@ -67,7 +69,7 @@ fn show_record(out: &impl Print, o: &ObjectData) -> io::Result<()> {
 fn show_definition(out: &impl Print, d: Definition) -> io::Result<()> {
     let protected = yes_or_no(d.protected);
     let absolute = yes_or_no(d.absolute);
-    let address = object::hash_tables::address_of(0x1000_0000, d);
+    let address = d.address_at(0x1000_0000);
     print!(out;
         " is {} {} {} {protected} {absolute} {address}",
         d.index, d.value, d.size
@@ -155,22 +157,9 @@ fn show_segment(out: &impl Print, o: &ObjectData, i: usize) -> io::Result<()> {
     Ok(())
 }
 
-// Whether the byte there is a table byte.
-fn show_table_byte(out: &impl Print, o: &ObjectData, i: usize) -> io::Result<()> {
-    let bounds = object::dynamic_fields::bounds_of(o);
-    print!(out;
-        " {}",
-        yes_or_no(object::table_bytes::table_bytes(bounds, i, 1))
-    )
-}
-
-// Whether the eight bytes there are inside one writable segment.
-fn show_writable(out: &impl Print, o: &ObjectData, i: usize) -> io::Result<()> {
-    let bounds = object::dynamic_fields::bounds_of(o);
-    print!(out;
-        " {}",
-        yes_or_no(object::table_bytes::in_writable(bounds, i, 8))
-    )
+// Whether a test of the object's bytes holds.
+fn show_test(out: &impl Print, holds: bool) -> io::Result<()> {
+    print!(out; " {}", yes_or_no(holds))
 }
 
 // What is asked of an object: a name, or a number of its symbols, its RELA, PLT or RELR entries, its needs, its segments or its bytes.
@@ -218,8 +207,15 @@ fn show_ask(out: &impl Print, image: &[u8], o: &ObjectData, ask: Ask) -> io::Res
         ),
         Ask::Need(i) => show_need(out, image, o, i as usize),
         Ask::Segment(i) => show_segment(out, o, i as usize),
-        Ask::TableByte(i) => show_table_byte(out, o, i as usize),
-        Ask::Writable(i) => show_writable(out, o, i as usize),
+        Ask::TableByte(i) => {
+            let bounds = object::dynamic_fields::bounds_of(o);
+            show_test(out, object::table_bytes::table_bytes(bounds, i as usize, 1))
+        }
+        // the eight bytes there are inside one writable segment
+        Ask::Writable(i) => {
+            let bounds = object::dynamic_fields::bounds_of(o);
+            show_test(out, object::table_bytes::in_writable(bounds, i as usize, 8))
+        }
     }
 }
 
@@ -305,7 +301,7 @@ impl<'a> Case<'a> {
     // Loads the file into the room, and prints the case's line.
     fn load(self, out: &impl Print, room: &mut [u8], file: &[u8]) -> io::Result<()> {
         let read = object::object_data::check_headers(file, self.host).and_then(
-            |checked| object::object_data::load(room, file, self.host, checked),
+            |checked| object::object_data::load(room, file, self.host, &checked),
         );
         match read {
             Ok(o) => self.show(out, room, &o),

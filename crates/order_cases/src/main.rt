@@ -5,6 +5,7 @@
 use binder::order::arrange;
 use std::io;
 
+// An order is a slice of numbers, a type of the language: a function, and no Display.
 fn show(out: &impl Print, order: &[u32]) -> io::Result<()> {
     for k in order {
         print!(out; "{k} ")?;

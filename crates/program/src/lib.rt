@@ -14,12 +14,12 @@ use binder::{Policy, Refused};
 use words::refusal::Refusal;
 
 // The words of the sheet.
-fn read_words(input: &[u8], sheet: &mut [u32], count: usize)
-    requires { (count ≤ 16383) × (count ≤ length sheet.old) }
-    ensures { sheet.new ≡ patch sheet.old 0 count (word_in input.now) }
+fn read_words(input: &[u8], sheet: &mut [u32])
+    requires { length sheet.old ≤ 16383 }
+    ensures { sheet.new ≡ tab (length sheet.old) (word_in input.now) }
 {
-    for i in 0..count {
-        sheet[i] = words::bytes::word_at::<u32>(input, 4 + 4 * i);
+    for (i, word) in sheet.iter_mut().enumerate() {
+        *word = words::bytes::word_at::<u32>(input, 4 + 4 * i);
     }
 }
 
@@ -33,13 +33,14 @@ fn bind_sheet(
     requires { (count ≤ 16383) × (4 + 4 * count ≤ length input.now) }
     ensures { outcome result arena.new report.new ≡ bind_of (supplied_at arena_address) (tab count (word_in input.now)) (drop (4 + 4 * count) input.now) (length arena.old) Lenient (length report.old) }
 {
-    let mut sheet = [0u32; 16383];
-    read_words(input, &mut sheet, count);
+    let mut room = [0u32; 16383];
+    let sheet = &mut room[..count];
+    read_words(input, sheet);
     let mut types = [0u32; 64];
     binder::types::supply(&mut types);
     let start = 4 + 4 * count;
     binder::bind::bind(
-        &sheet[..count],
+        sheet,
         &input[start..],
         arena,
         0x1000_0000,
@@ -105,6 +106,7 @@ fn width(v: u32) -> usize
 }
 
 // What is printed goes to the places of `out` from `at`; what does not fit is dropped.
+// By hand: a `write!` of std promises its bytes only where it answers `Ok`, and no clause says that it does.
 #[derive(Drop)]
 struct Printer<'a> {
     out: &'a mut [u8],

@@ -14,6 +14,8 @@ use reading::read_full;
 use std::io;
 use testing::input::{Input, head, patches, stain};
 
+// What is printed are types of other crates, where this program's words for them do not belong: a function each, and no Display.
+
 fn show_answer(out: &impl Print, a: Result<(), Refused>) -> io::Result<()> {
     match a {
         Ok(()) => print!(out; "bound"),

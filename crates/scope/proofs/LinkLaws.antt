@@ -1,5 +1,5 @@
 -- The laws of the table of links: what is put is read, and what lies beside it is as it was. Assumes nothing.
-use Prim.Native.Nat.{ℕ, suc, ◌+◌, ◌-◌, ◌*◌, ◌%◌, ◌^◌, ◌≤◌, ◌<◌}
+use Prim.Native.Nat.{ℕ, zero, suc, ◌+◌, ◌-◌, ◌*◌, ◌%◌, ◌^◌, ◌≤◌, ◌<◌}
 use mathlib.Core.Bool.{Bool, true, false}
 use mathlib.Core.Path.{◌≡◌, refl, sym, ap, subst⁻¹, ◌∙◌}
 use mathlib.Core.Logic.{◌⊎◌, inl, inr}
@@ -9,7 +9,8 @@ use native.Mathlib.Nat.{mod-eq_of_lt}
 use lib.ListN.{length, take, drop, get_or, set, length-set, get_or-append}
 use lib.Seq.{paste, length_paste_head, get_or-append-add, get_or-take, get_or-drop, length-take-le, get_or-set_same, get_or-set_other}
 use Rattle.std.proofs.Common.{take_all, length-drop}
-use lib.Pow.{pow-lt}
+use lib.Pow.{pow-lt, pow_pos}
+use native.Mathlib.Decide.{dec_lt}
 use borrow.Author.Tests.{eq-eqb, ne_eqb, le-leb, lt-leb}
 use Rattle.words.specs.Choice.{pick}
 use Rattle.object.proofs.Ranges.{split}
@@ -55,17 +56,45 @@ bit k width h =
 -- ---- the words of a link
 
 -- the turns of the search for a logarithm
-pub log_here : (k n : ℕ) → k < 32 → n ≡ 2 ^ k → k ≡ log_from (32 - k) k n
+log_here : (k n : ℕ) → k < 32 → n ≡ 2 ^ k → k ≡ log_from (32 - k) k n
 unfolding log_from
 log_here k n h is =
     let s : 32 - k ≡ suc (31 - k) = omega arith in
     rw (s, eq-eqb _ _ is)
 
-pub log_next : (k n : ℕ) → k < 32 → (n ≡ 2 ^ k → ⊥) → log_from (32 - k) k n ≡ log_from (32 - (k + 1)) (k + 1) n
+log_next : (k n : ℕ) → k < 32 → (n ≡ 2 ^ k → ⊥) → log_from (32 - k) k n ≡ log_from (32 - (k + 1)) (k + 1) n
 unfolding log_from
 log_next k n h ne =
     let s : 32 - k ≡ suc (32 - (k + 1)) = omega arith in
     rw (s, ne_eqb _ _ ne)
+
+log_up : (k n : ℕ) → k ≤ 32 → ((i : ℕ) → i < k → n ≡ 2 ^ i → ⊥) → log_from 32 0 n ≡ log_from (32 - k) k n
+log_up zero n h other = refl
+log_up (suc k) n h other =
+    let e : k + 1 ≡ suc k = omega arith in
+    log_up k n (omega arith) (λ i l. other i (omega arith)) ∙ (rw e at (log_next k n (omega arith) (other k (omega arith))))
+
+pub log_is : (k n : ℕ) → k < 32 → n ≡ 2 ^ k → k ≡ log_of n
+unfolding log_of
+log_is k n h is = log_here k n h is ∙ sym (log_up k n (omega arith) (λ i l e. let p : 2 ^ i < 2 ^ k = pow-lt l in absurd (omega (arith, p, e, is))))
+
+-- between two powers there is none
+pub log_none : (k n : ℕ) → 2 ^ k ≤ n → n < 2 * 2 ^ k → (n ≡ 2 ^ k → ⊥) → 64 ≡ log_of n
+unfolding log_of log_from
+log_none k n low high ne = sym (log_up 32 n (omega arith) (λ i l e. go i e (dec_lt i k) (dec_lt k i) (dec_lt (suc k) i)))
+  where
+    twice : 2 ^ suc k ≡ 2 * 2 ^ k
+    twice = omega arith
+
+    go : (i : ℕ) → n ≡ 2 ^ i → Dec (i < k) → Dec (k < i) → Dec (suc k < i) → ⊥
+    go i e (yes l) u v = let p : 2 ^ i < 2 ^ k = pow-lt l in absurd (omega (arith, p, e, low))
+    go i e (no l) (yes u) (yes v) = let p : 2 ^ suc k < 2 ^ i = pow-lt v in absurd (omega (arith, p, twice, e, high))
+    go i e (no l) (yes u) (no v) = let s : i ≡ suc k = omega arith in let p = e ∙ ap (λ (j : ℕ). 2 ^ j) s in absurd (omega (arith, p, twice, high))
+    go i e (no l) (no u) v = let s : i ≡ k = omega arith in ne (e ∙ ap (λ (j : ℕ). 2 ^ j) s)
+
+pub log_zero : 64 ≡ log_of 0
+unfolding log_of log_from
+log_zero = sym (log_up 32 0 (omega arith) (λ i l e. let p = pow_pos i in absurd (omega (arith, p, e))))
 
 -- what the six words of a hash table say
 hash_back :

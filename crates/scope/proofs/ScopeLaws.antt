@@ -15,7 +15,7 @@ use Rattle.words.specs.Choice.{pick}
 use Rattle.object.specs.declared.hash_tables.HashTable.TheVariants.{Without, Gnu}
 use Rattle.object.specs.HashTable as hash
 use Rattle.object.specs.HashTable.{find_by, answer_of}
-use Rattle.scope.specs.declared.scope.Found.{Found}
+use Rattle.scope.specs.declared.scope.Hit.{Hit}
 use Rattle.scope.specs.Steps.Links.{word_at, link_at, links_from}
 use Rattle.scope.specs.Steps.ScopeCode.{answer_at, Lacks, scoped_by, protected_by, or_else, link_answer, own_answer, scan_links}
 
@@ -51,21 +51,9 @@ module _ (arena table : List ℕ) (k : ℕ) (name : List ℕ) (g e e' : ℕ) (sa
 
 -- ---- the library's calls of closures
 
-pub or_else_is : (a r : Option Found) {b : Option Found} (Second : Type 0) → MatchOption a Second (λ x. r ≡ Some x) → (Second → r ≡ b) → r ≡ or_else a b
-unfolding or_else
-or_else_is None r Second m k = k m
-or_else_is (Some x) r Second m k = m
-
-pub or_else_twice :
-    (a q r : Option Found) {b d : Option Found} (Second Third : Type 0) → MatchOption a Second (λ x. q ≡ Some x) → (Second → q ≡ b)
-    → MatchOption q Third (λ x. r ≡ Some x) → (Third → r ≡ d) → r ≡ or_else a (or_else b d)
-unfolding or_else
-or_else_twice None q r {b} {d} Second Third m k n l = or_else_is q r Third n l ∙ ap (λ (x : Option Found). or_else x d) (k m)
-or_else_twice (Some x) q r {b} {d} Second Third m k n l = or_else_is q r Third n l ∙ ap (λ (x : Option Found). or_else x d) m
-
 pub protected_is :
-    (a r : Option Found) (Says : Found → Bool → Type 0) → MatchOption a (r ≡ None) (λ x. (b : Bool) × Says x b × (r ≡ then_some b x))
-    → ((x : Found) (b : Bool) → Says x b → b ≡ x.definition.protected) → r ≡ protected_by a
+    (a r : Option Hit) (Says : Hit → Bool → Type 0) → MatchOption a (r ≡ None) (λ x. (b : Bool) × Says x b × (r ≡ then_some b x))
+    → ((x : Hit) (b : Bool) → Says x b → b ≡ x.definition.protected) → r ≡ protected_by a
 unfolding protected_by
 protected_is None r Says m k = m
 protected_is (Some x) r Says m k = m.2 ∙ go m.0 ∙ ap (λ (b : Bool). pick b (Some x) None) (k x m.0 m.1)
@@ -76,10 +64,10 @@ protected_is (Some x) r Says m k = m.2 ∙ go m.0 ∙ ap (λ (b : Bool). pick b 
 
 module _ (address : ℕ) (arena table name : List ℕ) (g e : ℕ) where
   -- what is left of the search from object `k` on
-  abbrev pub rest : ℕ → ℕ → Option Found
+  abbrev pub rest : ℕ → ℕ → Option Hit
   rest k count = scan_links address arena k (links_from table k (count - k)) name g e
 
-  abbrev here : ℕ → Option Found
+  abbrev here : ℕ → Option Hit
   here k = link_answer address arena k (link_at table k) name g e
 
   module _ (k count : ℕ) where
@@ -89,21 +77,21 @@ module _ (address : ℕ) (arena table name : List ℕ) (g e : ℕ) where
         let s : count - k ≡ suc (count - (k + 1)) = omega arith in
         rw (s, add-one)
 
-    pub scan_hit : {a whole : Option Found} → k < count → a ≡ here k → is_some a ≡ true → rest k count ≡ whole → a ≡ whole
+    pub scan_hit : {a whole : Option Hit} → k < count → a ≡ here k → is_some a ≡ true → rest k count ≡ whole → a ≡ whole
     unfolding or_else
     scan_hit {a = None} h is some inv = absurd (false≢true some)
     scan_hit {a = Some x} h is some inv =
         let t : or_else (here k) (rest (k + 1) count) ≡ Some x = rw (← is) in
         sym t ∙ sym (turn h) ∙ inv
 
-    pub scan_miss : {a whole : Option Found} → k < count → a ≡ here k → is_some a ≡ false → rest k count ≡ whole → rest (k + 1) count ≡ whole
+    pub scan_miss : {a whole : Option Hit} → k < count → a ≡ here k → is_some a ≡ false → rest k count ≡ whole → rest (k + 1) count ≡ whole
     unfolding or_else
     scan_miss {a = None} h is none inv =
         let t : or_else (here k) (rest (k + 1) count) ≡ rest (k + 1) count = rw (← is) in
         sym t ∙ sym (turn h) ∙ inv
     scan_miss {a = Some x} h is none inv = absurd (false≢true (sym none))
 
-    pub scan_end : {whole : Option Found} → count ≤ k → rest k count ≡ whole → None ≡ whole
+    pub scan_end : {whole : Option Hit} → count ≤ k → rest k count ≡ whole → None ≡ whole
     unfolding scan_links links_from
     scan_end {whole} h inv =
         let s : count - k ≡ 0 = omega arith in

@@ -1,9 +1,13 @@
 // A flat table of what lookups need of a set: 16 words an object, by its number, for 64 objects; then the set's count and the arena's address.
 // Words past the table's end read as 0.
-ghost use Rattle.std.specs.Prelude.{◌≡◌, ℕ, ◌+◌, ◌*◌, ◌≤◌, ◌%◌, ◌<◌, ◌^◌, length, get_or};
-ghost use Rattle.scope.specs.Steps.Links.{hash_words, hash_of, narrow, log_of, filter_words, filter_of, link_words, link_at, count_in, address_in, FilteredBelow, Filtered, spliced, with_link};
+ghost use Rattle.std.specs.Prelude.{◌≡◌, ℕ, ◌+◌, ◌*◌, ◌/◌, ◌≤◌, ◌%◌, ◌<◌, ◌^◌, true, length, get_or};
+ghost use Rattle.words.specs.Hash.{elf_hash};
+ghost use Rattle.scope.specs.Steps.ScopeCode.{Lacks};
+ghost use Rattle.scope.specs.Steps.Links.{word_at, hash_words, hash_of, narrow, log_of, testable, filter_words, filter_of, link_words, link_at, count_in, address_in, FilteredBelow, Filtered, spliced, with_link};
 
 use object::hash_tables::{HashTable, View};
+use std::marker::Model;
+use words::word::Word;
 
 // Where an object lies in the arena, and what a lookup reads of its record.
 #[derive(Clone, Copy)]
@@ -85,32 +89,31 @@ fn hash_words(h: HashTable) -> [u64; 6]
 fn log_of(n: u32) -> u64
     ensures { result ≡ log_of n }
 {
-    for k in 0..32u64 {
-        if n == 1 << k {
-            return k;
-        }
+    if n == 0 {
+        return 64;
     }
-    64
+    let k = n.ilog2();
+    if n == 1 << k { k as u64 } else { 64 }
 }
 
-// The three words of a GNU table's bloom filter. The tests stand in an order in which no subtraction wraps.
+// Whether a filter's words may be tested. The tests stand in an order in which no subtraction wraps.
+fn testable(offset: usize, span: usize, at: usize, bloomwords: u32, shift: u32) -> bool
+    ensures { result ≡ testable offset span at bloomwords shift }
+{
+    let n = 16 + 8 * (bloomwords as usize);
+    shift <= 31
+        && n <= span
+        && at <= span - n
+        && span <= 0x1_0000_0000
+        && offset <= 0x1_0000_0000 - span
+}
+
+// The three words of a GNU table's bloom filter.
+#[tactic(auto, unfolding(crate::specs::Steps::Links::filter_words))]
 fn filter_words(offset: usize, span: usize, at: usize, bloomwords: u32, shift: u32) -> [u64; 3]
     ensures { result ≡ filter_words offset span at bloomwords shift }
 {
-    if 31 < shift {
-        return [0, 64, 0];
-    }
-    let n = 16 + 8 * (bloomwords as usize);
-    if span < n {
-        return [0, 64, 0];
-    }
-    if span - n < at {
-        return [0, 64, 0];
-    }
-    if 0x1_0000_0000 < span {
-        return [0, 64, 0];
-    }
-    if 0x1_0000_0000 - span < offset {
+    if !testable(offset, span, at, bloomwords, shift) {
         return [0, 64, 0];
     }
     [(offset + at + 16) as u64, log_of(bloomwords), shift as u64]
@@ -133,6 +136,7 @@ fn filter_of(offset: usize, span: usize, h: HashTable) -> [u64; 3]
 }
 
 // The 16 words of a link.
+#[tactic(auto, unfolding(crate::specs::Steps::Links::link_words))]
 fn words_of(s: Link) -> [u64; 16]
     ensures { (result ≡ link_words s) × narrow s.view.table }
 {
@@ -161,6 +165,7 @@ fn words_of(s: Link) -> [u64; 16]
 }
 
 // The words go to the table from `p` on.
+#[tactic(auto, unfolding(crate::specs::Steps::Links::spliced))]
 fn put_words(table: &mut [u64], p: usize, w: [u64; 16])
     requires { p + 16 ≤ length table.old }
     ensures { table.new ≡ spliced table.old p w }
@@ -186,6 +191,7 @@ fn link_of(w: &[u64]) -> Link
 }
 
 // The link of object `k`.
+#[tactic(auto, using(crate::proofs::LinkLaws::link_of_rest), unfolding(crate::specs::Steps::Links::link_at))]
 pub fn link_at(table: &[u64], k: usize) -> Link
     ensures { result ≡ link_at table.now k }
 {
@@ -248,4 +254,113 @@ pub fn put_set(table: &mut [u64], count: usize, address: u64)
 {
     table[1024] = count as u64;
     table[1025] = address;
+}
+
+// ---- the links of a set
+
+// Where the bloom word of a GNU hash stands among 2^bits of them.
+fn bloom_place(gnu: u32, bits: u64) -> u64
+    requires { bits < 32 }
+    ensures { (result ≡ 8 * (gnu / 64 % 2 ^ bits)) × (result < 2 ^ 32) }
+{
+    8 * (((gnu / 64) as u64) % (1 << bits))
+}
+
+// The links of a set that is loaded, its count and the arena's address: a table that `put_set` finished. Callers see its words.
+#[derive(Drop)]
+pub struct Links<'a> {
+    words: &'a [u64],
+}
+
+impl<'a> Model for Links<'a> {
+    ghost use Rattle.std.specs.Prelude.{ℕ, List};
+    ghost use Rattle.scope.specs.Steps.Links.{Filtered};
+
+    ghost Value = { List ℕ };
+
+    ghost view = { λ s. s.words.now };
+
+    ghost invariant = { λ s. Filtered s.words.now };
+}
+
+impl<'a> Links<'a> {
+    pub fn of(table: &'a [u64]) -> Links<'a>
+        requires { Filtered table.now }
+        ensures { result ≡ table.now }
+    {
+        Links { words: table }
+    }
+
+    pub fn words(&self) -> &'a [u64]
+        ensures is { result.now ≡ self.now }
+        ensures filtered { Filtered result.now }
+    {
+        self.words
+    }
+
+    // How many objects the set has.
+    pub fn count(&self) -> usize
+        ensures is { result ≡ count_in self.now }
+        ensures few { result ≤ 64 }
+    {
+        count_in(self.words)
+    }
+
+    // The arena's address.
+    pub fn address(&self) -> u64
+        ensures { result ≡ address_in self.now }
+    {
+        address_in(self.words)
+    }
+
+    // The link of object `k`.
+    pub fn link(&self, k: usize) -> Link
+        ensures { result ≡ link_at self.now k }
+    {
+        link_at(self.words, k)
+    }
+
+    // The System V hash of a name, where it was made before or object `k` has a System V table; else 0, since no other table asks for it.
+    // `made` is 0 for none, and no `Option`, which each caller would unwrap for a number: a hash that is 0 is made again, and is the same.
+    pub(crate) fn elf_for(&self, k: usize, name: &[u8], made: u32) -> u32
+        requires { (made ≡ 0 → ⊥) → made ≡ elf_hash name.now }
+        ensures asked { word_at self.now k 4 ≡ 1 → result ≡ elf_hash name.now }
+        ensures made { (result ≡ 0 → ⊥) → result ≡ elf_hash name.now }
+    {
+        if made == 0 && word(self.words, k, 4) == 1 {
+            return words::hash::elf_hash(name);
+        }
+        made
+    }
+
+    // Whether the bloom filter of object `k` rules out every name with this GNU hash; the arena's last whole word is at `last`.
+    // Guards, and no one test: each later step may be computed only after those before it.
+    fn rules_out(&self, arena: &[u8], last: u64, k: usize, gnu: u32) -> bool
+        requires { (last + 8 ≤ length arena.now) × (k < count_in self.now) }
+        ensures { result ≡ true → Lacks arena.now (link_at self.now k) gnu }
+    {
+        let table = self.words;
+        let p = 16 * k;
+        let bits = table[p + 11];
+        if 32 <= bits {
+            return false;
+        }
+        let at = table[p + 10] % 0x1_0000_0000 + bloom_place(gnu, bits);
+        if last < at {
+            return false;
+        }
+        let w = u64::load(arena, at as usize);
+        let one = (w >> (gnu % 64)) % 2;
+        let two = (w >> ((gnu >> (table[p + 12] % 32)) % 64)) % 2;
+        one + two != 2
+    }
+
+    // Whether object `k` has no name with this GNU hash, as its bloom filter says; an object that is not of the set is not looked at.
+    pub(crate) fn ruled_out(&self, arena: &[u8], k: usize, gnu: u32) -> bool
+        ensures { result ≡ true → Lacks arena.now (link_at self.now k) gnu }
+    {
+        k < self.count()
+            && 8 <= arena.len()
+            && self.rules_out(arena, (arena.len() - 8) as u64, k, gnu)
+    }
 }

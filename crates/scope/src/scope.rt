@@ -1,23 +1,22 @@
 // Which object answers for a name: `resolve_symbol_address` of object_data_graph.rs, over the arena and the table of links.
-ghost use Rattle.std.specs.Prelude.{◌≡◌, true, ℕ, ◌+◌, ◌-◌, ◌*◌, ◌/◌, ◌%◌, ◌^◌, ◌≤◌, ◌<◌, length};
-ghost use Rattle.words.specs.Words.{sum64};
+ghost use Rattle.std.specs.Prelude.{◌≡◌, ◌-◌};
 ghost use Rattle.words.specs.Hash.{elf_hash};
-ghost use Rattle.scope.specs.Steps.Links.{word_at, link_at, links_from, count_in, address_in, FilteredAt, Filtered};
-ghost use Rattle.scope.specs.Steps.ScopeCode.{answer_at, Lacks, link_answer, own_answer, scan_links, resolve_links, resolve_copy_links};
+ghost use Rattle.scope.specs.Steps.Links.{link_at, links_from, count_in, address_in};
+ghost use Rattle.scope.specs.Steps.ScopeCode.{answer_at, or_else, link_answer, own_answer, scan_links, resolve_links, resolve_copy_links};
 
-use crate::links::Link;
+use crate::links::{Link, Links};
 use object::hash_tables::Definition;
-use words::word::Word;
 
 // What a search yields: the object that has the name, its definition and address.
 #[derive(Clone, Copy)]
-pub struct Found {
+pub struct Hit {
     pub object: usize,
     pub definition: Definition,
     pub address: u64,
 }
 
 // What the object at a link has for a name, whose hashes are given.
+#[tactic(auto, unfolding(crate::specs::Steps::ScopeCode::answer_at))]
 pub fn answer_at(arena: &[u8], s: Link, name: &[u8], gnu: u32, elf: u32) -> Option<Definition>
     ensures { result ≡ answer_at arena.now s name.now gnu elf }
 {
@@ -31,153 +30,90 @@ pub fn answer_at(arena: &[u8], s: Link, name: &[u8], gnu: u32, elf: u32) -> Opti
     )
 }
 
-// The System V hash of a name, where it was made before or object `k` has a System V table; else 0, since no other table asks for it.
-fn elf_for(table: &[u64], k: usize, name: &[u8], made: u32) -> u32
-    requires { (made ≡ 0 → ⊥) → made ≡ elf_hash name.now }
-    ensures asked { word_at table.now k 4 ≡ 1 → result ≡ elf_hash name.now }
-    ensures made { (result ≡ 0 → ⊥) → result ≡ elf_hash name.now }
-{
-    if made == 0 && crate::links::word(table, k, 4) == 1 {
-        return words::hash::elf_hash(name);
+impl<'a> Links<'a> {
+    // The answer of object `k`.
+    #[tactic(auto, unfolding(crate::specs::Steps::ScopeCode::link_answer, crate::specs::Steps::ScopeCode::scoped_by))]
+    fn link_answer(&self, arena: &[u8], k: usize, name: &[u8], gnu: u32, elf: u32) -> Option<Hit>
+        ensures { result ≡ link_answer (address_in self.now) arena.now k (link_at self.now k) name.now gnu elf }
+    {
+        let s = self.link(k);
+        let definition = answer_at(arena, s, name, gnu, elf)?;
+        let base = self.address().wrapping_add(s.offset as u64);
+        Some(Hit {
+            object: k,
+            definition,
+            address: definition.address_at(base),
+        })
     }
-    made
-}
 
-// Where the bloom word of a GNU hash stands among 2^bits of them.
-fn bloom_place(gnu: u32, bits: u64) -> u64
-    requires { bits < 32 }
-    ensures { (result ≡ 8 * (gnu / 64 % 2 ^ bits)) × (result < 2 ^ 32) }
-{
-    8 * (((gnu / 64) as u64) % (1 << bits))
-}
-
-// Whether the bloom filter of object `k` rules out every name with this GNU hash; the arena's last whole word is at `last`.
-fn rules_out(arena: &[u8], last: u64, table: &[u64], k: usize, gnu: u32) -> bool
-    requires { (last + 8 ≤ length arena.now) × (16 * k + 16 ≤ length table.now) × FilteredAt table.now k }
-    ensures { result ≡ true → Lacks arena.now (link_at table.now k) gnu }
-{
-    let p = 16 * k;
-    let bits = table[p + 11];
-    if 32 <= bits {
-        return false;
-    }
-    let at = table[p + 10] % 0x1_0000_0000 + bloom_place(gnu, bits);
-    if last < at {
-        return false;
-    }
-    let w = u64::load(arena, at as usize);
-    let one = (w >> (gnu % 64)) % 2;
-    let two = (w >> ((gnu >> (table[p + 12] % 32)) % 64)) % 2;
-    if one + two == 2 {
-        return false;
-    }
-    true
-}
-
-// Whether object `k` has no name with this GNU hash, as its bloom filter says; an object that is not of the set is not looked at.
-fn ruled_out(arena: &[u8], table: &[u64], k: usize, gnu: u32) -> bool
-    requires { Filtered table.now }
-    ensures { result ≡ true → Lacks arena.now (link_at table.now k) gnu }
-{
-    if crate::links::count_in(table) <= k {
-        return false;
-    }
-    if arena.len() < 8 {
-        return false;
-    }
-    rules_out(arena, (arena.len() - 8) as u64, table, k, gnu)
-}
-
-// The answer of object `k`.
-fn link_answer(
-    arena: &[u8],
-    table: &[u64],
-    k: usize,
-    name: &[u8],
-    gnu: u32,
-    elf: u32,
-) -> Option<Found>
-    requires { Filtered table.now }
-    ensures { result ≡ link_answer (address_in table.now) arena.now k (link_at table.now k) name.now gnu elf }
-{
-    let s = crate::links::link_at(table, k);
-    let definition = answer_at(arena, s, name, gnu, elf)?;
-    let base = crate::links::address_in(table).wrapping_add(s.offset as u64);
-    Some(Found {
-        object: k,
-        definition,
-        address: object::hash_tables::address_of(base, definition),
-    })
-}
-
-// The answer of object `k`, if its definition is protected.
-fn own_answer(
-    arena: &[u8],
-    table: &[u64],
-    k: usize,
-    name: &[u8],
-    gnu: u32,
-    elf: u32,
-) -> Option<Found>
-    requires { Filtered table.now }
-    ensures { result ≡ own_answer (address_in table.now) arena.now k (link_at table.now k) name.now gnu elf }
-{
-    if ruled_out(arena, table, k, gnu) {
-        return None;
-    }
-    link_answer(arena, table, k, name, gnu, elf).filter(|found| found.definition.protected)
-}
-
-// The first answer of the objects from `start` on for a name whose GNU hash is given. Its System V hash is made at the first object that has
-// a System V table.
-fn scan(arena: &[u8], table: &[u64], start: usize, name: &[u8], gnu: u32) -> Option<Found>
-    requires { Filtered table.now }
-    ensures { result ≡ scan_links (address_in table.now) arena.now start (links_from table.now start (count_in table.now - start)) name.now gnu (elf_hash name.now) }
-{
-    let mut elf = 0;
-    for k in start..crate::links::count_in(table) {
-        if ruled_out(arena, table, k, gnu) {
-            continue;
+    // The answer of object `k`, if its definition is protected.
+    fn own_answer(&self, arena: &[u8], k: usize, name: &[u8], gnu: u32, elf: u32) -> Option<Hit>
+        ensures { result ≡ own_answer (address_in self.now) arena.now k (link_at self.now k) name.now gnu elf }
+    {
+        if self.ruled_out(arena, k, gnu) {
+            return None;
         }
-        elf = elf_for(table, k, name, elf);
-        let found = link_answer(arena, table, k, name, gnu, elf);
-        if found.is_some() {
-            return found;
+        self.link_answer(arena, k, name, gnu, elf)
+            .filter(|found| found.definition.protected)
+    }
+
+    // The first answer of the objects from `start` on for a name whose GNU hash is given. Its System V hash is made at the first object that has
+    // a System V table.
+    fn scan(&self, arena: &[u8], start: usize, name: &[u8], gnu: u32) -> Option<Hit>
+        ensures { result ≡ scan_links (address_in self.now) arena.now start (links_from self.now start (count_in self.now - start)) name.now gnu (elf_hash name.now) }
+    {
+        let mut elf = 0;
+        for k in start..self.count() {
+            if self.ruled_out(arena, k, gnu) {
+                continue;
+            }
+            elf = self.elf_for(k, name, elf);
+            let found = self.link_answer(arena, k, name, gnu, elf);
+            if found.is_some() {
+                return found;
+            }
+        }
+        None
+    }
+
+    // The host's answer.
+    #[tactic(auto, using(crate::proofs::ScopeLaws::link_any))]
+    fn host_answer(&self, arena: &[u8], name: &[u8], gnu: u32) -> Option<Hit>
+        ensures { result ≡ link_answer (address_in self.now) arena.now 0 (link_at self.now 0) name.now gnu (elf_hash name.now) }
+    {
+        let elf = self.elf_for(0, name, 0);
+        self.link_answer(arena, 0, name, gnu, elf)
+    }
+
+    // The first answer of the objects from `start` on, else the host's. No `or_else`: nothing is known of a closure that captures `self`.
+    #[tactic(auto, unfolding(crate::specs::Steps::ScopeCode::or_else))]
+    fn scan_or_host(&self, arena: &[u8], start: usize, name: &[u8], gnu: u32) -> Option<Hit>
+        ensures { result ≡ or_else (scan_links (address_in self.now) arena.now start (links_from self.now start (count_in self.now - start)) name.now gnu (elf_hash name.now)) (link_answer (address_in self.now) arena.now 0 (link_at self.now 0) name.now gnu (elf_hash name.now)) }
+    {
+        match self.scan(arena, start, name, gnu) {
+            Some(found) => Some(found),
+            None => self.host_answer(arena, name, gnu),
         }
     }
-    None
-}
 
-// The host's answer.
-fn host_answer(arena: &[u8], table: &[u64], name: &[u8], gnu: u32) -> Option<Found>
-    requires { Filtered table.now }
-    ensures { result ≡ link_answer (address_in table.now) arena.now 0 (link_at table.now 0) name.now gnu (elf_hash name.now) }
-{
-    let elf = elf_for(table, 0, name, 0);
-    link_answer(arena, table, 0, name, gnu, elf)
-}
+    // The answer for a name, whose GNU hash is given: a protected definition of the requester, else program, libraries in list order, host. No
+    // `or_else`, as in `scan_or_host`.
+    #[tactic(auto, unfolding(crate::specs::Steps::ScopeCode::or_else, crate::specs::Steps::ScopeCode::resolve_links), using(crate::proofs::ScopeLaws::own_any))]
+    pub fn resolve(&self, arena: &[u8], requester: usize, name: &[u8], gnu: u32) -> Option<Hit>
+        ensures { result ≡ resolve_links arena.now self.now requester name.now gnu (elf_hash name.now) }
+    {
+        let elf = self.elf_for(requester, name, 0);
+        match self.own_answer(arena, requester, name, gnu, elf) {
+            Some(own) => Some(own),
+            None => self.scan_or_host(arena, 1, name, gnu),
+        }
+    }
 
-// The answer for a name, whose GNU hash is given: a protected definition of the requester, else program, libraries in list order, host.
-pub fn resolve(
-    arena: &[u8],
-    table: &[u64],
-    requester: usize,
-    name: &[u8],
-    gnu: u32,
-) -> Option<Found>
-    requires { Filtered table.now }
-    ensures { result ≡ resolve_links arena.now table.now requester name.now gnu (elf_hash name.now) }
-{
-    let elf = elf_for(table, requester, name, 0);
-    own_answer(arena, table, requester, name, gnu, elf)
-        .or_else(|| scan(arena, table, 1, name, gnu))
-        .or_else(|| host_answer(arena, table, name, gnu))
-}
-
-// COPY's answer for a name: libraries in list order, then host.
-pub fn resolve_copy(arena: &[u8], table: &[u64], name: &[u8], gnu: u32) -> Option<Found>
-    requires { Filtered table.now }
-    ensures { result ≡ resolve_copy_links arena.now table.now name.now gnu (elf_hash name.now) }
-{
-    scan(arena, table, 2, name, gnu).or_else(|| host_answer(arena, table, name, gnu))
+    // COPY's answer for a name: libraries in list order, then host.
+    #[tactic(auto, unfolding(crate::specs::Steps::ScopeCode::resolve_copy_links))]
+    pub fn resolve_copy(&self, arena: &[u8], name: &[u8], gnu: u32) -> Option<Hit>
+        ensures { result ≡ resolve_copy_links arena.now self.now name.now gnu (elf_hash name.now) }
+    {
+        self.scan_or_host(arena, 2, name, gnu)
+    }
 }

@@ -1,17 +1,15 @@
 -- What the objects that are kept stand for: those of the sheet; a part of the byte slice; the searches by name. Assumes nothing.
-use Prim.Native.Nat.{ℕ, suc, ◌+◌, ◌-◌, ◌≤◌, ◌<◌, min}
+use Prim.Native.Nat.{ℕ, suc, ◌+◌, ◌-◌, ◌≤◌, ◌<◌}
 use mathlib.Core.Bool.{Bool, true, false}
 use mathlib.Core.Path.{◌≡◌, refl, sym, ap, ◌∙◌}
 use mathlib.Core.List.{List, [], ◌∷◌, ◌++◌, map, append_assoc, append-nil}
 use native.Mathlib.Omega.{arith}
-use native.Mathlib.Decide.{dec_le}
-use lib.ListN.{length, take, drop, get_or, length-take, length-drop, length-map, drop_of_length-le}
-use lib.Seq.{take_all}
-use Rattle.std.proofs.lemmas.List.{map-append, take_more_set, drop-take, drop-map, take-map, get_or-map}
+use lib.ListN.{length, take, drop, get_or}
+use Rattle.std.proofs.lemmas.List.{map-append, drop-take, drop-map, take-map, get_or-map}
 use Rattle.std.specs.Prelude.{◌||◌, Option, Result, Ok, Err, Some, None}
 use Rattle.words.specs.declared.refusal.Refusal.{Refusal}
 use Rattle.words.specs.declared.refusal.Refusal.TheVariants as refusals
-use Rattle.std.specs.List.{list_any, slice_set}
+use Rattle.std.specs.List.{list_any}
 use borrow.Author.Tests.{ne_eqb, eqb-true, eqb-false}
 use lib.Dec.{eqb}
 use Rattle.words.specs.Choice as choice
@@ -63,44 +61,12 @@ after_length (x ∷ (y ∷ ws)) h = rw (after_two_is x y ws) (omega arith)
 
 -- one more object is kept
 pub kept_more :
-    (objects : List Object) (count : ℕ) (o : Object) (rest : List Input) → count < length objects
-    → map input_of (take (count + 1) (slice_set objects count o)) ++ rest ≡ map input_of (take count objects) ++ (input_of o ∷ rest)
-kept_more objects count o rest h =
-    rw (take_more_set objects count o h, map-append input_of (take count objects) (o ∷ []), append_assoc)
+    (objects : List Object) (o : Object) (rest : List Input)
+    → map input_of (objects ++ o ∷ []) ++ rest ≡ map input_of objects ++ (input_of o ∷ rest)
+kept_more objects o rest = rw (map-append input_of objects (o ∷ []), append_assoc)
 
 pub kept_all : (kept rest whole : List Input) → rest ≡ [] → kept ++ rest ≡ whole → kept ≡ whole
 kept_all kept rest whole none e = sym (append-nil kept) ∙ (ap (λ (r : List Input). kept ++ r) (sym none) ∙ e)
-
--- taking no more than there is
-pub take_short : {A : Type 0} (k len : ℕ) (l : List A) → k ≡ min len (length l) → take k l ≡ take len l
-take_short {A} k len l e = go (dec_le len (length l))
-  where
-    go : Dec (len ≤ length l) → take k l ≡ take len l
-    go (yes h) = let same : k ≡ len = omega arith in ap (λ (j : ℕ). take j l) same
-    go (no h) = take_all k l (omega arith) ∙ sym (take_all len l (omega arith))
-
--- dropping no more than there is
-drop_short : {A : Type 0} (s at : ℕ) (l : List A) → s ≡ min at (length l) → drop s l ≡ drop at l
-drop_short {A} s at l e = go (dec_le at (length l))
-  where
-    go : Dec (at ≤ length l) → drop s l ≡ drop at l
-    go (yes h) = let same : s ≡ at = omega arith in ap (λ (j : ℕ). drop j l) same
-    go (no h) = drop_of_length-le l {i = s} (omega arith) ∙ sym (drop_of_length-le l {i = at} (omega arith))
-
--- the part of the bytes from `at` on, as far as they go
-pub part_is : (bs : List ℕ) (at len s e : ℕ) → s ≡ min at (length bs) → e ≡ min (s + len) (length bs)
-    → take (e - s) (drop s bs) ≡ take len (drop at bs)
-part_is bs at len s e es ee =
-    let low : s ≤ length bs = omega arith in
-    take_short (e - s) len (drop s bs) (room low ee ∙ sym (ap (min len) (length-drop s bs)))
-    ∙ ap (take len) (drop_short s at bs es)
-  where
-    room : {s e n : ℕ} → s ≤ n → e ≡ min (s + len) n → e - s ≡ min len (n - s)
-    room {s} {e} {n} h f = omega arith
-
--- how many objects are kept
-pub inputs_length : (objects : List Object) (count : ℕ) → count ≤ length objects → length (map input_of (take count objects)) ≡ count
-inputs_length objects count h = length-map (take count objects) input_of ∙ length-take count objects ∙ omega arith
 
 -- ---- the searches
 

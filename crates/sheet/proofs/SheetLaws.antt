@@ -1,15 +1,19 @@
 -- What the loop of `sheet_ok` over the sheet's words cites, and what a sheet that is not refused tells. Assumes nothing.
-use Prim.Native.Nat.{ℕ, ◌+◌, ◌-◌, ◌≤◌, ◌<◌}
-use mathlib.Core.Bool.{true, false}
-use mathlib.Core.Path.{◌≡◌, refl, ap, ◌∙◌}
-use mathlib.Core.List.{List, [], ◌∷◌}
+use Prim.Native.Nat.{ℕ, ◌+◌, ◌-◌, ◌%◌, ◌≤◌, ◌<◌}
+use mathlib.Core.Bool.{Bool, true, false}
+use mathlib.Core.Path.{◌≡◌, refl, sym, ap, ◌∙◌}
+use mathlib.Core.List.{List, [], ◌∷◌, ◌++◌}
 use native.Mathlib.Omega.{arith}
 use native.Mathlib.Numerals.{add-one}
 use lib.Dec.{leb, eqb}
-use lib.ListN.{length, take, drop, get_or}
+use lib.ListN.{length, take, drop, get_or, length-append}
 use lib.Seq.{drop-cons, take_all}
 use borrow.Author.Tests.{leb-true, eqb-true}
-use Rattle.std.specs.List.{sum_by}
+use Rattle.std.specs.Prelude.{◌&&◌}
+use Rattle.std.specs.List.{list_all, sum_by}
+use Rattle.std.specs.Iterator.{AlwaysYields}
+use Rattle.std.specs.Slice.Iter.{chunks_exact_rest, chunks_exact_size, chunks_exact_steps}
+use Rattle.std.specs.declared.slice.ChunksExact.{ChunksExact}
 use Rattle.std.proofs.lemmas.List.Sums.{sum_by-cons}
 use Rattle.words.specs.Choice.{both}
 use Rattle.words.proofs.Choice.{both_true}
@@ -17,12 +21,6 @@ use Rattle.sheet.specs.Sheet.{kind_of, length_in, pair_ok, lib_words, total, she
 
 pub drop_next {ℓ} : {A : Type ℓ} (l : List A) (i : ℕ) (d : A) → i < length l → drop i l ≡ get_or l i d ∷ drop (i + 1) l
 drop_next l i d h = rw (add-one, drop-cons l i d)
-
-pub pair_at : (xs : List ℕ) (i : ℕ) → i + 2 ≤ length xs → drop i xs ≡ get_or xs i 0 ∷ (get_or xs (i + 1) 0 ∷ drop (i + 2) xs)
-pair_at xs i h =
-    let e : i + 1 + 1 ≡ i + 2 = omega arith in
-    drop_next xs i 0 (omega arith)
-    ∙ ap (λ (t : List ℕ). get_or xs i 0 ∷ t) (drop_next xs (i + 1) 0 (omega arith) ∙ ap (λ (j : ℕ). get_or xs (i + 1) 0 ∷ drop j xs) e)
 
 pub sheet_short : (xs : List ℕ) (n : ℕ) → length xs < 2 → sheet_ok xs n ≡ false
 unfolding sheet_ok
@@ -46,18 +44,53 @@ sheet_is [] n h = absurd (omega arith)
 sheet_is (x ∷ []) n h = absurd (omega arith)
 sheet_is (x ∷ (y ∷ xs)) n h = rw (after_two_is x y xs)
 
--- the words of a library, and those of the others
-pub libs_next : (xs : List ℕ) → 2 ≤ length xs → lib_words xs ≡ both (pair_ok (get_or xs 0 0) (get_or xs 1 0)) (lib_words (after_two xs))
-unfolding lib_words
-libs_next [] h = absurd (omega arith)
-libs_next (x ∷ []) h = absurd (omega arith)
-libs_next (x ∷ (y ∷ xs)) h = rw (after_two_is x y xs)
+-- the words two by two, as `chunks_exact` gives them
+unfoldable pub pairs : List ℕ → List (List ℕ)
+pairs [] = []
+pairs (x ∷ []) = []
+pairs (x ∷ (y ∷ xs)) = (x ∷ (y ∷ [])) ∷ pairs xs
 
-pub libs_end : (xs : List ℕ) → length xs < 2 → lib_words xs ≡ eqb (length xs) 0
+first_two : (c r xs : List ℕ) (x y : ℕ) → length c ≡ 2 → x ∷ (y ∷ xs) ≡ c ++ r → (c ≡ x ∷ (y ∷ [])) × (r ≡ xs)
+first_two [] r xs x y h e = absurd (omega (arith, h))
+first_two (a ∷ []) r xs x y h e = absurd (omega (arith, h))
+first_two (a ∷ (b ∷ [])) r xs x y h e =
+    let f : x ≡ a = ap (λ (l : List ℕ). get_or l 0 0) e in
+    let g : y ≡ b = ap (λ (l : List ℕ). get_or l 1 0) e in
+    (rw (f, g) refl, sym (ap (λ (l : List ℕ). drop 2 l) e))
+first_two (a ∷ (b ∷ (d ∷ c))) r xs x y h e = absurd (omega (arith, h))
+
+pub chunks_yield : (xs : List ℕ) (s : ChunksExact ℕ) → chunks_exact_rest s ≡ xs → chunks_exact_size s ≡ 2
+    → AlwaysYields chunks_exact_steps (λ x. x.now) s (pairs xs)
+unfolding pairs
+chunks_yield [] s e z = λ c j p. absurd (omega (arith, z, p.1.1, sym (ap length e) ∙ (ap length p.1.0 ∙ length-append c.now (chunks_exact_rest j))))
+chunks_yield (x ∷ []) s e z = λ c j p. absurd (omega (arith, z, p.1.1, sym (ap length e) ∙ (ap length p.1.0 ∙ length-append c.now (chunks_exact_rest j))))
+chunks_yield (x ∷ (y ∷ xs)) s e z = (
+  (λ j p. absurd (omega (arith, z, p.1.0, ap length e))),
+  λ c j p.
+      let t = first_two c.now (chunks_exact_rest j) xs x y (p.1.1 ∙ z) (sym e ∙ p.1.0) in
+      (t.0, chunks_yield xs j t.1 (p.0 ∙ z)),
+)
+
+pub libs_pairs : (xs : List ℕ) → length xs % 2 ≡ 0 → list_all (λ p. pair_ok (get_or p 0 0) (get_or p 1 0)) (pairs xs) ≡ lib_words xs
+unfolding pairs lib_words
+libs_pairs [] h = refl
+libs_pairs (x ∷ []) h = absurd (omega arith)
+libs_pairs (x ∷ (y ∷ xs)) h = go (pair_ok x y) (libs_pairs xs (omega arith))
+  where
+    go : (b : Bool) → list_all (λ p. pair_ok (get_or p 0 0) (get_or p 1 0)) (pairs xs) ≡ lib_words xs
+        → (b && list_all (λ p. pair_ok (get_or p 0 0) (get_or p 1 0)) (pairs xs)) ≡ both b (lib_words xs)
+    go true e = e
+    go false e = refl
+
+pub libs_odd : (xs : List ℕ) → (length xs % 2 ≡ 0 → ⊥) → lib_words xs ≡ false
 unfolding lib_words
-libs_end [] h = refl
-libs_end (x ∷ []) h = refl
-libs_end (x ∷ (y ∷ xs)) h = absurd (omega arith)
+libs_odd [] h = absurd (h (omega arith))
+libs_odd (x ∷ []) h = refl
+libs_odd (x ∷ (y ∷ xs)) h = go (pair_ok x y) (libs_odd xs (λ e. h (omega (arith, e))))
+  where
+    go : (b : Bool) → lib_words xs ≡ false → both b (lib_words xs) ≡ false
+    go true e = e
+    go false e = refl
 
 pub total_is : (xs : List ℕ) → sum_by length_in xs ≡ total xs
 unfolding total

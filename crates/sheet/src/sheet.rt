@@ -6,34 +6,31 @@ ghost use Rattle.sheet.specs.Sheet.{kind_of, length_in, pair_ok, lib_words, tota
 ghost use Rattle.sheet.specs.Steps.Objects.{duplicate_in, input_of};
 ghost use Rattle.words.specs.Choice.{pick};
 
+use arrayvec::ArrayVec;
 use std::marker::Model;
 use words::refusal::Refusal;
 
 // An object as it is handed in: its file, the host's being its image, and its name; host and program have none.
-#[derive(Clone, Copy)]
+#[derive(Clone, Copy, Default)]
 pub struct Object<'a> {
     pub file: &'a [u8],
     pub name: &'a [u8],
 }
 
-// A set of at most 64 objects, by number; as a sheet hands it in, host, program and at most 62 libraries. Its array and its count are private to
-// it: callers see a list.
-#[derive(Drop)]
+// A set of at most 64 objects, by number; as a sheet hands it in, host, program and at most 62 libraries. Callers see a list.
+#[derive(Clone, Drop)]
 pub struct Set<'a> {
-    objects: [Object<'a>; 64],
-    count: usize,
+    objects: ArrayVec<Object<'a>, 64>,
 }
 
 impl<'a> Model for Set<'a> {
-    ghost use Rattle.std.specs.Prelude.{List, length, map, take, ◌≤◌, ◌≡◌};
+    ghost use Rattle.std.specs.Prelude.{List, map};
     ghost use Rattle.sheet.specs.Sheet.{Input};
     ghost use Rattle.sheet.specs.Steps.Objects.{input_of};
 
     ghost Value = { List Input };
 
-    ghost view = { λ s. map input_of (take s.count s.objects) };
-
-    ghost invariant = { λ s. (s.count ≤ 64) × (length s.objects ≡ 64) };
+    ghost view = { λ s. map input_of s.objects.items };
 }
 
 fn kind(w: u32) -> u32
@@ -60,14 +57,7 @@ fn pair_ok(f: u32, n: u32) -> bool
 fn libs_ok(libraries: &[u32]) -> bool
     ensures { result ≡ lib_words libraries.now }
 {
-    let mut rest = libraries;
-    while let [f, n, others @ ..] = rest {
-        if !pair_ok(*f, *n) {
-            return false;
-        }
-        rest = others;
-    }
-    rest.is_empty()
+    libraries.len() % 2 == 0 && libraries.chunks_exact(2).all(|p| pair_ok(p[0], p[1]))
 }
 
 // How many bytes the words name.
@@ -78,7 +68,7 @@ fn total(words: &[u32]) -> usize
     words.iter().map(|w| size(*w)).sum()
 }
 
-// Whether refusal 1 is not met; `n` is the byte slice's length.
+// Whether refusal 1 is not met; `n` is the byte slice's length. A guard, and no one test: the tests speak of the words that it names.
 #[tactic(auto, using(crate::proofs::SheetLaws::sheet_short, crate::proofs::SheetLaws::sheet_is, crate::proofs::SheetLaws::total_is))]
 pub fn sheet_ok(sheet: &[u32], n: usize) -> bool
     ensures { result ≡ sheet_ok sheet.now n }
@@ -107,27 +97,28 @@ fn cut<'a>(sheet: &[u32], bytes: &'a [u8]) -> Set<'a>
     ensures is { result ≡ set_of sheet.now bytes.now }
     ensures two { 2 ≤ length result }
 {
-    let none = Object {
-        file: &[],
-        name: &[],
-    };
-    let mut objects = [none; 64];
     let (host, rest) = bytes.split_at(size(sheet[0]));
     let (program, rest) = rest.split_at(size(sheet[1]));
-    objects[0].file = host;
-    objects[1].file = program;
-    let mut count = 2;
+    let mut objects = ArrayVec::new();
+    objects.push(Object {
+        file: host,
+        name: &[],
+    });
+    objects.push(Object {
+        file: program,
+        name: &[],
+    });
     let mut rest = rest;
+    // a part starts where the one before it ends; a `for` over `chunks_exact(2)` was not tried: the invariant speaks of the words that are left
     let mut words = &sheet[2..];
     while let [f, n, others @ ..] = words {
         let (file, after) = rest.split_at(size(*f));
         let (name, after) = after.split_at(size(*n));
-        objects[count] = Object { file, name };
-        count += 1;
+        objects.push(Object { file, name });
         rest = after;
         words = others;
     }
-    Set { objects, count }
+    Set { objects }
 }
 
 impl<'a> Set<'a> {
@@ -146,20 +137,8 @@ impl<'a> Set<'a> {
     pub fn from_objects(objects: &[Object<'a>]) -> Option<Set<'a>>
         ensures { result ≡ pick (leb (length objects.now) 64) (Some (map input_of objects.now)) None }
     {
-        if 64 < objects.len() {
-            return None;
-        }
-        let none = Object {
-            file: &[],
-            name: &[],
-        };
-        let count = objects.len();
-        let mut all = [none; 64];
-        all[..count].copy_from_slice(objects);
-        Some(Set {
-            objects: all,
-            count,
-        })
+        let objects = ArrayVec::try_from(objects).ok()?;
+        Some(Set { objects })
     }
 
     // How many objects it has.
@@ -167,29 +146,21 @@ impl<'a> Set<'a> {
         ensures is { result ≡ length self.now }
         ensures high { result ≤ 64 }
     {
-        self.count
+        self.objects.len()
     }
 
     // The file of object k; empty where there is no such object.
     pub fn file(&self, k: usize) -> &'a [u8]
         ensures { result.now ≡ (get_or self.now k no_input).file }
     {
-        if k < self.count {
-            self.objects[k].file
-        } else {
-            &[]
-        }
+        self.objects.get(k).map_or(&[], |o| o.file)
     }
 
     // The name of object k, likewise.
     pub fn name(&self, k: usize) -> &'a [u8]
         ensures { result.now ≡ (get_or self.now k no_input).name }
     {
-        if k < self.count {
-            self.objects[k].name
-        } else {
-            &[]
-        }
+        self.objects.get(k).map_or(&[], |o| o.name)
     }
 
     // Refusal 3: the first library whose name an earlier one has.
@@ -197,7 +168,8 @@ impl<'a> Set<'a> {
         ensures is { result ≡ duplicate_in self.now }
         ensures few { IfSome result (λ k. k < 64) }
     {
-        let objects = &self.objects[..self.count];
+        let objects = self.objects.as_slice();
+        // no `find`: the proof does not close, as its test of a number past the end needs an object that has no name there
         for k in 2..objects.len() {
             if has_name(&objects[2..k], objects[k].name) {
                 return Some(k);

@@ -1,20 +1,16 @@
 -- Words that go to a list one after another, and what the loops over an order leave. Assumes nothing.
 use mathlib.Core.Path.{◌≡◌, refl, sym, ap, ◌∙◌, subst}
-use mathlib.Core.List.{List, [], ◌∷◌, ◌++◌, reverse, reverse_aux}
-use mathlib.Core.Bool.{Bool, true, false}
+use mathlib.Core.List.{List, [], ◌∷◌, ◌++◌}
 use mathlib.Core.Logic.{◌⊎◌, inl, inr, ⊎_elim}
 use native.Mathlib.Decide.{dec_lt}
-use Prim.Native.Nat.{ℕ, zero, suc, ◌+◌, ◌-◌, ◌*◌, ◌^◌, ◌≤◌, ◌<◌}
+use Prim.Native.Nat.{ℕ, zero, suc, ◌+◌, ◌-◌, ◌≤◌, ◌<◌}
 use native.Mathlib.Omega.{arith}
-use lib.Dec.{eqb}
-use lib.ListN.{length, get_or, take, drop, replicate, drop_of_length-le, length-append, length-replicate, length-reverse, get_or-replicate, get_or-append}
+use lib.ListN.{length, get_or, drop, set, replicate, drop_of_length-le, length-append, length-replicate, get_or-replicate, get_or-append}
 use lib.Seq.{drop-cons, get_or-append-add}
-use Rattle.words.specs.Choice.{pick}
-use Rattle.words.specs.Words.{le_at, sum64}
-use Rattle.words.specs.Memory.{Mem, mem, tab, write, patch}
-use Rattle.words.proofs.Slices.{mem_ext, length_tab, mem_tab, length_patch, mem_patch_at, patch_none, patch_same, patch_join}
+use Rattle.words.specs.Memory.{mem, write, patch}
+use Rattle.words.proofs.Slices.{mem_ext, length_patch, mem_patch_at, patch_none, patch_same, patch_past, patch_one, patch_join}
 use Rattle.words.proofs.Memory.{write_in, write_out}
-use Rattle.start_stop.specs.StartStop.{Array, Calls, function_of, words_of, starts_of, stops_of, in_turn, padded}
+use Rattle.start_stop.specs.StartStop.{in_turn, padded}
 use Rattle.start_stop.specs.Steps.Listed.{Put}
 
 split : (a b : ℕ) → (a < b) ⊎ (b ≤ a)
@@ -52,63 +48,6 @@ put_both {a} {b} {n} {m} {r} {xs} {ys} {zs} p q =
       next = omega (arith, q.next, p.next, length-append a b);
     }
 
--- the words that a function gives, one by one
-pub put_tab : (count n : ℕ) (f : ℕ → ℕ) {xs ys : List ℕ} → ys ≡ patch xs n count f → Put (tab count f) n xs ys (n + count)
-put_tab count n f {xs} {ys} e =
-    record {
-      list =
-          e
-          ∙ (patch_same xs n count f (mem (tab count f)) (λ k l. sym (mem_tab count f k l))
-          ∙ ap (λ (i : ℕ). patch xs n i (mem (tab count f))) (sym (length_tab count f)));
-      next = omega (arith, length_tab count f);
-    }
-
--- the same backwards
-past_reversed : (l r : List ℕ) (j : ℕ) → mem (reverse_aux l r) (length l + j) ≡ mem r j
-unfolding mem
-past_reversed [] r j = ap (λ (i : ℕ). mem r i) (omega arith)
-past_reversed (x ∷ xs) r j =
-    let n : suc (length xs) + j ≡ length xs + suc j = omega arith in
-    ap (λ (i : ℕ). mem (reverse_aux xs (x ∷ r)) i) n ∙ past_reversed xs (x ∷ r) (suc j)
-
-mem_reversed : (l r : List ℕ) (i : ℕ) → i < length l → mem (reverse_aux l r) i ≡ mem l (length l - 1 - i)
-unfolding mem
-mem_reversed [] r i h = absurd (omega arith)
-mem_reversed (x ∷ xs) r i h = ⊎_elim (λ l. inner l (mem_reversed xs (x ∷ r) i l)) last (split i (length xs))
-  where
-    inner :
-        i < length xs → mem (reverse_aux xs (x ∷ r)) i ≡ mem xs (length xs - 1 - i)
-        → mem (reverse_aux xs (x ∷ r)) i ≡ mem (x ∷ xs) (suc (length xs) - 1 - i)
-    inner l before =
-        let n : suc (length xs - 1 - i) ≡ suc (length xs) - 1 - i = omega arith in
-        before ∙ ap (λ (k : ℕ). mem (x ∷ xs) k) n
-
-    last : length xs ≤ i → mem (reverse_aux xs (x ∷ r)) i ≡ mem (x ∷ xs) (suc (length xs) - 1 - i)
-    last l =
-        let n : i ≡ length xs + 0 = omega arith in
-        let m : 0 ≡ suc (length xs) - 1 - i = omega arith in
-        ap (λ (k : ℕ). mem (reverse_aux xs (x ∷ r)) k) n ∙ (past_reversed xs (x ∷ r) 0 ∙ ap (λ (k : ℕ). mem (x ∷ xs) k) m)
-
-pub put_back :
-    (count n : ℕ) (f : ℕ → ℕ) {xs ys : List ℕ} → ys ≡ patch xs n count (λ i. f (count - 1 - i)) → Put (reverse (tab count f)) n xs ys (n + count)
-put_back count n f {xs} {ys} e =
-    record {
-      list =
-          e
-          ∙ (patch_same xs n count (λ i. f (count - 1 - i)) (mem (reverse (tab count f))) (λ k l. sym (at k l))
-          ∙ ap (λ (i : ℕ). patch xs n i (mem (reverse (tab count f)))) (sym many));
-      next = omega (arith, many);
-    }
-  where
-    many : length (reverse (tab count f)) ≡ count
-    many = length-reverse (tab count f) ∙ length_tab count f
-
-    at : (k : ℕ) → k < count → mem (reverse (tab count f)) k ≡ f (count - 1 - k)
-    at k l =
-        let n : length (tab count f) ≡ count = length_tab count f in
-        mem_reversed (tab count f) [] k (omega (arith, n))
-        ∙ (ap (λ (i : ℕ). mem (tab count f) (i - 1 - k)) n ∙ mem_tab count f (count - 1 - k) (omega arith))
-
 -- one word
 one_word : (v k : ℕ) → k < 1 → v ≡ mem (v ∷ []) k
 unfolding mem
@@ -118,6 +57,13 @@ one_word v (suc k) l = absurd (omega arith)
 pub put_one : (n v : ℕ) {xs ys : List ℕ} → ys ≡ patch xs n 1 (λ _. v) → Put (v ∷ []) n xs ys (n + 1)
 put_one n v {xs} {ys} e =
     record { list = e ∙ patch_same xs n 1 (λ _. v) (mem (v ∷ [])) (λ k l. one_word v k l); next = omega arith }
+
+pub put_word : (n v : ℕ) {xs ys : List ℕ} → ys ≡ set xs n v → Put (v ∷ []) n xs ys (n + 1)
+put_word n v {xs} {ys} e = put_one n v (e ∙ patch_one xs n v)
+
+-- one that falls past the end
+pub put_past : (n v : ℕ) (xs : List ℕ) → length xs ≤ n → Put (v ∷ []) n xs xs (n + 1)
+put_past n v xs past = put_one n v (sym (patch_past xs n 1 (λ _. v) past))
 
 mem_zeros : (n i : ℕ) → i < n → mem (replicate n 0) i ≡ 0
 unfolding mem
@@ -173,20 +119,6 @@ pub turns_end : (gives : ℕ → List ℕ) (l : List ℕ) (i : ℕ) → length l
 unfolding in_turn
 turns_end gives l i h = ap (in_turn gives) (drop_of_length-le l {i = i} h)
 
--- the same backwards
-back_aux : (l : List ℕ) (i : ℕ) (r : List ℕ) → i < length l → reverse_aux (take (suc i) l) r ≡ get_or l i 0 ∷ reverse_aux (take i l) r
-back_aux [] i r h = absurd (omega arith)
-back_aux (x ∷ xs) zero r h = refl
-back_aux (x ∷ xs) (suc i) r h = back_aux xs i (x ∷ r) (omega arith)
-
-pub back_next :
-    (gives : ℕ → List ℕ) (l : List ℕ) (i j : ℕ) → i ≡ j + 1 → j < length l
-    → in_turn gives (reverse (take i l)) ≡ gives (get_or l j 0) ++ in_turn gives (reverse (take j l))
-unfolding in_turn
-back_next gives l i j e h =
-    let n : i ≡ suc j = omega arith in
-    ap (λ (k : ℕ). in_turn gives (reverse (take k l))) n ∙ ap (in_turn gives) (back_aux l j [] h)
-
 -- what the loop leaves is what is left, put after what was
 abbrev pub Left : List ℕ → ℕ → List ℕ → List ℕ → ℕ → List ℕ → Type 0
 Left all n₀ xs₀ rest n xs = (ys : List ℕ) (r : ℕ) → Put rest n xs ys r → Put all n₀ xs₀ ys r
@@ -199,40 +131,3 @@ left_next {all} {rest} {a} {b} {n₀} {n} {m} {xs₀} {xs} {ys} left e p zs r q 
 
 pub left_end : {all rest : List ℕ} {n₀ n : ℕ} {xs₀ xs : List ℕ} → Left all n₀ xs₀ rest n xs → rest ≡ [] → Put all n₀ xs₀ xs n
 left_end {all} {rest} {n₀} {n} {xs₀} {xs} left e = left xs n (subst (λ (l : List ℕ). Put l n xs xs n) (sym e) (put_none n xs))
-
--- ---- how many words an object gives
-
-pub function_few : (base value : ℕ) → length (function_of base value) ≤ 1
-unfolding function_of
-function_few base value = go (eqb value 0)
-  where
-    go : (t : Bool) → length (pick t [] (sum64 base value ∷ [])) ≤ 1
-    go true = omega arith
-    go false = omega arith
-
-pub words_length : (bytes : Mem) (a : Array) → length (words_of bytes a) ≡ a.count
-unfolding words_of
-words_length bytes a = length_tab a.count (λ i. le_at 8 bytes (a.at + 8 * i))
-
-pub starts_few : (c : Calls) → c.inits.count ≤ 2 ^ 25 → length (starts_of c) ≤ 2 ^ 26
-unfolding starts_of
-starts_few c l =
-    omega (
-      arith,
-      length-append (function_of c.base c.init) (words_of c.bytes c.inits),
-      function_few c.base c.init,
-      words_length c.bytes c.inits,
-      l,
-    )
-
-pub stops_few : (c : Calls) → c.finis.count ≤ 2 ^ 25 → length (stops_of c) ≤ 2 ^ 26
-unfolding stops_of
-stops_few c l =
-    omega (
-      arith,
-      length-append (reverse (words_of c.bytes c.finis)) (function_of c.base c.fini),
-      function_few c.base c.fini,
-      length-reverse (words_of c.bytes c.finis),
-      words_length c.bytes c.finis,
-      l,
-    )

@@ -10,12 +10,14 @@ use lib.Dec.{eqb, leb}
 use lib.ListN.{length, get_or, replicate}
 use Rattle.words.proofs.Choice.{both_true}
 use Rattle.model.proofs.OrderLaws.{decide}
-use Rattle.binder.specs.Verdict.{Verdict, passed, refused, first}
+use Rattle.binder.specs.Verdict.{passed, refused}
 use Rattle.binder.specs.Bind as bind
 use Rattle.binder.specs.Bind.{unless}
 use Rattle.binder.proofs.OutcomeLaws.{first_passed, unless_passed}
 use Rattle.start_stop.specs.StartStop as defs
-use Rattle.start_stop.specs.StartStop.{counted, Array, Calls, words_of, starts_of, stops_of, in_turn, start_list, stop_list, in_span, arrays_ok, arrays_verdict, lists_verdict, listing_of, list_by}
+use Rattle.start_stop.specs.StartStop.{counted, Calls, words_of, starts_of, stops_of, in_turn, start_list, stop_list, in_span, arrays_ok, arrays_verdict, lists_verdict, listing_of, list_by}
+use Rattle.start_stop.specs.declared.rows.Array.{Array}
+use Rattle.start_stop.specs.declared.rows.Row.{Row}
 use Rattle.start_stop.specs.Steps.Rows.{row_at, calls_at, AllFew, InOrder}
 use Rattle.start_stop.specs.Steps.Listed as listed
 use Rattle.start_stop.specs.Steps.Listed.{Put, finished_of, ListsMade}
@@ -51,24 +53,16 @@ arrays_few k c e l =
     let b = both_true (in_span c.span c.finis) _ a.1 in
     (span_few c.span c.inits a.0 l, span_few c.span c.finis b.0 l, λ z. span_few c.span c.preinits (rw (eq-eqb k 1 z) at b.1) l)
 
-module _ (arena table rows order : List ℕ) (in_order : InOrder table order) (e : arrays_verdict (calls_at arena table rows) order ≡ passed) where
+module _ (arena table : List ℕ) (rows : List Row) (order : List ℕ) (in_order : InOrder table order) (e : arrays_verdict (calls_at arena table rows) order ≡ passed) where
   pub few_words : AllFew rows order
   few_words i h =
       let f = arrays_few _ _ (passed_at (calls_at arena table rows) order i e h) (in_order.spans i h) in
       record { inits = f.0; finis = f.1 }
 
-  pub few_preinits : row_at rows 1 3 ≤ 2 ^ 25
+  pub few_preinits : (row_at rows 1).preinits.count ≤ 2 ^ 25
   few_preinits =
       let f = arrays_few _ _ (passed_at (calls_at arena table rows) order in_order.place e in_order.there) (in_order.spans in_order.place in_order.there) in
-      subst (λ (k : ℕ). row_at rows k 3 ≤ 2 ^ 25) in_order.program (f.2 in_order.program)
-
--- the arena plays no part in refusal 26
-pub arrays_any :
-    (a b table rows order : List ℕ) → arrays_verdict (calls_at a table rows) order ≡ arrays_verdict (calls_at b table rows) order
-unfolding defs.arrays_verdict defs.arrays_ok
-arrays_any a b table rows [] = refl
-arrays_any a b table rows (k ∷ ks) =
-    ap (λ (v : Verdict). first (unless (arrays_ok k (calls_at b table rows k)) 26 k) v) (arrays_any a b table rows ks)
+      subst (λ (k : ℕ). (row_at rows k).preinits.count ≤ 2 ^ 25) in_order.program (f.2 in_order.program)
 
 -- ---- what is answered
 

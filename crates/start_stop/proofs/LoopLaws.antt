@@ -1,18 +1,21 @@
 -- The turns of the loops over an order. Assumes nothing.
-use mathlib.Core.Path.{◌≡◌, sym, ap, ◌∙◌, subst}
+use mathlib.Core.Path.{◌≡◌, refl, sym, ap, ◌∙◌, subst}
 use mathlib.Core.Bool.{true, false}
-use mathlib.Core.List.{List, reverse}
+use mathlib.Core.List.{List, [], ◌∷◌, ◌++◌, reverse}
 use Prim.Native.Nat.{ℕ, suc, ◌+◌, ◌≤◌, ◌<◌}
 use native.Mathlib.Omega.{arith}
-use lib.ListN.{length, get_or, take, drop, drop_of_length-le}
-use lib.Seq.{drop-cons, take-length}
+use lib.ListN.{length, get_or, drop, drop_of_length-le, length-append, get_or-append}
+use lib.Seq.{drop-cons, get_or-append_seam}
+use Rattle.std.proofs.lemmas.List.{reverse-append}
 use Rattle.binder.specs.Verdict.{Verdict, passed, refused, first}
 use Rattle.binder.specs.Bind as bind
 use Rattle.binder.specs.Bind.{unless}
 use Rattle.start_stop.specs.StartStop as defs
-use Rattle.start_stop.specs.StartStop.{Calls, starts_of, stops_of, in_turn, stop_list, arrays_ok, arrays_verdict}
+use Rattle.start_stop.specs.StartStop.{Calls, words_of, starts_of, stops_of, in_turn, start_list, stop_list, arrays_ok, arrays_verdict}
+use Rattle.start_stop.specs.declared.rows.Row.{Row}
+use Rattle.start_stop.specs.Steps.Rows.{FewWords, AllFew}
 use Rattle.start_stop.specs.Steps.Listed.{Put}
-use Rattle.start_stop.proofs.ListLaws.{turn_next, turns_end, back_next, Left, left_next, left_end}
+use Rattle.start_stop.proofs.ListLaws.{put_both, turn_next, turns_end, Left, left_next, left_end}
 
 module _ (ks : List ℕ) where
   -- ---- refusal 26
@@ -62,25 +65,43 @@ module _ (ks : List ℕ) where
         → Left all n₀ xs₀ (in_turn (λ k. starts_of (calls k)) (drop i ks)) m xs → Put all n₀ xs₀ xs m
     start_end i h left = left_end left (turns_end (λ k. starts_of (calls k)) ks i (omega arith))
 
-    -- ---- the stop list
+    -- the preinit array was put before
+    pub start_first :
+        {xs₀ xs : List ℕ} {m : ℕ} → Put (words_of (calls 1).bytes (calls 1).preinits) 0 xs₀ xs m
+        → Left (start_list calls ks) 0 xs₀ (in_turn (λ k. starts_of (calls k)) ks) m xs
+    unfolding defs.start_list
+    start_first p zs r q = put_both p q
 
-    pub stop_first :
-        (xs : List ℕ) → Left (stop_list calls ks) 0 xs (in_turn (λ k. stops_of (calls k)) (reverse (take (length ks) ks))) 0 xs
-    unfolding defs.stop_list
-    stop_first xs zs r q =
-        subst (λ (o : List ℕ). Put (in_turn (λ k. stops_of (calls k)) (reverse o)) 0 xs zs r) (take-length ks) q
+-- ---- the stop list, from the last of what is left on
 
-    pub stop_next :
-        (i j : ℕ) {all xs₀ xs ys : List ℕ} {m r : ℕ} → i ≡ j + 1 → j < length ks
-        → Left all 0 xs₀ (in_turn (λ k. stops_of (calls k)) (reverse (take i ks))) m xs → Put (stops_of (calls (get_or ks j 0))) m xs ys r
-        → Left all 0 xs₀ (in_turn (λ k. stops_of (calls k)) (reverse (take j ks))) r ys
-    stop_next i j e h left p =
-        left_next left
-        (back_next (λ k. stops_of (calls k)) ks i j e h)
-        p
+module _ (calls : ℕ → Calls) where
+  pub stop_first : (ks xs : List ℕ) → Left (stop_list calls ks) 0 xs (in_turn (λ k. stops_of (calls k)) (reverse ks)) 0 xs
+  unfolding defs.stop_list
+  stop_first ks xs zs r q = q
 
-    pub stop_end :
-        (i : ℕ) {all xs₀ xs : List ℕ} {m : ℕ} → i ≡ 0
-        → Left all 0 xs₀ (in_turn (λ k. stops_of (calls k)) (reverse (take i ks))) m xs → Put all 0 xs₀ xs m
-    unfolding defs.in_turn
-    stop_end i e left = left_end left (ap (λ (j : ℕ). in_turn (λ k. stops_of (calls k)) (reverse (take j ks))) e)
+  pub stop_next :
+      (ks rest : List ℕ) (k : ℕ) {all xs₀ xs ys : List ℕ} {m r : ℕ} → ks ≡ rest ++ k ∷ []
+      → Left all 0 xs₀ (in_turn (λ k. stops_of (calls k)) (reverse ks)) m xs → Put (stops_of (calls k)) m xs ys r
+      → Left all 0 xs₀ (in_turn (λ k. stops_of (calls k)) (reverse rest)) r ys
+  unfolding defs.in_turn
+  stop_next ks rest k e left p =
+      left_next left
+      (ap (λ (l : List ℕ). in_turn (λ k. stops_of (calls k)) (reverse l)) e ∙ ap (in_turn (λ k. stops_of (calls k))) (reverse-append rest (k ∷ [])))
+      p
+
+  pub stop_end :
+      (ks : List ℕ) {all xs₀ xs : List ℕ} {m : ℕ} → length ks ≡ 0
+      → Left all 0 xs₀ (in_turn (λ k. stops_of (calls k)) (reverse ks)) m xs → Put all 0 xs₀ xs m
+  unfolding defs.in_turn
+  stop_end [] e left = left_end left refl
+  stop_end (k ∷ ks) e left = absurd (omega arith)
+
+-- the objects of a list but its last, and the last, have few words
+pub few_left :
+    (rows : List Row) (ks rest : List ℕ) (k : ℕ) → ks ≡ rest ++ k ∷ [] → AllFew rows ks → AllFew rows rest × FewWords rows k
+few_left rows ks rest k e few =
+    let long : length ks ≡ length rest + 1 = ap length e ∙ length-append rest (k ∷ []) in
+    let last : get_or ks (length rest) 0 ≡ k = ap (λ (l : List ℕ). get_or l (length rest) 0) e ∙ get_or-append_seam rest k [] 0 in (
+      λ i h. subst (FewWords rows) (ap (λ (l : List ℕ). get_or l i 0) e ∙ get_or-append rest (k ∷ []) 0 i h) (few i (omega (arith, long, h))),
+      subst (FewWords rows) last (few (length rest) (omega (arith, long))),
+    )

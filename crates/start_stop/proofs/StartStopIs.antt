@@ -17,7 +17,6 @@ use Rattle.model.specs.Order.{times, OnceEach}
 use Rattle.model.specs.Layout.{objs_of}
 use Rattle.model.proofs.OrderLaws.{decide}
 use Rattle.object.specs.Placed.{object_span}
-use Rattle.object.specs.DynamicFields.{Fields}
 use Rattle.scope.specs.Steps.Links.{link_at}
 use Rattle.scope.specs.Steps.ScopeCode.{image_at}
 use Rattle.scope.specs.declared.links.Link.{Link}
@@ -44,9 +43,11 @@ use Rattle.binder.proofs.Steady.{LoadedSet}
 use Rattle.binder.proofs.Lies.{span_is, count_is}
 use Rattle.binder.proofs.SteadyLaws.{lies, starts}
 use Rattle.start_stop.specs.StartStop as defs
-use Rattle.start_stop.specs.StartStop.{Lists, counted, Array, Calls, calls_of, calls_in, fields_at, placed_fields, list_by, refused_lists, then_list, start_stop_of}
+use Rattle.start_stop.specs.StartStop.{Lists, counted, Calls, calls_of, calls_in, fields_at, placed_fields, list_by, refused_lists, then_list, start_stop_of}
+use Rattle.start_stop.specs.declared.rows.Array.{Array}
+use Rattle.start_stop.specs.declared.rows.Row.{Row}
 use Rattle.start_stop.specs.Steps.Rows as tables
-use Rattle.start_stop.specs.Steps.Rows.{row_at, row_word, fields_in, RowsRead, base_at, bytes_at, array_at, calls_at, InOrder}
+use Rattle.start_stop.specs.Steps.Rows.{row_at, row_of, fields_in, RowsRead, base_at, bytes_at, calls_at, InOrder}
 use Rattle.start_stop.specs.Steps.Listed as listed
 use Rattle.start_stop.specs.Steps.Listed.{finished_of, ListsMade}
 use Rattle.start_stop.proofs.ListedIs.{same_lists}
@@ -92,9 +93,6 @@ same_calls :
     (record { base = b'; span = s'; bytes = m'; init = i'; fini = f'; preinits = x'; inits = y'; finis = w' })
 same_calls eb es em ei ef ex ey ew = rw (eb, es, em, ei, ef, ex, ey, ew)
 
-same_array : {at at' count count' : ℕ} → at ≡ at' → count ≡ count' → ◌≡◌ {A = Array} (record { at = at; count = count }) (record { at = at'; count = count' })
-same_array ea ec = rw (ea, ec)
-
 module _
     (setting : Setting) (size : ℕ) (table : List ℕ) (h p : Input) (ls : List Input) (arena a : List ℕ) (r : Verdict) (len : length arena ≡ size)
     (kept : length a ≡ length arena) (made : Prepared setting (types_verdict setting) (h ∷ (p ∷ ls)) arena a table r) (z : r ≡ passed)
@@ -131,19 +129,18 @@ module _
         let bytes = binds.files_are setting size table h p ls arena a r len kept made z typed k l in
         rw (image, bytes)
 
-    module _ (rows : List ℕ) (read : RowsRead (h ∷ (p ∷ ls)) (length ls + 2) a table rows) (a' : List ℕ) where
-      word_is : (k : ℕ) → 1 ≤ k → k < length ls + 2 → (j : ℕ) → j < 8 → row_at rows k j ≡ row_word (placed_fields (file k)) j
-      word_is k o l j g = read k o l j g ∙ ap (λ (f : Fields). row_word f j) (fields_are k l)
+    module _ (rows : List Row) (read : RowsRead (h ∷ (p ∷ ls)) (length ls + 2) a table rows) (a' : List ℕ) where
+      row_is : (k : ℕ) → 1 ≤ k → k < length ls + 2 → row_at rows k ≡ row_of (placed_fields (file k))
+      row_is k o l = read k o l ∙ ap row_of (fields_are k l)
 
       calls_are : (k : ℕ) → 1 ≤ k → k < length ls + 2 → calls_at a' table rows k ≡ calls_in S (host_file h ∷ (file_of p ∷ fs)) a' k
-      unfolding tables.row_word
+      unfolding tables.row_of
       calls_are k o l =
           let t = at k l in
           let offset : (link_at table k).offset ≡ (obj S k).offset = ap (λ (s : Link). s.offset) t.link in
-          same_calls t.base (link_span k l) (ap (λ (n : ℕ). from n (mem a')) offset) (word_is k o l 0 (omega arith)) (word_is k o l 1 (omega arith))
-          (same_array (word_is k o l 2 (omega arith)) (word_is k o l 3 (omega arith)))
-          (same_array (word_is k o l 4 (omega arith)) (word_is k o l 5 (omega arith)))
-          (same_array (word_is k o l 6 (omega arith)) (word_is k o l 7 (omega arith)))
+          let r = row_is k o l in
+          same_calls t.base (link_span k l) (ap (λ (n : ℕ). from n (mem a')) offset) (ap (λ (r : Row). r.init) r) (ap (λ (r : Row). r.fini) r)
+          (ap (λ (r : Row). r.preinits) r) (ap (λ (r : Row). r.inits) r) (ap (λ (r : Row). r.finis) r)
 
     module _ (order : List ℕ) (same : order ≡ set_order (files_of (h ∷ (p ∷ ls))) (names_of (h ∷ (p ∷ ls)))) where
       once : OnceEach (objects.count S) order
@@ -167,7 +164,7 @@ module _
           }
 
       pub lists_are :
-          (rows : List ℕ) → RowsRead (h ∷ (p ∷ ls)) (length ls + 2) a table rows → (a' report' : List ℕ) (starts stops : ℕ)
+          (rows : List Row) → RowsRead (h ∷ (p ∷ ls)) (length ls + 2) a table rows → (a' report' : List ℕ) (starts stops : ℕ)
           → list_by (calls_at a' table rows) order starts stops a' report'
           ≡ list_by (calls_in (objects_of setting (files_of (h ∷ (p ∷ ls)))) (files_of (h ∷ (p ∷ ls))) a')
           (set_order (files_of (h ∷ (p ∷ ls))) (names_of (h ∷ (p ∷ ls)))) starts stops a' report'
@@ -195,16 +192,14 @@ then_refused setting os size policy words m a report start stop n k e b =
 
 -- the order is the set's
 pub order_of_set :
-    (setting : Setting) (os : List Input) (count : ℕ) (arena a table : List ℕ) (r : Verdict) → 2 ≤ count → length os ≡ count → length a ≡ length arena
-    → Prepared setting (types_verdict setting) os arena a table r → r ≡ passed → ((rtype : ℕ) → relocating.row_at table rtype ≡ setting.row rtype) → (order : List ℕ) → Arranged os count a table order
+    (setting : Setting) (os : List Input) (arena a table : List ℕ) (r : Verdict) → 2 ≤ length os → length a ≡ length arena
+    → Prepared setting (types_verdict setting) os arena a table r → r ≡ passed → ((rtype : ℕ) → relocating.row_at table rtype ≡ setting.row rtype) → (order : List ℕ) → Arranged os a table order
     → InOrder table order
-order_of_set setting [] count arena a table r two many kept made z typed order o = absurd (omega (arith, many))
-order_of_set setting (h ∷ []) count arena a table r two many kept made z typed order o = absurd (omega (arith, many))
-order_of_set setting (h ∷ (p ∷ ls)) count arena a table r two many kept made z typed order o =
-    let c : count ≡ length ls + 2 = omega (arith, many) in
+order_of_set setting [] arena a table r two kept made z typed order o = absurd (omega arith)
+order_of_set setting (h ∷ []) arena a table r two kept made z typed order o = absurd (omega arith)
+order_of_set setting (h ∷ (p ∷ ls)) arena a table r two kept made z typed order o =
     set_in_order setting (length arena) table h p ls arena a r refl kept made z typed order
-    (binds.ordered setting (length arena) table h p ls arena a r refl kept made z typed order
-    (subst (λ (n : ℕ). Arranged (h ∷ (p ∷ ls)) n a table order) c o))
+    (binds.ordered setting (length arena) table h p ls arena a r refl kept made z typed order o)
 
 bound_then :
     (setting : Setting) (os : List Input) (size : ℕ) (policy : Policy) (words starts stops : ℕ) (a report : List ℕ) (m : Verdict) → m ≡ passed
@@ -218,32 +213,31 @@ bound_then setting os size policy words starts stops a report m pass b =
 
 -- the lists of what was bound
 pub then_listed :
-    (setting : Setting) (os : List Input) (count : ℕ) (arena a table : List ℕ) (r : Verdict) → 2 ≤ count → length os ≡ count → length a ≡ length arena
-    → Prepared setting (types_verdict setting) os arena a table r → r ≡ passed → ((rtype : ℕ) → relocating.row_at table rtype ≡ setting.row rtype) → (order : List ℕ) → Arranged os count a table order
-    → (rows : List ℕ) → RowsRead os count a table rows
+    (setting : Setting) (os : List Input) (arena a table : List ℕ) (r : Verdict) → 2 ≤ length os → length a ≡ length arena
+    → Prepared setting (types_verdict setting) os arena a table r → r ≡ passed → ((rtype : ℕ) → relocating.row_at table rtype ≡ setting.row rtype) → (order : List ℕ) → Arranged os a table order
+    → (rows : List Row) → RowsRead os (length os) a table rows
     → (policy : Policy) (report : List ℕ) → report ≡ replicate (length report) 0
     → (a' report' : List ℕ) (m : Verdict) → RelocatedOr os table order a policy report a' report' m → m ≡ passed
     → (start stop : List ℕ) (l : Lists) → ListsMade (calls_at a' table rows) order a' start stop l
     → finished_of l a' report' start stop
     ≡ then_list setting os (length start) (length stop) (bind_set setting os (length arena) policy (length report))
-then_listed setting [] count arena a table r two many kept made z typed order o rows read policy report zeros a' report' m g pass start stop l lm =
-    absurd (omega (arith, many))
-then_listed setting (h ∷ []) count arena a table r two many kept made z typed order o rows read policy report zeros a' report' m g pass start stop l lm =
-    absurd (omega (arith, many))
-then_listed setting (h ∷ (p ∷ ls)) count arena a table r two many kept made z typed order o rows read policy report zeros a' report' m g pass start stop l lm =
+then_listed setting [] arena a table r two kept made z typed order o rows read policy report zeros a' report' m g pass start stop l lm =
+    absurd (omega arith)
+then_listed setting (h ∷ []) arena a table r two kept made z typed order o rows read policy report zeros a' report' m g pass start stop l lm =
+    absurd (omega arith)
+then_listed setting (h ∷ (p ∷ ls)) arena a table r two kept made z typed order o rows read policy report zeros a' report' m g pass start stop l lm =
     lm report'
     ∙ (lists_are setting (length arena) table h p ls arena a r refl kept made z typed order same rows
     (subst (λ (n : ℕ). RowsRead (h ∷ (p ∷ ls)) n a table rows) c read) a' report' (length start) (length stop)
     ∙ bound_then setting (h ∷ (p ∷ ls)) (length arena) policy (length report) (length start) (length stop) a' report' m pass
-    (bind_is setting (h ∷ (p ∷ ls)) count arena a table r two many kept made z typed order o policy report zeros a' report' m g))
+    (bind_is setting (h ∷ (p ∷ ls)) arena a table r two kept made z typed order o policy report zeros a' report' m g))
   where
-    c : count ≡ length ls + 2
-    c = omega (arith, many)
+    c : length (h ∷ (p ∷ ls)) ≡ length ls + 2
+    c = omega arith
 
     same : order ≡ set_order (files_of (h ∷ (p ∷ ls))) (names_of (h ∷ (p ∷ ls)))
     same =
-        binds.ordered setting (length arena) table h p ls arena a r refl kept made z typed order
-        (subst (λ (n : ℕ). Arranged (h ∷ (p ∷ ls)) n a table order) c o)
+        binds.ordered setting (length arena) table h p ls arena a r refl kept made z typed order o
 
 -- ---- the objects of a sheet
 

@@ -15,6 +15,7 @@ use Rattle.sheet.specs.Sheet.{Input, set_of}
 use Rattle.binder.specs.declared.Policy.{Policy}
 use Rattle.binder.specs.declared.Refused.{Refused}
 use Rattle.start_stop.specs.declared.Counts.{Counts}
+use Rattle.start_stop.specs.declared.rows.Array.{Array}
 use Rattle.binder.specs.Setting.{Setting}
 use Rattle.binder.specs.Instance.{File, file_image}
 use Rattle.binder.specs.Verdict.{Verdict, passed, refused, first, no_file}
@@ -32,12 +33,7 @@ fields_at image (Some at) = fields_of image at
 abbrev pub placed_fields : File → Fields
 placed_fields f = fields_at (file_image f) (dynamic_of f.bytes)
 
--- an array of functions: where it starts in its object, and how many words it has
-pub record Array : Type 0 where
-  pub at : ℕ
-  pub count : ℕ
-
--- "An array's count is its byte size divided by 8, 0 where size or pointer is missing"
+-- an array of functions (Array): where it starts in its object, and how many words it has. "An array's count is its byte size divided by 8, 0 where size or pointer is missing"
 abbrev pub array_of : Fields → ℕ → ℕ → Array
 array_of f pointer size = record { at = unwrap_or (f pointer) 0; count = entry_count (f pointer) (f size) 8 }
 

@@ -2,6 +2,7 @@
 #![tactic(auto)]
 
 pub mod arrays;
+pub mod bound;
 pub mod fill;
 pub mod rows;
 pub mod start_stop;

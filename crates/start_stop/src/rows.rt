@@ -1,28 +1,32 @@
-// A flat table of the tags that name functions: eight words an object, by its number, read from the placed bytes.
-ghost use Rattle.std.specs.Prelude.{◌≡◌, ◌+◌, ◌*◌, ◌≤◌, ◌<◌, length, unwrap_or};
-ghost use Rattle.words.specs.Memory.{patch};
+// What each object has to call, read from the placed bytes.
+ghost use Rattle.std.specs.Prelude.{◌≡◌, length, unwrap_or};
 ghost use Rattle.object.specs.Steps.Slots.{field_in, SameFields};
 ghost use Rattle.object.specs.ProgramHeader.{dynamic_of};
 ghost use Rattle.start_stop.specs.StartStop.{fields_at, array_of};
-ghost use Rattle.start_stop.specs.Steps.Rows.{row_at, row_word, RowsRead};
+ghost use Rattle.start_stop.specs.Steps.Rows.{row_of, RowsRead};
 
 use object::dynamic_array::{
     DT_FINI, DT_FINI_ARRAY, DT_FINI_ARRAYSZ, DT_INIT, DT_INIT_ARRAY, DT_INIT_ARRAYSZ,
     DT_PREINIT_ARRAY, DT_PREINIT_ARRAYSZ, Slots,
 };
+use scope::links::Links;
 use sheet::sheet::Set;
 
-// Word `j` of object `k`; 0 past the table's end.
-pub(crate) fn word(rows: &[u64], k: usize, j: usize) -> usize
-    ensures { result ≡ row_at rows.now k j }
-{
-    let n = rows.len();
-    if j < n {
-        if k <= (n - 1 - j) / 8 {
-            return rows[8 * k + j] as usize;
-        }
-    }
-    0
+// An array of functions: where it starts in its object, and how many words it has.
+#[derive(Clone, Copy, Default)]
+pub struct Array {
+    pub at: usize,
+    pub count: usize,
+}
+
+// The values of DT_INIT and DT_FINI, and three arrays. A value is no Option: the rule is that 0 is none, whether the tag is missing or not.
+#[derive(Clone, Copy, Default)]
+pub struct Row {
+    pub init: u64,
+    pub fini: u64,
+    pub preinits: Array,
+    pub inits: Array,
+    pub finis: Array,
 }
 
 // The dynamic array of a file, in its placed bytes.
@@ -41,59 +45,38 @@ fn value_of(slots: &Slots, tag: u64) -> u64
     object::dynamic_array::field_in(slots, tag).unwrap_or(0) as u64
 }
 
-// How many words an array has.
-fn count_of(slots: &Slots, pointer: u64, size: u64) -> u64
-    ensures { result ≡ (array_of (field_in slots.now) pointer size).count }
+// The array of two tags.
+fn array_of(slots: &Slots, pointer: u64, size: u64) -> Array
+    ensures { result ≡ array_of (field_in slots.now) pointer size }
 {
     let at = object::dynamic_array::field_in(slots, pointer);
     let bytes = object::dynamic_array::field_in(slots, size);
-    object::dynamic_fields::entry_count(at, bytes, 8) as u64
-}
-
-// Word `j` of the row: DT_INIT, DT_FINI, then of the preinit, init and fini array where it starts and how many words it has.
-fn row_word(slots: &Slots, j: usize) -> u64
-    ensures { result ≡ row_word (field_in slots.now) j }
-{
-    match j {
-        0 => value_of(slots, DT_INIT),
-        1 => value_of(slots, DT_FINI),
-        2 => value_of(slots, DT_PREINIT_ARRAY),
-        3 => count_of(slots, DT_PREINIT_ARRAY, DT_PREINIT_ARRAYSZ),
-        4 => value_of(slots, DT_INIT_ARRAY),
-        5 => count_of(slots, DT_INIT_ARRAY, DT_INIT_ARRAYSZ),
-        6 => value_of(slots, DT_FINI_ARRAY),
-        _ => count_of(slots, DT_FINI_ARRAY, DT_FINI_ARRAYSZ),
+    Array {
+        at: at.unwrap_or(0),
+        count: object::dynamic_fields::entry_count(at, bytes, 8),
     }
 }
 
-// The row of object `k`, from its placed bytes.
-fn read_row(rows: &mut [u64], k: usize, image: &[u8], file: &[u8])
-    requires { 8 * k + 8 ≤ length rows.old }
-    ensures { rows.new ≡ patch rows.old (8 * k) 8 (row_word (fields_at image.now (dynamic_of file.now))) }
+// The row of an object, from its placed bytes.
+fn read_row(image: &[u8], file: &[u8]) -> Row
+    ensures { result ≡ row_of (fields_at image.now (dynamic_of file.now)) }
 {
     let slots = slots_of(image, file);
-    let mut j = 0;
-    while j < 8 {
-        rows[8 * k + j] = row_word(&slots, j);
-        j += 1;
+    Row {
+        init: value_of(&slots, DT_INIT),
+        fini: value_of(&slots, DT_FINI),
+        preinits: array_of(&slots, DT_PREINIT_ARRAY, DT_PREINIT_ARRAYSZ),
+        inits: array_of(&slots, DT_INIT_ARRAY, DT_INIT_ARRAYSZ),
+        finis: array_of(&slots, DT_FINI_ARRAY, DT_FINI_ARRAYSZ),
     }
 }
 
 // The rows of program and libraries; the host's is not read.
-pub(crate) fn read_rows(rows: &mut [u64], set: &Set, arena: &[u8], table: &[u64])
-    requires { 512 ≤ length rows.old }
-    ensures { RowsRead set.now (length set.now) arena.now table.now rows.new }
+pub(crate) fn read_rows(rows: &mut [Row; 64], set: &Set, arena: &[u8], links: &Links)
+    ensures { RowsRead set.now (length set.now) arena.now links.now rows.new }
 {
-    let count = set.len();
-    let mut k = 1;
-    while k < count {
-        let s = scope::links::link_at(table, k);
-        read_row(
-            rows,
-            k,
-            sheet::sheet::part_of(arena, s.offset, s.span),
-            set.file(k),
-        );
-        k += 1;
+    for k in 1..set.len() {
+        let s = links.link(k);
+        rows[k] = read_row(sheet::sheet::part_of(arena, s.offset, s.span), set.file(k));
     }
 }

@@ -1,41 +1,38 @@
 // The public call that binds a set and lists what to call to start and to stop it.
-ghost use Rattle.std.specs.Prelude.{◌≡◌, List, ℕ, ◌≤◌, length, replicate};
+ghost use Rattle.std.specs.Prelude.{◌≡◌, ◌≤◌, length, replicate};
 ghost use Rattle.binder.specs.Setting.{setting_of};
 ghost use Rattle.binder.specs.Bind.{bind_set};
 ghost use Rattle.start_stop.specs.StartStop.{listing, then_list, start_stop_of};
-ghost use Rattle.start_stop.specs.Steps.Rows.{calls_at, InOrder};
+ghost use Rattle.start_stop.specs.Steps.Rows.{InOrder};
+ghost use Rattle.start_stop.specs.Steps.Bound.{calls_by};
 ghost use Rattle.start_stop.specs.Steps.Listed.{finished_of, ListsMade};
 
 use crate::Counts;
+use crate::bound::Bound;
+use crate::rows::Row;
 use binder::{Policy, Refused};
+use scope::links::Links;
 use sheet::sheet::Set;
 use words::refusal::Refusal;
 
 // Refusals 26 and 27 of a bound set, and the lists, which were all zeros.
-fn list_all(
-    arena: &[u8],
-    table: &[u64],
-    rows: &[u64],
-    order: &[u32],
-    start: &mut [u64],
-    stop: &mut [u64],
-) -> Result<Counts, Refused>
-    requires { (1026 ≤ length table.now) × (length order.now ≤ 64) × InOrder table.now order.now × (start.old ≡ replicate (length start.old) 0) × (stop.old ≡ replicate (length stop.old) 0) }
-    ensures { ListsMade (calls_at arena.now table.now rows.now) order.now arena.now start.new stop.new result }
+fn list_all(set: &Bound, start: &mut [u64], stop: &mut [u64]) -> Result<Counts, Refused>
+    requires { InOrder set.now.links.now set.now.order.now × (start.old ≡ replicate (length start.old) 0) × (stop.old ≡ replicate (length stop.old) 0) }
+    ensures { ListsMade (calls_by set.now) set.now.order.now set.now.arena.now start.new stop.new result }
 {
-    crate::arrays::check_arrays(table, rows, order)?;
-    let n = crate::fill::put_start(start, arena, table, rows, order);
-    let m = crate::fill::put_stop(stop, arena, table, rows, order);
-    if start.len() < n {
+    crate::arrays::check_arrays(set)?;
+    let counts = Counts {
+        start: crate::fill::put_start(start, set),
+        stop: crate::fill::put_stop(stop, set),
+    };
+    if start.len() < counts.start || stop.len() < counts.stop {
         return Err(Refused::new(Refusal::ListRoom, 0));
     }
-    if stop.len() < m {
-        return Err(Refused::new(Refusal::ListRoom, 0));
-    }
-    Ok(Counts { start: n, stop: m })
+    Ok(counts)
 }
 
-// Refusals 2 to 28 of the set's objects; the rows are read before the objects are relocated.
+// Refusals 2 to 28 of the set's objects; the rows are read before the objects are relocated. The parameters are the public call's own, one for
+// each thing of the C call.
 fn list_set(
     set: &Set,
     arena: &mut [u8],
@@ -51,17 +48,23 @@ fn list_set(
     ensures { finished_of result arena.new report.new start.new stop.new ≡ then_list (setting_of address types.now) set.now (length start.old) (length stop.old) (bind_set (setting_of address types.now) set.now (length arena.old) policy (length report.old)) }
 {
     let mut table = [0u64; 1090];
-    let t = binder::types::types_verdict(types);
-    binder::prepare::prepare(set, arena, address, t, &mut table)?;
-    binder::types::put_types(&mut table, types);
-    let mut rows = [0u64; 512];
-    crate::rows::read_rows(&mut rows, set, arena, &table);
+    binder::prepare::prepare_to_bind(set, arena, address, types, &mut table)?;
+    let links = Links::of(&table);
+    let mut rows = [Row::default(); 64];
+    crate::rows::read_rows(&mut rows, set, arena, &links);
     let order = binder::needs::order_of(set, arena, &table);
-    binder::bind::bind_in(set, arena, policy, report, &table, &order)?;
-    list_all(arena, &table, &rows, &order, start, stop)
+    binder::bind::bind_in(set, arena, policy, report, &links, &order)?;
+    let bound = Bound {
+        arena,
+        links: &links,
+        rows: &rows,
+        order: &order,
+    };
+    list_all(&bound, start, stop)
 }
 
-// The answer; a refusal leaves zeros. No other function clears after a refusal.
+// The answer; a refusal leaves zeros. No other function clears after a refusal. One of four
+// `finish`, as binder's bind::finish says.
 #[tactic(auto, using(crate::proofs::ListedIs::finish_listed, crate::proofs::ListedIs::keep_listed))]
 fn finish(
     l: Result<Counts, Refused>,

@@ -6,7 +6,7 @@ use Rattle.std.specs.Cmp.Lexicographic.{pointwise}
 use Rattle.std.proofs.lemmas.List.Recursion.{is_position_or_len}
 use native.Mathlib.Decide.{dec_lt}
 use borrow.Author.Tests.{eqb-false, ltb-false}
-use Rattle.words.specs.Choice.{pick, both}
+use Rattle.words.specs.Choice.{pick}
 use Rattle.words.specs.Names.{until_zero, name_at, same_bytes}
 use Rattle.words.proofs.Choice.{both_true}
 
@@ -81,15 +81,6 @@ name_rest xs at {p} e =
     ap until_zero (take_all (length xs - p) (drop p xs) (omega (arith, length-drop p xs))) ∙ name_end_at xs at e
 
 -- ---- equal names
-
-pub same_more : (xs ys : List ℕ) (i : ℕ) (t : Bool) → i < length xs → i < length ys → eqb (get_or xs i 0) (get_or ys i 0) ≡ t
-    → same_bytes (drop i xs) (drop i ys) ≡ both t (same_bytes (drop (i + 1) xs) (drop (i + 1) ys))
-unfolding same_bytes
-same_more xs ys i t l l' e = rw (add-one, drop-cons xs i 0 l, drop-cons ys i 0 l', e)
-
-pub same_end : (xs ys : List ℕ) (i : ℕ) → length xs ≤ i → length ys ≤ i → same_bytes (drop i xs) (drop i ys) ≡ true
-unfolding same_bytes
-same_end xs ys i l l' = rw (drop_of_length-le xs l, drop_of_length-le ys l')
 
 -- what is found to be the same is
 pub same_sound : (xs ys : List ℕ) → same_bytes xs ys ≡ true → xs ≡ ys

@@ -1,18 +1,14 @@
 -- The bytes of slices: their memory, parts of them, and what a write leaves. Assumes nothing.
-use Rattle.std.proofs.Common.{◌≡◌, ℕ, zero, suc, ◌+◌, ◌-◌, ◌<◌, ◌≤◌, min, ◌⊎◌, List, ◌∷◌, ◌++◌, map, length, get_or, take, drop, set, replicate, sym, refl, ap, ◌∙◌, inl, inr, ⊎_elim, arith, length-append, length-drop, length-set, length-take, length-take-le, get_or-drop, get_or-set_other, get_or-take, get_or-set_same, get_or-append-add, ext_get_or}
+use Rattle.std.proofs.Common.{◌≡◌, ℕ, zero, suc, ◌+◌, ◌-◌, ◌<◌, ◌≤◌, min, ◌⊎◌, List, ◌∷◌, ◌++◌, length, get_or, take, drop, set, replicate, sym, refl, ap, ◌∙◌, inl, inr, ⊎_elim, arith, length-append, length-drop, length-set, length-take, length-take-le, get_or-drop, get_or-set_other, get_or-take, get_or-set_same, get_or-append-add, ext_get_or}
 use Rattle.std.proofs.lemmas.List.{length-replicate, get_or-replicate}
 use mathlib.Core.Path.{fun_ext}
 use native.Mathlib.Decide.{dec_lt, ℕ_discrete}
 use borrow.Rule.Slice.PartMut.{put_mid}
-use lib.ListN.{length-map, get_or-append, get_or-eq_default}
+use lib.ListN.{get_or-append, get_or-eq_default}
 use Rattle.words.specs.Memory.{Mem, mem, tab, from, In, write, patch}
 use Rattle.words.proofs.Memory.{Out, in_or_out, write_in, write_out, write_none, write_cong, write_join, write_from}
 
 -- ---- lists
-
--- the length of an array whose elements are structs
-pub length_mapped : (X Y : Type 0) (f : X → Y) (l : List X) (n : ℕ) → length (map f l) ≡ n → length l ≡ n
-length_mapped X Y f l n e = sym (length-map l f) ∙ e
 
 pub take_zeros : (n m : ℕ) → n ≤ m → take {A = ℕ} n (replicate m 0) ≡ replicate n 0
 take_zeros zero m h = refl
@@ -324,16 +320,6 @@ pub put_tail :
     → ys ≡ patch (take (length xs - off) (drop off xs)) at n f
     → put_mid off (length xs - off) xs ys ≡ patch xs (off + at) n f
 put_tail xs off at n f fits e = put_part xs off (length xs - off) at n f (omega arith) (λ i h l. omega arith) e
-
--- the part `&s[off..]` holds the bytes from `off` on
-pub mem_tail : (xs : List ℕ) (off : ℕ) → mem (take (length xs - off) (drop off xs)) ≡ from off (mem xs)
-mem_tail xs off = fun_ext (λ i. go i (dec_lt i (length xs - off)))
-  where
-    go : (i : ℕ) → Dec (i < length xs - off) → mem (take (length xs - off) (drop off xs)) i ≡ mem xs (off + i)
-    go i (yes h) = mem_part (length xs - off) off xs i h
-    go i (no h) =
-        mem_past (take (length xs - off) (drop off xs)) i (simp (length-take, length-drop) (omega arith))
-        ∙ sym (mem_past xs (off + i) (omega arith))
 
 -- the front of a slice that was written from its start on is what was written
 pub take_patch : (xs : List ℕ) (n : ℕ) (f : ℕ → ℕ) → n ≤ length xs → take n (patch xs 0 n f) ≡ tab n f

@@ -34,7 +34,8 @@ pub fn same(a: &[u8], b: &[u8]) -> bool
     a == b
 }
 
-// Whether the name at the start of `rest` is this one: its end is not sought first.
+// Whether the name at the start of `rest` is this one: its end is not sought first. It is asked of each hit of a search by name, and goes over the
+// name once: `starts_with` and then `contains` for a zero byte would go over it twice.
 fn starts_as(rest: &[u8], name: &[u8]) -> bool
     ensures { result ≡ same_bytes (until_zero rest.now) name.now }
 {

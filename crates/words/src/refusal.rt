@@ -1,6 +1,6 @@
 // The refusals: each has the number that callers and the report of a refusal go by. docs/REFUSALS.md says what each means for a module.
 ghost use Rattle.std.specs.Prelude.{◌≡◌};
-ghost use Rattle.words.specs.Refusal.{number_of};
+ghost use Rattle.words.specs.Refusal.{refusal_number};
 
 #[derive(Clone, Copy, Debug, PartialEq, Eq)]
 pub enum Refusal {
@@ -42,7 +42,7 @@ pub enum Refusal {
 }
 
 impl From<Refusal> for u32 {
-    ghost from_gives = { λ r n. n ≡ number_of r };
+    ghost from_gives = { λ r n. n ≡ refusal_number r };
 
     fn from(refusal: Refusal) -> u32 {
         match refusal {

@@ -34,17 +34,17 @@ needs_at os arena table k =
     numbers_at os (image_at arena (link_at table k)) (link_at table k).view.strings (dynamic_of (slice_index_or os k no_input).file)
 
 -- none has over 64 needs
-abbrev pub FewNeeds : List Input → ℕ → List ℕ → List ℕ → Type 0
-FewNeeds os count arena table =
-    (k : ℕ) → 2 ≤ k → k < count → length (needed_at (image_at arena (link_at table k)) (dynamic_of (slice_index_or os k no_input).file)) ≤ 64
+abbrev pub FewNeeds : List Input → List ℕ → List ℕ → Type 0
+FewNeeds os arena table =
+    (k : ℕ) → 2 ≤ k → k < length os → length (needed_at (image_at arena (link_at table k)) (dynamic_of (slice_index_or os k no_input).file)) ≤ 64
 
 -- all rows are filled, in a table that was all zeros
-abbrev pub NeedsFilled : List Input → ℕ → List ℕ → List ℕ → List ℕ → List ℕ → Type 0
-NeedsFilled os count arena table before after =
-    FewNeeds os count arena table → before ≡ replicate 4096 0
-    → (k : ℕ) → 2 ≤ k → k < count → (i : ℕ) → i < 64 → mem after (64 * k + i) ≡ slice_index (needs_at os arena table k) i
+abbrev pub NeedsFilled : List Input → List ℕ → List ℕ → List ℕ → List ℕ → Type 0
+NeedsFilled os arena table before after =
+    FewNeeds os arena table → before ≡ replicate 4096 0
+    → (k : ℕ) → 2 ≤ k → k < length os → (i : ℕ) → i < 64 → mem after (64 * k + i) ≡ slice_index (needs_at os arena table k) i
 
--- the order of `count` objects
-pub record Arranged (os : List Input) (count : ℕ) (arena table order : List ℕ) : Type 0 where
-  pub is : FewNeeds os count arena table → order ≡ order_of (needs_at os arena table) (count - 2)
+-- the order of a loaded set
+pub record Arranged (os : List Input) (arena table order : List ℕ) : Type 0 where
+  pub is : FewNeeds os arena table → order ≡ order_of (needs_at os arena table) (length os - 2)
   pub few : length order ≤ 64

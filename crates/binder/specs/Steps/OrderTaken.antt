@@ -1,5 +1,5 @@
 -- Whether an order that is handed in may be taken, as the code finds it in a loaded set. `OwnOrder` has what it comes to. Assumes nothing.
-use Rattle.std.specs.Prelude.{◌≡◌, ℕ, ◌-◌, Bool, false, not, List, ◌==◌, slice_index_or}
+use Rattle.std.specs.Prelude.{◌≡◌, ℕ, ◌-◌, Bool, false, not, List, ◌==◌, length, slice_index_or}
 use Rattle.words.specs.Choice.{pick, both, either, some}
 use Rattle.words.specs.Names.{same_bytes}
 use Rattle.model.specs.Order.{up_from}
@@ -29,15 +29,15 @@ copy_again image file = pick (again_refusal image file == 0) (copy_in image (aga
 abbrev pub copy_at : List Input → List ℕ → List ℕ → ℕ → Bool
 copy_at os arena table k = copy_again (image_at arena (link_at table k)) (slice_index_or os k no_input).file
 
--- the libraries of `count` objects
-abbrev pub copies_at : List Input → ℕ → List ℕ → List ℕ → Bool
-copies_at os count arena table = some (copy_at os arena table) (up_from 2 (count - 2))
+-- one of the libraries
+abbrev pub copies_at : List Input → List ℕ → List ℕ → Bool
+copies_at os arena table = some (copy_at os arena table) (up_from 2 (length os - 2))
 
 -- the order of the set, and whether the one that was handed in may be taken
-pub record Taken (os : List Input) (count : ℕ) (arena table order : List ℕ) (r : Bool) : Type 0 where
+pub record Taken (os : List Input) (arena table order : List ℕ) (r : Bool) : Type 0 where
   pub own : List ℕ
-  pub arranged : Arranged os count arena table own
-  pub is : r ≡ both (is_order (count - 2) order) (either (same_bytes order own) (not (copies_at os count arena table)))
+  pub arranged : Arranged os arena table own
+  pub is : r ≡ both (is_order (length os - 2) order) (either (same_bytes order own) (not (copies_at os arena table)))
 
 -- what is left of a set: finished, it is `bind_ordered_set`
 abbrev pub BoundOrdered : Setting → List Input → ℕ → Policy → ℕ → List ℕ → List ℕ → List ℕ → Verdict → Type 0

@@ -13,7 +13,7 @@ use Rattle.binder.specs.Verdict.{Verdict, passed, first, verdict}
 use Rattle.binder.specs.Bind.{files_of, prepare_verdict}
 use Rattle.scope.specs.Steps.Links.{link_at, count_in, address_in, FilteredBelow, Filtered}
 use Rattle.scope.specs.declared.links.Link.{Link}
-use Rattle.words.specs.Refusal.{number_of}
+use Rattle.words.specs.Refusal.{refusal_number}
 use Rattle.words.specs.declared.refusal.Refusal.{Refusal}
 
 -- 4 to 12 and 21 of the files from object `k` on, in an arena of `size` bytes whose next free offset is `free`
@@ -50,7 +50,7 @@ pub record LinkedAt (host : Bool) (file : List ℕ) (off : ℕ) (before after : 
 
 -- what loading a file at an offset answers and leaves
 abbrev pub LoadedAt : Bool → List ℕ → ℕ → List ℕ → List ℕ → Result Link Refusal → Type 0
-LoadedAt host file off before after (Err e) = number_of e ≡ object_refusal host (length before - off) file
+LoadedAt host file off before after (Err e) = refusal_number e ≡ object_refusal host (length before - off) file
 LoadedAt host file off before after (Ok s) = LinkedAt host file off before after s
 
 -- the arena with zeros from the next free offset to an object's
@@ -59,7 +59,7 @@ gapped before free off = patch before free (off - free) (λ _. 0)
 
 -- what loading a file where it goes answers and leaves
 abbrev pub LoadedNext : Setting → File → ℕ → List ℕ → List ℕ → Result Link Refusal → Type 0
-LoadedNext setting f free before after (Err e) = number_of e ≡ object_refusal f.host (length before - offset_of setting f free) f.bytes
+LoadedNext setting f free before after (Err e) = refusal_number e ≡ object_refusal f.host (length before - offset_of setting f free) f.bytes
 LoadedNext setting f free before after (Ok s) =
     LinkedAt f.host f.bytes (offset_of setting f free) (gapped before free (offset_of setting f free)) after s
 

@@ -6,9 +6,8 @@ use Rattle.words.specs.Choice.{pick, both, either}
 use Rattle.words.specs.Memory.{mem, from, patch}
 use Rattle.words.specs.Words.{le_at, byte_of, sum64}
 use Rattle.words.specs.Hash.{gnu_hash, elf_hash}
-use Rattle.words.specs.Refusal.{number_of}
+use Rattle.words.specs.Refusal.{refusal_number}
 use Rattle.words.specs.declared.refusal.Refusal.{Refusal}
-use Rattle.words.specs.declared.refusal.Refusal.TheVariants as refusals
 use Rattle.object.specs.TableBytes.{in_writable}
 use Rattle.object.specs.Symbol.{binding_of}
 use Rattle.object.specs.ProgramHeader.{loads_of, dynamic_of}
@@ -25,7 +24,10 @@ use Rattle.sheet.specs.Sheet.{Input, no_input}
 use Rattle.scope.specs.Steps.Links.{link_at, address_in}
 use Rattle.scope.specs.Steps.ScopeCode.{resolve_links, resolve_copy_links}
 use Rattle.scope.specs.declared.links.Link.{Link}
-use Rattle.scope.specs.declared.scope.Found.{Found}
+use Rattle.scope.specs.declared.scope.Hit.{Hit}
+use Rattle.binder.specs.Verdict.{Verdict, passed, refused}
+use Rattle.binder.specs.declared.Refused.{Refused}
+use Rattle.binder.specs.declared.report.Kept.{Kept}
 use Rattle.binder.specs.declared.report.Progress.{Progress}
 use Rattle.binder.specs.declared.turn.Turn.{Turn}
 use Rattle.binder.specs.declared.relocate.Sought.{Sought}
@@ -33,56 +35,44 @@ use Rattle.binder.specs.declared.relocate.Sought.TheVariants.{Known, Searched, M
 
 -- ---- what a function of the code leaves
 
--- how far binding has come, the arena and the report
+-- the refusal that was met, if one was, how far binding has come, the arena and the report
 pub data Left : Type 0 where
-  left : (p : Progress) (arena report : List ℕ) → Left
+  left : (met : Verdict) (p : Progress) (arena report : List ℕ) → Left
 
 -- of a function that writes to the arena alone, and of one that writes to the report alone
 pub data Wrote : Type 0 where
-  wrote : (p : Progress) (arena : List ℕ) → Wrote
+  wrote : (met : Verdict) (arena : List ℕ) → Wrote
 
 pub data Noted : Type 0 where
   noted : (p : Progress) (report : List ℕ) → Noted
 
-abbrev pub with_report : List ℕ → Wrote → Left
-with_report report (wrote p a) = left p a report
+abbrev pub with_report : Progress → List ℕ → Wrote → Left
+with_report p report (wrote met a) = left met p a report
 
 abbrev pub with_arena : List ℕ → Noted → Left
-with_arena a (noted p report) = left p a report
+with_arena a (noted p report) = left passed p a report
 
 -- before any object's turn
 abbrev pub started : Progress
-started = record { refusal = 0; object = 0; words = 0; full = false; undefined = 0; last = 0; address = 0 }
+started = record { words = 0; full = false; undefined = 0; kept = None }
 
--- the object whose turn it is meets a refusal
-abbrev pub refused_by : Turn → ℕ → Progress → Progress
-refused_by t n p =
-    record {
-      refusal = n;
-      object = t.number;
-      words = p.words;
-      full = p.full;
-      undefined = p.undefined;
-      last = p.last;
-      address = p.address;
-    }
+-- the answer of a search is kept, or none
+abbrev pub keeps : Option Kept → Progress → Progress
+keeps kept p = record { words = p.words; full = p.full; undefined = p.undefined; kept = kept }
 
--- the answer of a search is kept: `last` is its symbol's index + 1, and 0 is none
-abbrev pub keeps : ℕ → ℕ → Progress → Progress
-keeps last address p =
-    record {
-      refusal = p.refusal;
-      object = p.object;
-      words = p.words;
-      full = p.full;
-      undefined = p.undefined;
-      last = last;
-      address = address;
-    }
+-- the address `a` for the symbol with the number `i`
+abbrev pub kept_as : ℕ → ℕ → Option Kept
+kept_as i a = Some (record { symbol = i; address = a })
+
+-- the kept address, where it is that of the symbol with the number `i`
+abbrev pub kept_for : Option Kept → ℕ → Option ℕ
+kept_for None i = None
+kept_for (Some k) i = pick (k.symbol == i) (Some k.address) None
 
 -- the next step, unless a refusal was met
-abbrev pub unless_refused : (Left → Left) → Left → Left
-unless_refused next (left p a r) = pick (p.refusal == 0) (next (left p a r)) (left p a r)
+abbrev pub unless_refused : (Progress → List ℕ → List ℕ → Left) → Left → Left
+unless_refused next (left passed p a r) = next p a r
+unless_refused next (left (Err e) p a r) = left (Err e) p a r
 
 -- the part of the arena that is the object's
 abbrev pub image_in : List ℕ → Turn → List ℕ
@@ -106,40 +96,13 @@ unfoldable pub note_of : ℕ → Progress → List ℕ → Noted
 note_of w p report =
     pick (nat_lt p.words (length report))
     (noted
-    (record {
-      refusal = p.refusal;
-      object = p.object;
-      words = p.words + 1;
-      full = p.full;
-      undefined = p.undefined;
-      last = p.last;
-      address = p.address;
-    })
+    (record { words = p.words + 1; full = p.full; undefined = p.undefined; kept = p.kept })
     (slice_set report p.words w))
-    (noted
-    (record {
-      refusal = p.refusal;
-      object = p.object;
-      words = p.words;
-      full = true;
-      undefined = p.undefined;
-      last = p.last;
-      address = p.address;
-    })
-    report)
+    (noted (record { words = p.words; full = true; undefined = p.undefined; kept = p.kept }) report)
 
 -- the first object that has an undefined entry
 abbrev pub undefined_in : ℕ → Progress → Progress
-undefined_in k p =
-    record {
-      refusal = p.refusal;
-      object = p.object;
-      words = p.words;
-      full = p.full;
-      undefined = pick (p.undefined == 0) k p.undefined;
-      last = p.last;
-      address = p.address;
-    }
+undefined_in k p = record { words = p.words; full = p.full; undefined = pick (p.undefined == 0) k p.undefined; kept = p.kept }
 
 abbrev pub mark_undefined : ℕ → Noted → Noted
 mark_undefined k (noted p report) = noted (undefined_in k p) report
@@ -219,32 +182,37 @@ abbrev pub written_bytes : Turn → Rela → Calculation → ℕ → ℕ → ℕ
 written_bytes t e f S = byte_of (written_number t e f S)
 
 -- the write, or 22
-unfoldable pub field_of : Turn → Rela → Calculation → ℕ → Progress → List ℕ → Wrote
-field_of t e f S p a =
-    pick (f.fits (written_number t e f S)) (wrote p (patch a (t.offset + e.place) f.width (written_bytes t e f S))) (wrote (refused_by t 22 p) a)
+unfoldable pub field_of : Turn → Rela → Calculation → ℕ → List ℕ → Wrote
+field_of t e f S a =
+    pick (f.fits (written_number t e f S)) (wrote passed (patch a (t.offset + e.place) f.width (written_bytes t e f S))) (wrote (refused 22 t.number) a)
 
 -- a write without a search
-unfoldable pub fixed_of : Turn → List Segment → Rela → Calculation → Progress → List ℕ → Wrote
-fixed_of t segments e f p a = pick (in_writable segments e.place f.width) (field_of t e f 0 p a) (wrote (refused_by t 17 p) a)
+unfoldable pub fixed_of : Turn → List Segment → Rela → Calculation → List ℕ → Wrote
+fixed_of t segments e f a = pick (in_writable segments e.place f.width) (field_of t e f 0 a) (wrote (refused 17 t.number) a)
 
 -- absence is kept where the symbol's binding is 2: as the address 0, since no report word tells the two apart
 abbrev pub keeps_weak : ℕ → Symbol → Noted → Noted
-keeps_weak last y (noted p report) = noted (pick (binding_of y == 2) (keeps last 0 p) p) report
+keeps_weak i y (noted p report) = noted (pick (binding_of y == 2) (keeps (kept_as i 0) p) p) report
 
 -- what a search for the symbol `y` comes to
-abbrev pub sought_by : Symbol → Option Found → Result Sought Refusal
-sought_by y None = Ok (Missing y)
-sought_by y (Some hit) = Ok (Searched hit.address)
+abbrev pub sought_by : Symbol → Option Hit → Sought
+sought_by y None = Missing y
+sought_by y (Some hit) = Searched hit.address
+
+-- or the kept address, where there is one
+abbrev pub sought_or : Option ℕ → Symbol → Option Hit → Sought
+sought_or (Some S) y found = Known S
+sought_or None y found = sought_by y found
 
 abbrev pub field_noted : Turn → Rela → Calculation → List ℕ → Noted → Left
-field_noted t e f a (noted p report) = with_report report (field_of t e f 0 p a)
+field_noted t e f a (noted p report) = with_report p report (field_of t e f 0 a)
 
 -- the write by what the entry's symbol came to: by the address that a search found, which is kept, or by 0, and a report word
-unfoldable pub write_sought : Turn → Rela → Calculation → ℕ → Result Sought Refusal → Progress → List ℕ → List ℕ → Left
-write_sought t e f i (Err x) p a report = left (refused_by t (number_of x) p) a report
-write_sought t e f i (Ok (Known S)) p a report = with_report report (field_of t e f S p a)
-write_sought t e f i (Ok (Searched S)) p a report = with_report report (field_of t e f S (keeps (e.symbol + 1) S p) a)
-write_sought t e f i (Ok (Missing y)) p a report = field_noted t e f a (keeps_weak (e.symbol + 1) y (unresolved_of y t.number i p report))
+unfoldable pub write_sought : Turn → Rela → Calculation → ℕ → Result Sought Refused → Progress → List ℕ → List ℕ → Left
+write_sought t e f i (Err x) p a report = left (Err x) p a report
+write_sought t e f i (Ok (Known S)) p a report = with_report p report (field_of t e f S a)
+write_sought t e f i (Ok (Searched S)) p a report = with_report (keeps (kept_as e.symbol S) p) report (field_of t e f S a)
+write_sought t e f i (Ok (Missing y)) p a report = field_noted t e f a (keeps_weak e.symbol y (unresolved_of y t.number i p report))
 
 -- the `n` bytes of the definition `d`, in the object at the link `s`, may be copied to the place `to` of the object whose turn it is: the
 -- tests of refusal 18, and both ranges end inside an arena of `size` bytes
@@ -261,17 +229,17 @@ abbrev pub CopyApart : ℕ → ℕ → ℕ → ℕ → Type 0
 CopyApart size to start n = (to + n ≤ size) × (start + n ≤ size) × ((to + n ≤ start) ⊎ (start + n ≤ to))
 
 -- 5: `n` bytes of the definition `d`, in the object at the link `s`
-unfoldable pub copy_bytes : Turn → List Segment → ℕ → Link → Definition → ℕ → Progress → List ℕ → Wrote
-copy_bytes t segments to s d n p a =
-    pick (n == 0) (wrote p a)
+unfoldable pub copy_bytes : Turn → List Segment → ℕ → Link → Definition → ℕ → List ℕ → Wrote
+copy_bytes t segments to s d n a =
+    pick (n == 0) (wrote passed a)
     (pick (in_writable segments to n)
-    (pick (copy_fits (length a) t to s d n) (wrote p (patch a (t.offset + to) n (from (s.offset + d.value) (mem a)))) (wrote (refused_by t 18 p) a))
-    (wrote (refused_by t 17 p) a))
+    (pick (copy_fits (length a) t to s d n) (wrote passed (patch a (t.offset + to) n (from (s.offset + d.value) (mem a)))) (wrote (refused 18 t.number) a))
+    (wrote (refused 17 t.number) a))
 
-unfoldable pub copy_of : List ℕ → Turn → List Segment → Rela → ℕ → Symbol → Option Found → Progress → List ℕ → List ℕ → Left
+unfoldable pub copy_of : List ℕ → Turn → List Segment → Rela → ℕ → Symbol → Option Hit → Progress → List ℕ → List ℕ → Left
 copy_of table t segments e i y None p a report = with_arena a (unresolved_of y t.number i p report)
 copy_of table t segments e i y (Some hit) p a report =
-    with_report report (copy_bytes t segments e.place (link_at table hit.object) hit.definition (min y.size hit.definition.size) p a)
+    with_report p report (copy_bytes t segments e.place (link_at table hit.object) hit.definition (min y.size hit.definition.size) a)
 
 -- ---- an object's turn
 
@@ -297,59 +265,57 @@ row_at table rtype = row_under (slice_index table (1026 + rtype)) rtype
 
 module _ (table : List ℕ) where
   -- the search for a symbol's name, and COPY's
-  abbrev pub sought_for : Turn → List ℕ → List ℕ → Option Found
+  abbrev pub sought_for : Turn → List ℕ → List ℕ → Option Hit
   sought_for t a name = resolve_links a table t.number name (gnu_hash name) (elf_hash name)
 
-  abbrev pub sought_for_copy : List ℕ → List ℕ → Option Found
+  abbrev pub sought_for_copy : List ℕ → List ℕ → Option Hit
   sought_for_copy a name = resolve_copy_links a table name (gnu_hash name) (elf_hash name)
 
   -- what the symbol of an entry comes to: 14, 15 or 17; 0, where it is not searched; the kept answer, where it is the symbol's; or a search
-  unfoldable pub sought_of : Turn → Record → Rela → (ℕ → Bool) → Calculation → Progress → List ℕ → Result Symbol Refusal → Result Sought Refusal
-  sought_of t r e searched f p a (Err x) = Err x
-  sought_of t r e searched f p a (Ok y) =
+  unfoldable pub sought_of : Turn → Record → Rela → (ℕ → Bool) → Calculation → Option Kept → List ℕ → Result Symbol Refusal → Result Sought Refused
+  sought_of t r e searched f kept a (Err x) = refused (refusal_number x) t.number
+  sought_of t r e searched f kept a (Ok y) =
       pick (in_writable r.segments e.place f.width)
-      (pick (searched e.symbol)
-      (pick (p.last == e.symbol + 1) (Ok (Known p.address)) (sought_by y (sought_for t a (name_of (image_in a t) r y))))
-      (Ok (Known 0)))
-      (Err refusals.NotWritable)
+      (Ok (pick (searched e.symbol) (sought_or (kept_for kept e.symbol) y (sought_for t a (name_of (image_in a t) r y))) (Known 0)))
+      (refused 17 t.number)
 
   unfoldable pub copying_of : Turn → Record → Rela → ℕ → Result Symbol Refusal → Progress → List ℕ → List ℕ → Left
-  copying_of t r e i (Err x) p a report = left (refused_by t (number_of x) p) a report
+  copying_of t r e i (Err x) p a report = left (refused (refusal_number x) t.number) p a report
   copying_of t r e i (Ok y) p a report = copy_of table t r.segments e i y (sought_for_copy a (name_of (image_in a t) r y)) p a report
 
   -- an entry, by the row of its type
   unfoldable pub run_action : Turn → Record → ℕ → Rela → Row → Progress → List ℕ → List ℕ → Left
-  run_action t r i e ignored p a report = left p a report
+  run_action t r i e ignored p a report = left passed p a report
   run_action t r i e passed_over p a report = with_arena a (note_of (report_sum 7 i) p report)
-  run_action t r i e turned_away p a report = left (refused_by t 16 p) a report
-  run_action t r i e marked_refuse p a report = left (refused_by t 25 p) a report
-  run_action t r i e (writes no_search f) p a report = with_report report (fixed_of t r.segments e f p a)
+  run_action t r i e turned_away p a report = left (refused 16 t.number) p a report
+  run_action t r i e marked_refuse p a report = left (refused 25 t.number) p a report
+  run_action t r i e (writes no_search f) p a report = with_report p report (fixed_of t r.segments e f a)
   run_action t r i e (writes (in_scope searched) f) p a report =
-      write_sought t e f i (sought_of t r e searched f p a (checked_symbol (image_in a t) r e.symbol)) p a report
+      write_sought t e f i (sought_of t r e searched f p.kept a (checked_symbol (image_in a t) r e.symbol)) p a report
   run_action t r i e copies p a report = copying_of t r e i (checked_symbol (image_in a t) r e.symbol) p a report
 
   -- `n` entries of the table at `at` from entry `j` on; the table's first has the number `first`
-  unfoldable pub run_table : Turn → Record → ℕ → ℕ → ℕ → ℕ → Left → Left
-  run_table t r at first zero j st = st
-  run_table t r at first (suc n) j (left p a report) =
+  unfoldable pub run_table : Turn → Record → ℕ → ℕ → ℕ → ℕ → Progress → List ℕ → List ℕ → Left
+  run_table t r at first zero j p a report = left passed p a report
+  run_table t r at first (suc n) j p a report =
       unless_refused (run_table t r at first n (j + 1))
       (run_action t r ((first + j) % 2 ^ 32) (rela_at (image_in a t) at j) (row_at table (rela_at (image_in a t) at j).rtype) p a report)
 
   -- ---- an object
 
   -- RELA, then PLT
-  unfoldable pub run_tables : Turn → Record → Left → Left
-  run_tables t r st =
+  unfoldable pub run_tables : Turn → Record → Progress → List ℕ → List ℕ → Left
+  run_tables t r p a report =
       unless_refused (run_table t r r.plt (cut_to32 r.relas) (cut_to32 r.plts) 0)
-      (run_table t r r.rela 0 (cut_to32 r.relas) 0 st)
+      (run_table t r r.rela 0 (cut_to32 r.relas) 0 p a report)
 
   abbrev pub then_tables : Turn → Record → Summed → Noted → Left
-  then_tables t r (summed z a) (noted p report) = pick (z == 0) (run_tables t r (left p a report)) (left (refused_by t z p) a report)
+  then_tables t r (summed z a) (noted p report) = pick (z == 0) (run_tables t r p a report) (left (refused z t.number) p a report)
 
   -- the report word of the object, RELR, RELA, PLT; no answer is kept before, since a symbol's index is the object's own
   unfoldable pub run_object : Turn → Record → Progress → List ℕ → List ℕ → Left
   run_object t r p a report =
-      then_tables t r (run_relrs t r a) (note_of (report_sum 5 t.number) (keeps 0 0 p) report)
+      then_tables t r (run_relrs t r a) (note_of (report_sum 5 t.number) (keeps None p) report)
 
   -- ---- the objects
 
@@ -358,12 +324,12 @@ module _ (table : List ℕ) where
   run_at k file p a report =
       pick (again_refusal (image_in a (turn_of table k)) file == 0)
       (run_object (turn_of table k) (again_record (image_in a (turn_of table k)) file) p a report)
-      (left (refused_by (turn_of table k) (again_refusal (image_in a (turn_of table k)) file) p) a report)
+      (left (refused (again_refusal (image_in a (turn_of table k)) file) k) p a report)
 
   -- the objects of an order, of the set `os`
-  unfoldable pub run_order : List Input → List ℕ → Left → Left
-  run_order os [] st = st
-  run_order os (k ∷ ks) (left p a report) = unless_refused (run_order os ks) (run_at k (slice_index_or os k no_input).file p a report)
+  unfoldable pub run_order : List Input → List ℕ → Progress → List ℕ → List ℕ → Left
+  run_order os [] p a report = left passed p a report
+  run_order os (k ∷ ks) p a report = unless_refused (run_order os ks) (run_at k (slice_index_or os k no_input).file p a report)
 
   -- ---- an object up to an entry
 
@@ -372,8 +338,8 @@ module _ (table : List ℕ) where
   until_tables t r m p report (summed z a) =
       pick (z == 0)
       (unless_refused (run_table t r r.plt (cut_to32 r.relas) (min (cut_to32 r.plts) (m - min (cut_to32 r.relas) m)) 0)
-      (run_table t r r.rela 0 (min (cut_to32 r.relas) m) 0 (left (keeps 0 0 p) a report)))
-      (left (refused_by t z p) a report)
+      (run_table t r r.rela 0 (min (cut_to32 r.relas) m) 0 (keeps None p) a report))
+      (left (refused z t.number) p a report)
 
   unfoldable pub run_until : ℕ → List ℕ → ℕ → Progress → List ℕ → List ℕ → Left
   run_until k file m p a report =

@@ -1,29 +1,27 @@
 -- What the loops without tests leave, each against the steps of Relocating: entries with words that are Relative or Symbolic one after another, and the words of a
 -- bitmap, where all places lie in one writable segment. Nothing that is stated of `bind` and `query` rests on it. Assumes nothing.
-use Rattle.std.specs.Prelude.{◌≡◌, ℕ, zero, suc, ◌+◌, ◌-◌, ◌*◌, ◌<◌, ◌≤◌, true, List, length, Option, None, Some, Result, Ok, Err}
+use Rattle.std.specs.Prelude.{◌≡◌, ℕ, zero, suc, ◌+◌, ◌-◌, ◌*◌, ◌<◌, ◌≤◌, true, List, length, Option, None, Some, IfSome, Result, Ok, Err}
 use Rattle.words.specs.declared.refusal.Refusal.{Refusal}
-use Rattle.words.specs.Refusal.{number_of}
+use Rattle.words.specs.Refusal.{refusal_number}
 use Rattle.object.specs.TableBytes.{Agree}
 use Rattle.object.specs.Steps.WritableRange.{WritableRange}
 use Rattle.object.specs.Steps.FineRange.{FineOf}
 use Rattle.object.specs.Record.{Record, is_table_of}
 use Rattle.object.specs.declared.program_header.Segment.{Segment}
+use Rattle.object.specs.declared.table_bytes.Writable.{Writable}
 use Rattle.words.specs.Memory.{mem, patch}
 use Rattle.words.specs.Words.{le_at, byte_of, sum64}
 use Rattle.object.specs.Entries.{rela_at}
 use Rattle.object.specs.Steps.Actions.{row_by, field_by, searched_by}
 use Rattle.object.specs.declared.relocate.Field.{Field}
 use Rattle.object.specs.declared.relocate.Action.TheVariants.{Symbolic}
-use Rattle.scope.specs.declared.scope.Found.{Found}
+use Rattle.scope.specs.declared.scope.Hit.{Hit}
 use Rattle.binder.specs.declared.report.Progress.{Progress}
 use Rattle.binder.specs.declared.turn.Turn.{Turn}
 use Rattle.binder.specs.declared.relocate.Symbols.{Symbols}
-use Rattle.binder.specs.declared.relocate.Run.{Run}
+use Rattle.binder.specs.declared.relocate.Reached.{Reached}
 use Rattle.binder.specs.declared.relocate.SymbolEntry.{SymbolEntry}
-use Rattle.binder.specs.declared.relocate.SymbolEntry.TheVariants.{Other, Here}
-use Rattle.binder.specs.declared.relocate.Address.{Address}
-use Rattle.binder.specs.declared.relocate.Address.TheVariants.{Nowhere, At}
-use Rattle.binder.specs.Steps.Relocating.{left, keeps, image_in, Summed, summed, Shifted, then_relr, add_bits, run_table, row_at}
+use Rattle.binder.specs.Steps.Relocating.{keeps, image_in, Summed, summed, Shifted, then_relr, add_bits, run_table, row_at}
 
 -- the table bytes of an object at its turn are in the arena `b` as they were in `a`
 pub record TablesKept (t : Turn) (r : Record) (a b : List ℕ) : Type 0 where
@@ -51,13 +49,12 @@ RelativesWritten base at low high i (suc m) x y =
     (z : List ℕ) × RelativesWritten base at low high i m x z × RelativeWritten base at low high (i + m) z y
 
 -- of the table of `n` entries at `at`, what is left from entry `i` on over the arena `a` is what is left from entry `j` on over `b`, for an
--- object in which low .. high is writable, and where no refusal was met
+-- object in which low .. high is writable
 abbrev pub EntriesPassed : List ℕ → Turn → ℕ → ℕ → ℕ → ℕ → ℕ → List ℕ → ℕ → List ℕ → Type 0
 EntriesPassed table t at n low high i a j b =
     (r : Record) (first : ℕ) (p : Progress) (report : List ℕ)
     → WritableRange r.segments low high
-    → (0 < high → p.refusal ≡ 0)
-    → (run_table table t r at first (n - j) j (left p b report) ≡ run_table table t r at first (n - i) i (left p a report))
+    → (run_table table t r at first (n - j) j p b report ≡ run_table table t r at first (n - i) i p a report)
     × TablesKept t r a b
 
 -- the object's symbols
@@ -81,30 +78,40 @@ pub record EntryHere (table a : List ℕ) (t : Turn) (y : Symbols) (k low high :
   pub name_is : name ≡ le_at 4 (mem a) (t.offset + y.symbols + 24 * index)
   pub named : name < y.ends
 
-abbrev pub EntryRead : List ℕ → List ℕ → Turn → Symbols → ℕ → ℕ → ℕ → SymbolEntry → Type 0
-EntryRead table a t y k low high Other = Unit {0}
-EntryRead table a t y k low high (Here field place index name addend) = EntryHere table a t y k low high field place index name addend
+abbrev pub EntryRead : List ℕ → List ℕ → Turn → Symbols → ℕ → ℕ → ℕ → Option SymbolEntry → Type 0
+EntryRead table a t y k low high None = Unit {0}
+EntryRead table a t y k low high (Some x) = EntryHere table a t y k low high x.field x.place x.index x.name x.addend
 
--- what a search found
-abbrev pub address_found : Option Found → Address
-address_found None = Nowhere
-address_found (Some hit) = At hit.address
+-- the kept address, or what a search found
+abbrev pub address_found : Option ℕ → Option Hit → Option ℕ
+address_found (Some S) found = Some S
+address_found None None = None
+address_found None (Some hit) = Some hit.address
 
--- as EntriesPassed, with the answers that are kept: `s` before, `s'` after
-abbrev pub SymbolsPassed : List ℕ → Turn → Symbols → ℕ → ℕ → ℕ → ℕ → Run → List ℕ → Run → List ℕ → Type 0
+-- as EntriesPassed, with the answers that are kept: those of `s` before, those of `s'` after
+abbrev pub SymbolsPassed : List ℕ → Turn → Symbols → ℕ → ℕ → ℕ → ℕ → Reached → List ℕ → Reached → List ℕ → Type 0
 SymbolsPassed table t y at n low high s a s' b =
     (r : Record) (first : ℕ) (p : Progress) (report : List ℕ)
     → WritableRange r.segments low high
     → SymbolsOf t r y a
-    → (0 < high → p.refusal ≡ 0)
-    → (run_table table t r at first (n - s'.next) s'.next (left (keeps s'.last s'.address p) b report)
-    ≡ run_table table t r at first (n - s.next) s.next (left (keeps s.last s.address p) a report))
+    → (run_table table t r at first (n - s'.next) s'.next (keeps s'.kept p) b report
+    ≡ run_table table t r at first (n - s.next) s.next (keeps s.kept p) a report)
+    × TablesKept t r a b
+
+-- a run of both kinds, where a range may be writable
+abbrev pub ManyPassed : List ℕ → Turn → Symbols → ℕ → ℕ → Option Writable → Reached → List ℕ → Reached → List ℕ → Type 0
+ManyPassed table t y at n w s a s' b =
+    (r : Record) (first : ℕ) (p : Progress) (report : List ℕ)
+    → IfSome w (λ w. WritableRange r.segments w.low w.high)
+    → SymbolsOf t r y a
+    → (run_table table t r at first (n - s'.next) s'.next (keeps s'.kept p) b report
+    ≡ run_table table t r at first (n - s.next) s.next (keeps s.kept p) a report)
     × TablesKept t r a b
 
 -- an entry's location, or its refusal: what follows goes on from it, or is not done
 abbrev pub go_on : (ℕ → List ℕ → Summed) → Result ℕ Refusal → List ℕ → Summed
 go_on next (Ok location) x = next location x
-go_on next (Err r) x = summed (number_of r) x
+go_on next (Err r) x = summed (refusal_number r) x
 
 abbrev pub Moves : Result ℕ Refusal → List ℕ → Shifted → Type 0
 Moves result x s = (next : ℕ → List ℕ → Summed) → go_on next result x ≡ then_relr next s

@@ -6,7 +6,7 @@ use Rattle.words.specs.Hash.{gnu_hash, elf_hash}
 use Rattle.model.specs.Symbols as model
 use Rattle.model.specs.Objects.{Obj, Objs, obj, count}
 use Rattle.scope.specs.declared.links.Link.{Link}
-use Rattle.scope.specs.declared.scope.Found.{Found}
+use Rattle.scope.specs.declared.scope.Hit.{Hit}
 use Rattle.scope.specs.Steps.Links.{link_at}
 use Rattle.scope.specs.Steps.ScopeCode.{answer_at}
 use Rattle.binder.specs.Instance.{definition_of, exported_of}
@@ -14,7 +14,7 @@ use Rattle.binder.specs.Instance.{definition_of, exported_of}
 -- ---- what the code's enum stands for
 
 -- what a search yields
-unfoldable pub scoped_of : Option Found → model.Resolved
+unfoldable pub scoped_of : Option Hit → model.Resolved
 scoped_of None = model.absent
 scoped_of (Some hit) = model.answer hit.object (definition_of hit.definition) hit.address
 

@@ -1,6 +1,6 @@
 -- What `read_fields` answers: refusals 9 to 11, and the record before its tables are looked at. Assumes nothing.
 use Rattle.std.specs.Prelude.{Bool, List, ◌≡◌, ℕ, Option, Result, Ok, Err}
-use Rattle.words.specs.Refusal.{number_of}
+use Rattle.words.specs.Refusal.{refusal_number}
 use Rattle.words.specs.declared.refusal.Refusal.{Refusal}
 use Rattle.object.specs.Refusal.{require}
 use Rattle.object.specs.declared.program_header.Segment.{Segment}
@@ -17,4 +17,4 @@ pub record FieldsOf (image : List ℕ) (segments : List Segment) (d : Option ℕ
 -- refused: whether it is the host or not
 abbrev pub FieldsRead : List ℕ → List Segment → Option ℕ → Result ObjectData Refusal → Type 0
 FieldsRead image segments d (Ok o) = FieldsOf image segments d o
-FieldsRead image segments d (Err e) = (host : Bool) → read_refusal host image segments d ≡ number_of e
+FieldsRead image segments d (Err e) = (host : Bool) → read_refusal host image segments d ≡ refusal_number e

@@ -1,6 +1,5 @@
--- The table of rows: the tags that name functions, eight words an object, as the code reads them before binding. Assumes nothing.
-use Rattle.std.specs.Prelude.{List, ◌≡◌, ℕ, ◌+◌, ◌*◌, ◌^◌, ◌≤◌, ◌<◌, eqb, length, get_or, unwrap_or}
-use Rattle.words.specs.Choice.{pick}
+-- What the code reads of the placed objects, a row for each, and what is called by these rows of a bound set. Assumes nothing.
+use Rattle.std.specs.Prelude.{List, ◌≡◌, ℕ, ◌^◌, ◌≤◌, ◌<◌, length, get_or, unwrap_or}
 use Rattle.words.specs.Memory.{Mem, mem, from}
 use Rattle.words.specs.Words.{sum64}
 use Rattle.object.specs.DynamicTags as DT
@@ -9,31 +8,39 @@ use Rattle.object.specs.ProgramHeader.{dynamic_of}
 use Rattle.sheet.specs.Sheet.{Input, no_input}
 use Rattle.scope.specs.Steps.Links.{link_at, address_in}
 use Rattle.scope.specs.Steps.ScopeCode.{image_at}
-use Rattle.start_stop.specs.StartStop.{fields_at, Array, array_of, Calls}
+use Rattle.start_stop.specs.declared.rows.Array.{Array}
+use Rattle.start_stop.specs.declared.rows.Row.{Row}
+use Rattle.start_stop.specs.StartStop.{fields_at, array_of, Calls}
 
--- word `j` of a row: DT_INIT, DT_FINI, then of the preinit, init and fini array where it starts and how many words it has
-unfoldable pub row_word : Fields → ℕ → ℕ
-row_word f j =
-    pick (eqb j 0) (unwrap_or (f DT.INIT) 0)
-    (pick (eqb j 1) (unwrap_or (f DT.FINI) 0)
-    (pick (eqb j 2) (unwrap_or (f DT.PREINIT_ARRAY) 0)
-    (pick (eqb j 3) (array_of f DT.PREINIT_ARRAY DT.PREINIT_ARRAYSZ).count
-    (pick (eqb j 4) (unwrap_or (f DT.INIT_ARRAY) 0)
-    (pick (eqb j 5) (array_of f DT.INIT_ARRAY DT.INIT_ARRAYSZ).count
-    (pick (eqb j 6) (unwrap_or (f DT.FINI_ARRAY) 0) (array_of f DT.FINI_ARRAY DT.FINI_ARRAYSZ).count))))))
+-- the row of an object with these fields
+unfoldable pub row_of : Fields → Row
+row_of f =
+    record {
+      init = unwrap_or (f DT.INIT) 0;
+      fini = unwrap_or (f DT.FINI) 0;
+      preinits = array_of f DT.PREINIT_ARRAY DT.PREINIT_ARRAYSZ;
+      inits = array_of f DT.INIT_ARRAY DT.INIT_ARRAYSZ;
+      finis = array_of f DT.FINI_ARRAY DT.FINI_ARRAYSZ;
+    }
 
--- word `j` of object `k`; 0 past the table's end
-abbrev pub row_at : List ℕ → ℕ → ℕ → ℕ
-row_at rows k j = get_or rows (8 * k + j) 0
+-- an object that calls nothing
+abbrev pub no_array : Array
+no_array = record { at = 0; count = 0 }
+
+abbrev pub no_row : Row
+no_row = record { init = 0; fini = 0; preinits = no_array; inits = no_array; finis = no_array }
+
+-- the row of object `k`; none past the table's end
+abbrev pub row_at : List Row → ℕ → Row
+row_at rows k = get_or rows k no_row
 
 -- the fields of object `k` of a loaded set
 abbrev pub fields_in : List Input → List ℕ → List ℕ → ℕ → Fields
 fields_in os arena table k = fields_at (image_at arena (link_at table k)) (dynamic_of (get_or os k no_input).file)
 
 -- the rows of program and libraries have them
-abbrev pub RowsRead : List Input → ℕ → List ℕ → List ℕ → List ℕ → Type 0
-RowsRead os count arena table rows =
-    (k : ℕ) → 1 ≤ k → k < count → (j : ℕ) → j < 8 → row_at rows k j ≡ row_word (fields_in os arena table k) j
+abbrev pub RowsRead : List Input → ℕ → List ℕ → List ℕ → List Row → Type 0
+RowsRead os count arena table rows = (k : ℕ) → 1 ≤ k → k < count → row_at rows k ≡ row_of (fields_in os arena table k)
 
 -- ---- what is called of object `k`, by the tables
 
@@ -43,29 +50,26 @@ base_at table k = sum64 (address_in table) (link_at table k).offset
 abbrev pub bytes_at : List ℕ → List ℕ → ℕ → Mem
 bytes_at arena table k = from (link_at table k).offset (mem arena)
 
-abbrev pub array_at : List ℕ → ℕ → ℕ → Array
-array_at rows k j = record { at = row_at rows k j; count = row_at rows k (j + 1) }
-
-abbrev pub calls_at : List ℕ → List ℕ → List ℕ → ℕ → Calls
+abbrev pub calls_at : List ℕ → List ℕ → List Row → ℕ → Calls
 calls_at arena table rows k =
     record {
       base = base_at table k;
       span = (link_at table k).span;
       bytes = bytes_at arena table k;
-      init = row_at rows k 0;
-      fini = row_at rows k 1;
-      preinits = array_at rows k 2;
-      inits = array_at rows k 4;
-      finis = array_at rows k 6;
+      init = (row_at rows k).init;
+      fini = (row_at rows k).fini;
+      preinits = (row_at rows k).preinits;
+      inits = (row_at rows k).inits;
+      finis = (row_at rows k).finis;
     }
 
 -- the arrays of object `k` have at most 2^25 words, as all that lie in a span do
-pub record FewWords (rows : List ℕ) (k : ℕ) : Type 0 where
-  pub inits : row_at rows k 5 ≤ 2 ^ 25
-  pub finis : row_at rows k 7 ≤ 2 ^ 25
+pub record FewWords (rows : List Row) (k : ℕ) : Type 0 where
+  pub inits : (row_at rows k).inits.count ≤ 2 ^ 25
+  pub finis : (row_at rows k).finis.count ≤ 2 ^ 25
 
 -- the same of the objects of a list
-abbrev pub AllFew : List ℕ → List ℕ → Type 0
+abbrev pub AllFew : List Row → List ℕ → Type 0
 AllFew rows order = (i : ℕ) → i < length order → FewWords rows (get_or order i 0)
 
 -- the numbers of an order have spans of at most 2^28, as refusal 2 lets them be, and the program is one of them

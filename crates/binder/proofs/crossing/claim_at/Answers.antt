@@ -8,11 +8,18 @@ use Rattle.binder.proofs.crossing.claim_at.Goals as goal
 pub returns-then-word_off-ne5 : goal.returns-then-word_off-ne5
 unfolding crossing-specs.claim_of entries.rela_at
 returns-then-word_off-ne5 c =
-    rw (c.no_claim.ensures, ne_eqb _ _ (λ e. c.if-word_off-ne5.true (c.word_off.ensures ∙ e)))
+    rw (ne_eqb _ _ (λ e. c.if-word_off-ne5.true (c.word_off.ensures ∙ e)))
+
+pub returns-then-size-eq0 : goal.returns-then-size-eq0
+unfolding crossing-specs.claim_of entries.rela_at symbols.symbol_from
+returns-then-size-eq0 c =
+    let a = c.args in
+    let z : a.symbols + (24 * c.word_off-s.result + 16) ≡ a.symbols + 24 * c.word_off-s.result + 16 = omega arith in
+    rw (← c.word_off-s.ensures, ← z, ← c.word_off-size.ensures, eq-eqb _ _ (sym c.word_off.ensures ∙ c.if-word_off-ne5.false), eq-eqb _ _ c.if-size-eq0.true)
 
 pub returns : goal.returns
 unfolding crossing-specs.claim_of entries.rela_at symbols.symbol_from
 returns c =
     let a = c.args in
     let z : a.symbols + (24 * c.word_off-s.result + 16) ≡ a.symbols + 24 * c.word_off-s.result + 16 = omega arith in
-    rw (← c.word_off-s.ensures, ← z, ← c.word_off-2.ensures, ← c.word_off-3.ensures, eq-eqb _ _ (sym c.word_off.ensures ∙ c.if-word_off-ne5.false))
+    rw (← c.word_off-s.ensures, ← z, ← c.word_off-size.ensures, ← c.word_off-place.ensures, eq-eqb _ _ (sym c.word_off.ensures ∙ c.if-word_off-ne5.false), ne_eqb _ _ c.if-size-eq0.false)

@@ -4,4 +4,4 @@ use Rattle.binder.proofs.crossing.plainly_apart.Given as goal
 
 abbrev pub invariant-loop-i : goal.invariant-loop-i
 invariant-loop-i l =
-    NoneBefore l.table l.set l.arena l.order l.i
+    NoneBefore l.links l.set l.arena l.order l.i

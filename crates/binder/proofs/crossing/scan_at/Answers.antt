@@ -2,10 +2,6 @@
 use Rattle.binder.proofs.WalkLaws.{walk_at}
 use Rattle.binder.proofs.crossing.scan_at.Goals as goal
 
-pub scan_object-requires : goal.scan_object-requires
-scan_object-requires c =
-    c.requires
-
 pub returns : goal.returns
 returns c =
     let a = c.args in
@@ -13,6 +9,5 @@ returns c =
       s.0,
       s.1,
       s.2,
-      walk_at a.first a.seen a.kept.now _ _ a.table.now a.arena.now a.file.now a.k c.turn_of-t.ensures
-          c.record_again-o.ensures s.3,
+      walk_at a.walk.now _ _ a.links.now a.arena.now a.file.now a.k c.turn_of-t.ensures c.record_again-o.ensures s.3,
     )

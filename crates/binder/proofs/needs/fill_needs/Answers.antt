@@ -1,4 +1,4 @@
-use Rattle.std.proofs.Common.{length, ◌∙◌, arith}
+use Rattle.std.proofs.Common.{◌∙◌, arith}
 use Rattle.binder.specs.Steps.Needed.{needs_at}
 use Rattle.binder.proofs.NeedsLaws.{filled_none, fill_next}
 use Rattle.binder.proofs.needs.fill_needs.Goals as goal
@@ -13,7 +13,7 @@ loop-k-preserved c =
     let a = c.args in (
       c.put_needs.auto.needs ∙ c.loop-k.invariant.0,
       λ few e.
-          fill_next a.set.now (length a.set.now) a.arena.now a.table.now c.loop-k.k c.loop-k.needs _
+          fill_next a.set.now a.arena.now a.table.now c.loop-k.k c.loop-k.needs _
           c.link_at-s.result _ _ (omega arith) (omega (arith, c.len-k-end.ensures, c.loop-k-test.true)) (omega (arith, c.len-k-end.ensures, c.loop-k-test.true)) (omega (arith, c.loop-k.invariant.0)) c.link_at-s.ensures
           c.part_of.ensures c.file.ensures c.put_needs.ensures few (c.loop-k.invariant.1 few e),
     )

@@ -7,4 +7,4 @@ use Rattle.binder.proofs.needs.fill_needs.Given as goal
 abbrev pub invariant-loop-k : goal.invariant-loop-k
 invariant-loop-k l =
     (length l.needs ≡ 4096)
-    × (FewNeeds l.set (length l.set) l.arena l.table → l.initial.needs ≡ replicate 4096 0 → FilledTo (needs_at l.set l.arena l.table) l.k l.needs)
+    × (FewNeeds l.set l.arena l.table → l.initial.needs ≡ replicate 4096 0 → FilledTo (needs_at l.set l.arena l.table) l.k l.needs)

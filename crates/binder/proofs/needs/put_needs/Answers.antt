@@ -23,7 +23,7 @@ loop-i-preserved c =
       c.loop-i.invariant.2,
       patch_next a.needs.now (64 * a.k) c.loop-i.i _ c.loop-i.invariant.3
           (ap (λ (v : ℕ). set c.loop-i.needs (64 * a.k + c.loop-i.i) v)
-          (c.number_of.ensures.0 ∙ ap (λ (n : List ℕ). number_of n 2 names) c.name_off-name.ensures)),
+          (c.unwrap_or.ensures ∙ c.library_named.ensures.is ∙ ap (λ (n : List ℕ). number_of n 2 names) c.name_off-name.ensures)),
     )
 
 pub returns : goal.returns
@@ -32,4 +32,4 @@ returns c =
     let items : List ℕ = c.deref-n-items.result.now in
     let i : c.loop-i.i ≡ length items = omega arith in
     row_is a.set.now a.image.now a.strings a.file.now a.k a.needs.now c.in-Some.at items _ (sym c.dynamic_at.ensures ∙ c.in-Some.is)
-    (c.deref-n-items.ensures.0 ∙ c.in-Some-read_needs.ensures.1) (rw i at c.loop-i.invariant.3)
+    (c.deref-n-items.ensures.0 ∙ c.in-Ok.ensures.1) (rw i at c.loop-i.invariant.3)

@@ -1,55 +1,55 @@
-use Rattle.binder.proofs.TypesLaws.{made, all_words, made_put, rows_put}
-use Rattle.binder.proofs.OwnOrderIs.{prepare_refused, taken_length, set_refused, set_bound}
-use Rattle.binder.specs.Setting.{setting_of}
-use Rattle.std.proofs.Common.{ℕ, length, refl, ◌∙◌, arith}
-use lib.ListN.{length-replicate}
+-- `binder::own_order::bind_set_ordered` meets its contract. Assumes nothing.
+use Rattle.std.proofs.Common.{length, refl, ◌∙◌}
 use Rattle.std.proofs.lemmas.Result.{err_from_is_err_and}
+use Rattle.binder.specs.Setting.{setting_of}
+use Rattle.binder.proofs.OwnOrderIs.{prepare_refused, taken_length, set_refused, set_bound}
 use Rattle.binder.proofs.own_order.bind_set_ordered.Goals as goal
 
-pub shape_of-arena-in_err-prepare : goal.shape_of-arena-in_err-prepare
-shape_of-arena-in_err-prepare c =
-    c.prepare.auto.arena
+pub shape_of-arena-in_err-prepare_to_bind : goal.shape_of-arena-in_err-prepare_to_bind
+shape_of-arena-in_err-prepare_to_bind c = c.prepare_to_bind.auto.arena
 
-pub returns-in_err-prepare : goal.returns-in_err-prepare
-returns-in_err-prepare c =
+pub returns-in_err-prepare_to_bind : goal.returns-in_err-prepare_to_bind
+returns-in_err-prepare_to_bind c =
+    let a = c.args in
     let p = err_from_is_err_and c.from_residual.result c.from_residual.ensures.1 in
-    let m = made c.args.address c.args.types.now c.args.set.now c.args.arena.now c.prepare.new.arena c.prepare.result c.types_verdict-v.result c.prepare.new.table c.types_verdict-v.ensures c.prepare.ensures.made in
     rw (p.1, p.2)
-    (prepare_refused (setting_of c.args.address c.args.types.now) c.args.set.now (length c.args.arena.now) c.args.policy (length c.args.report.now) c.args.order.now _ c.prepare.new.arena c.args.report.now (rw c.in_err-prepare.was at m.met) _ _ refl c.prepare.auto.arena refl)
+    (prepare_refused (setting_of a.address a.types.now) a.set.now (length a.arena.now) a.policy (length a.report.now) a.order.now _ c.prepare_to_bind.new.arena a.report.now (rw c.in_err-prepare_to_bind.was at c.prepare_to_bind.ensures.made.met) _ _ refl c.prepare_to_bind.auto.arena refl)
 
-pub put_types-requires : goal.put_types-requires
-put_types-requires c =
-    (omega (arith, c.prepare.auto.table, length-replicate {A = ℕ} 1090 0), all_words c.args.address c.args.types.now c.args.set.now c.args.arena.now c.prepare.new.arena c.prepare.result c.prepare.new.table (made c.args.address c.args.types.now c.args.set.now c.args.arena.now c.prepare.new.arena c.prepare.result c.types_verdict-v.result c.prepare.new.table c.types_verdict-v.ensures c.prepare.ensures.made) c.in_ok-prepare.was)
+pub of-links-requires : goal.of-links-requires
+of-links-requires c = c.prepare_to_bind.ensures.made.filtered c.in_ok-prepare_to_bind.was
 
 pub shape_of-arena-then-not-may_take : goal.shape_of-arena-then-not-may_take
-shape_of-arena-then-not-may_take c =
-    c.prepare.auto.arena
+shape_of-arena-then-not-may_take c = c.prepare_to_bind.auto.arena
 
 pub returns-then-not-may_take : goal.returns-then-not-may_take
 returns-then-not-may_take c =
+    let a = c.args in
+    let p = c.prepare_to_bind in
+    let ok = c.in_ok-prepare_to_bind.was in
     rw c.new.ensures
-    (set_refused (setting_of c.args.address c.args.types.now) c.args.set.now (length c.args.set.now) c.args.arena.now c.prepare.new.arena c.put_types.new.table
-    c.prepare.result c.requires.two refl c.prepare.auto.arena (made_put c.args.address c.args.types.now c.args.set.now c.args.arena.now c.prepare.new.arena c.prepare.result c.prepare.new.table c.put_types.new.table c.put_types.ensures (omega (arith, c.prepare.auto.table, length-replicate {A = ℕ} 1090 0)) c.prepare.ensures.objects (made c.args.address c.args.types.now c.args.set.now c.args.arena.now c.prepare.new.arena c.prepare.result c.types_verdict-v.result c.prepare.new.table c.types_verdict-v.ensures c.prepare.ensures.made)) c.in_ok-prepare.was (rows_put c.args.address c.args.types.now c.args.set.now c.args.arena.now c.prepare.new.arena c.prepare.result c.prepare.new.table c.put_types.new.table c.put_types.ensures (omega (arith, c.prepare.auto.table, length-replicate {A = ℕ} 1090 0))) c.args.policy c.args.order.now c.may_take.result c.may_take.ensures
-    c.if-not-may_take.true c.args.report.now)
+    (set_refused (setting_of a.address a.types.now) a.set.now a.arena.now p.new.arena p.new.table p.result c.requires.two p.auto.arena
+    p.ensures.made ok (p.ensures.typed ok) a.policy a.order.now c.may_take.result (rw c.of-links.ensures at c.may_take.ensures) c.if-not-may_take.true a.report.now)
 
 pub bind_in-requires : goal.bind_in-requires
-bind_in-requires c = (
-  taken_length (setting_of c.args.address c.args.types.now) c.args.set.now (length c.args.set.now) c.args.arena.now c.prepare.new.arena c.put_types.new.table
-      c.prepare.result c.requires.two refl c.prepare.auto.arena (made_put c.args.address c.args.types.now c.args.set.now c.args.arena.now c.prepare.new.arena c.prepare.result c.prepare.new.table c.put_types.new.table c.put_types.ensures (omega (arith, c.prepare.auto.table, length-replicate {A = ℕ} 1090 0)) c.prepare.ensures.objects (made c.args.address c.args.types.now c.args.set.now c.args.arena.now c.prepare.new.arena c.prepare.result c.types_verdict-v.result c.prepare.new.table c.types_verdict-v.ensures c.prepare.ensures.made)) c.in_ok-prepare.was (rows_put c.args.address c.args.types.now c.args.set.now c.args.arena.now c.prepare.new.arena c.prepare.result c.prepare.new.table c.put_types.new.table c.put_types.ensures (omega (arith, c.prepare.auto.table, length-replicate {A = ℕ} 1090 0))) c.args.policy c.args.order.now c.may_take.result c.may_take.ensures
-      c.if-not-may_take.false c.prepare.ensures.objects,
-  (made_put c.args.address c.args.types.now c.args.set.now c.args.arena.now c.prepare.new.arena c.prepare.result c.prepare.new.table c.put_types.new.table c.put_types.ensures (omega (arith, c.prepare.auto.table, length-replicate {A = ℕ} 1090 0)) c.prepare.ensures.objects (made c.args.address c.args.types.now c.args.set.now c.args.arena.now c.prepare.new.arena c.prepare.result c.types_verdict-v.result c.prepare.new.table c.types_verdict-v.ensures c.prepare.ensures.made)).filtered c.in_ok-prepare.was,
-)
+bind_in-requires c =
+    let a = c.args in
+    let p = c.prepare_to_bind in
+    let ok = c.in_ok-prepare_to_bind.was in
+    taken_length (setting_of a.address a.types.now) a.set.now a.arena.now p.new.arena p.new.table p.result c.requires.two p.auto.arena
+    p.ensures.made ok (p.ensures.typed ok) a.policy a.order.now c.may_take.result (rw c.of-links.ensures at c.may_take.ensures) c.if-not-may_take.false
+    p.ensures.objects
 
 pub shape_of-arena : goal.shape_of-arena
-shape_of-arena c =
-    c.bind_in.auto.arena ∙ c.prepare.auto.arena
+shape_of-arena c = c.bind_in.auto.arena ∙ c.prepare_to_bind.auto.arena
 
 pub shape_of-report : goal.shape_of-report
-shape_of-report c =
-    c.bind_in.auto.report
+shape_of-report c = c.bind_in.auto.report
 
 pub returns : goal.returns
 returns c =
-    set_bound (setting_of c.args.address c.args.types.now) c.args.set.now (length c.args.set.now) c.args.arena.now c.prepare.new.arena c.put_types.new.table
-    c.prepare.result c.requires.two refl c.prepare.auto.arena (made_put c.args.address c.args.types.now c.args.set.now c.args.arena.now c.prepare.new.arena c.prepare.result c.prepare.new.table c.put_types.new.table c.put_types.ensures (omega (arith, c.prepare.auto.table, length-replicate {A = ℕ} 1090 0)) c.prepare.ensures.objects (made c.args.address c.args.types.now c.args.set.now c.args.arena.now c.prepare.new.arena c.prepare.result c.types_verdict-v.result c.prepare.new.table c.types_verdict-v.ensures c.prepare.ensures.made)) c.in_ok-prepare.was (rows_put c.args.address c.args.types.now c.args.set.now c.args.arena.now c.prepare.new.arena c.prepare.result c.prepare.new.table c.put_types.new.table c.put_types.ensures (omega (arith, c.prepare.auto.table, length-replicate {A = ℕ} 1090 0))) c.args.policy c.args.order.now c.may_take.result c.may_take.ensures
-    c.if-not-may_take.false c.args.report.now c.requires.cleared _ _ _ c.bind_in.ensures
+    let a = c.args in
+    let p = c.prepare_to_bind in
+    let ok = c.in_ok-prepare_to_bind.was in
+    set_bound (setting_of a.address a.types.now) a.set.now a.arena.now p.new.arena p.new.table p.result c.requires.two p.auto.arena
+    p.ensures.made ok (p.ensures.typed ok) a.policy a.order.now c.may_take.result (rw c.of-links.ensures at c.may_take.ensures) c.if-not-may_take.false
+    a.report.now c.requires.cleared _ _ _ (rw c.of-links.ensures at c.bind_in.ensures)

@@ -1,23 +1,15 @@
-use Rattle.std.proofs.Common.{◌≡◌, ℕ, ◌-◌, true, false, sym, ap, ◌∙◌, arith, eq-eqb, ne_eqb}
-use Rattle.binder.proofs.OwnOrderLaws.{some_entry, no_entry}
+-- `binder::own_order::copy_in` meets its contract. Assumes nothing.
+use Rattle.std.proofs.Common.{◌≡◌, ◌-◌, ◌∙◌, arith, tests, rules}
+use Rattle.std.proofs.lemmas.Iterator.{YieldsList-from_range}
+use Rattle.std.proofs.lemmas.Iterator.Search.{any_from_yields_List}
+use Rattle.object.specs.Entries.{rela_at}
 use Rattle.binder.specs.OwnOrder.{is_copy}
-use Rattle.object.specs.Entries.{relas_from}
-use Rattle.words.specs.Choice.{some}
+use Rattle.binder.proofs.OwnOrderLaws.{some_range}
 use Rattle.binder.proofs.own_order.copy_in.Goals as goal
-
-pub loop-i-init : goal.loop-i-init
-loop-i-init c =
-    let z : c.args.n - 0 ≡ c.args.n = omega arith in
-    ap (λ (m : ℕ). some is_copy (relas_from c.args.image.now c.args.at 0 m)) z
-
-pub returns-then-e-eq5 : goal.returns-then-e-eq5
-returns-then-e-eq5 c =
-    sym (some_entry c.args.image.now c.args.at c.loop-i.i c.args.n is_copy true c.loop-i-test.true (sym (ap is_copy c.rela_at-e.ensures) ∙ eq-eqb _ _ c.if-e-eq5.true)) ∙ c.loop-i.invariant
-
-pub loop-i-preserved : goal.loop-i-preserved
-loop-i-preserved c =
-    sym (some_entry c.args.image.now c.args.at c.loop-i.i c.args.n is_copy false c.loop-i-test.true (sym (ap is_copy c.rela_at-e.ensures) ∙ ne_eqb _ _ c.if-e-eq5.false)) ∙ c.loop-i.invariant
 
 pub returns : goal.returns
 returns c =
-    sym (no_entry c.args.image.now c.args.at c.loop-i.i c.args.n is_copy c.loop-i-test.false) ∙ c.loop-i.invariant
+    let a = c.args in
+    let n : a.n - 0 ≡ a.n = omega arith in
+    any_from_yields_List (λ i. is_copy (rela_at a.image.now a.at i)) _ _ _ c.any.ensures.ran (YieldsList-from_range 0 a.n a.n (cc) n) (λ x b q k. search (rules, tests))
+    ∙ some_range a.image.now a.at is_copy 0 a.n

@@ -1,22 +1,14 @@
-use Rattle.std.proofs.Common.{◌≡◌, ℕ, ◌+◌, ◌-◌, true, false, eqb, sym, ap, ◌∙◌, arith, eq-eqb, ne_eqb}
-use Rattle.binder.proofs.OwnOrderLaws.{every_up, every_up_none, times_counted}
-use Rattle.model.specs.Order.{up_from, times}
-use Rattle.words.specs.Choice.{every}
+-- `binder::own_order::each_once` meets its contract. Assumes nothing.
+use Rattle.std.proofs.Common.{◌≡◌, ◌+◌, ◌-◌, eqb, ◌∙◌, arith, tests, rules}
+use Rattle.std.proofs.lemmas.Iterator.{YieldsList-from_range}
+use Rattle.std.proofs.lemmas.Iterator.Search.{all_from_yields_List}
+use Rattle.model.specs.Order.{times}
+use Rattle.binder.proofs.OwnOrderLaws.{every_range, times_counted}
 use Rattle.binder.proofs.own_order.each_once.Goals as goal
-
-pub loop-k-init : goal.loop-k-init
-loop-k-init c =
-    let z : c.args.libraries + 2 - 2 ≡ c.args.libraries = omega arith in
-    ap (λ (m : ℕ). every (λ j. eqb (times j c.args.list.now) 1) (up_from 2 m)) z
-
-pub returns-then-times_in-ne1 : goal.returns-then-times_in-ne1
-returns-then-times_in-ne1 c =
-    sym (every_up (λ j. eqb (times j c.args.list.now) 1) c.loop-k.k (c.args.libraries + 2) false c.loop-k-test.true (ne_eqb _ _ (λ e. c.if-times_in-ne1.true (c.times_in.ensures ∙ (sym (times_counted c.loop-k.k c.args.list.now) ∙ e))))) ∙ c.loop-k.invariant
-
-pub loop-k-preserved : goal.loop-k-preserved
-loop-k-preserved c =
-    sym (every_up (λ j. eqb (times j c.args.list.now) 1) c.loop-k.k (c.args.libraries + 2) true c.loop-k-test.true (eq-eqb _ _ (times_counted c.loop-k.k c.args.list.now ∙ (sym c.times_in.ensures ∙ c.if-times_in-ne1.false)))) ∙ c.loop-k.invariant
 
 pub returns : goal.returns
 returns c =
-    sym (every_up_none (λ j. eqb (times j c.args.list.now) 1) c.loop-k.k (c.args.libraries + 2) c.loop-k-test.false) ∙ c.loop-k.invariant
+    let a = c.args in
+    let n : a.libraries + 2 - 2 ≡ a.libraries = omega arith in
+    all_from_yields_List (λ k. eqb (times k a.list.now) 1) _ _ _ c.all.ensures.ran (YieldsList-from_range 2 (a.libraries + 2) a.libraries (cc) n) (λ x b q k. search (rules, tests, times_counted))
+    ∙ every_range (λ k. eqb (times k a.list.now) 1) 2 a.libraries

@@ -1,13 +1,9 @@
 -- `binder::prepare::load_all` meets its contract. Assumes nothing.
-use Rattle.std.proofs.Common.{◌≡◌, ◌-◌, length}
+use Rattle.std.proofs.Common.{◌≡◌, length}
 use Rattle.binder.specs.Setting.{setting_at}
 use Rattle.binder.proofs.PrepareLaws.{Loading}
 use Rattle.binder.proofs.prepare.load_all.Given as goal
 
 abbrev pub invariant-loop-k : goal.invariant-loop-k
 invariant-loop-k l =
-    (length l.table ≡ length l.initial.table) × (l.count ≡ length l.set) × Loading (setting_at l.address) l.set l.initial.arena l.arena l.table l.free l.k
-
-abbrev pub decreases-loop-k : goal.decreases-loop-k
-decreases-loop-k l =
-    l.count - l.k
+    (length l.table ≡ length l.initial.table) × Loading (setting_at l.address) l.set l.initial.arena l.arena l.table l.free l.k-counter

@@ -1,7 +1,7 @@
 -- `binder::prepare::load_next` meets its contract. Assumes nothing.
 use Rattle.std.proofs.Common.{ap, ◌∙◌, arith}
 use Rattle.std.proofs.lemmas.Result.{err_from_is_err_and}
-use Rattle.words.specs.Refusal.{number_of}
+use Rattle.words.specs.Refusal.{refusal_number}
 use Rattle.binder.specs.Setting.{setting_at}
 use Rattle.binder.specs.Instance.{File}
 use Rattle.binder.proofs.OffsetLaws.{offset_after}
@@ -13,7 +13,7 @@ returns-in_err-checked c =
     let a = c.args in
     let f : File = record { host = a.host; bytes = a.file.now } in
     let r = err_from_is_err_and c.from_residual.result c.from_residual.ensures.1 in
-    rw r.1 (next_headers (setting_at a.address) f a.free a.arena.now r.0 (ap number_of r.2 ∙ c.in_err-checked.ensures.refusal) a.arena.now)
+    rw r.1 (next_headers (setting_at a.address) f a.free a.arena.now r.0 (ap refusal_number r.2 ∙ c.in_err-checked.ensures.refusal) a.arena.now)
 
 pub offset_of-off-requires : goal.offset_of-off-requires
 offset_of-off-requires c =

@@ -1,6 +1,6 @@
 -- `binder::query::ask_set` meets its contract. Assumes nothing.
 use Rattle.std.proofs.Common.{refl, length, ap, ◌∙◌, arith, Option, Ok}
-use Rattle.scope.specs.declared.scope.Found.{Found}
+use Rattle.scope.specs.declared.scope.Hit.{Hit}
 use Rattle.binder.specs.Steps.ScopeModel.{scoped_of}
 use Rattle.binder.specs.Bind.{reply_of}
 use Rattle.binder.proofs.QueryIs.{ask_refused, ask_thirteen, asked}
@@ -30,9 +30,8 @@ returns-then-count-requester c =
     rw c.new.ensures
     (ask_thirteen (setting_at a.address) a.set.now (length a.arena.now) a.requester a.name.now c.prepare.result c.prepare.ensures.made.met c.in_ok-prepare.was (omega (arith, c.len-count.ensures.is, c.if-count-requester.true)) c.prepare.new.arena c.prepare.auto.arena)
 
-pub resolve-s-requires : goal.resolve-s-requires
-resolve-s-requires c =
-    let a = c.args in
+pub of-requires : goal.of-requires
+of-requires c =
     c.prepare.ensures.made.filtered c.in_ok-prepare.was
 
 pub shape_of-arena : goal.shape_of-arena
@@ -45,4 +44,4 @@ returns c =
     let a = c.args in
     asked (setting_at a.address) a.set.now (length a.set.now) a.arena.now c.prepare.new.arena c.prepare.new.table a.requester a.name.now
     c.prepare.result c.requires refl c.prepare.ensures.made c.in_ok-prepare.was (omega (arith, c.len-count.ensures.is, c.if-count-requester.false)) c.prepare.auto.arena (Ok c.found_by.result)
-    (c.found_by.ensures ∙ ap (λ (s : Option Found). reply_of (scoped_of s)) (rw c.gnu_hash-gnu.ensures at c.resolve-s.ensures))
+    (c.found_by.ensures ∙ ap (λ (s : Option Hit). reply_of (scoped_of s)) (rw (c.gnu_hash-gnu.ensures, c.of.ensures) at c.resolve-s.ensures))

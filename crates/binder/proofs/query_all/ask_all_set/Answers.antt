@@ -37,9 +37,13 @@ returns-then-not-list_ok c =
     rw c.new-then-not-list_ok.ensures
     (all_list (setting_at a.address) a.set.now (length a.arena.now) a.requester a.list.now (length a.words.now) c.prepare.result c.prepare.ensures.made.met c.in_ok-prepare.was (omega (arith, c.len-count.ensures.is, c.if-count-requester.false)) (sym c.list_ok.ensures ∙ c.if-not-list_ok.true) c.prepare.new.arena a.words.now c.prepare.auto.arena refl)
 
+pub of-requires : goal.of-requires
+of-requires c =
+    c.prepare.ensures.made.filtered c.in_ok-prepare.was
+
 pub resolve_all-requires : goal.resolve_all-requires
 resolve_all-requires c =
-    (c.prepare.ensures.made.filtered c.in_ok-prepare.was, sym c.list_ok.ensures ∙ c.if-not-list_ok.false)
+    sym c.list_ok.ensures ∙ c.if-not-list_ok.false
 
 pub shape_of-arena : goal.shape_of-arena
 shape_of-arena c =
@@ -50,4 +54,4 @@ unfolding replied_all_by
 returns c =
     let a = c.args in
     asked_all (setting_at a.address) a.set.now (length a.set.now) a.arena.now c.prepare.new.arena c.prepare.new.table a.requester a.list.now (length a.words.now)
-    c.prepare.result c.requires refl c.prepare.ensures.made c.in_ok-prepare.was (omega (arith, c.len-count.ensures.is, c.if-count-requester.false)) c.prepare.auto.arena (sym c.list_ok.ensures ∙ c.if-not-list_ok.false) _ c.resolve_all.ensures
+    c.prepare.result c.requires refl c.prepare.ensures.made c.in_ok-prepare.was (omega (arith, c.len-count.ensures.is, c.if-count-requester.false)) c.prepare.auto.arena (sym c.list_ok.ensures ∙ c.if-not-list_ok.false) _ (rw c.of.ensures at c.resolve_all.ensures)

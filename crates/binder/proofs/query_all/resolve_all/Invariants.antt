@@ -1,13 +1,10 @@
--- `binder::query_all::resolve_all` meets its contract. The invariant: the words before `i` are those of the names before `at`. Assumes nothing.
-use Rattle.std.proofs.Common.{◌≡◌, ◌-◌, length}
+-- `binder::query_all::resolve_all` meets its contract. The invariant: the words before this one are those of the names before what is left.
+-- Assumes nothing.
+use Rattle.std.proofs.Common.{◌≡◌, length}
 use Rattle.binder.specs.Steps.AllNames.{link_address}
 use Rattle.binder.proofs.AllNamesLaws.{Filling}
 use Rattle.binder.proofs.query_all.resolve_all.Given as goal
 
-abbrev pub invariant-loop-at : goal.invariant-loop-at
-invariant-loop-at l =
-    Filling (link_address l.arena l.table l.requester) l.list l.words l.at l.i × (length l.words ≡ length l.initial.words)
-
-abbrev pub decreases-loop-at : goal.decreases-loop-at
-decreases-loop-at l =
-    length l.list - l.at
+abbrev pub invariant-loop-word : goal.invariant-loop-word
+invariant-loop-word l =
+    Filling (link_address l.arena l.links l.requester) l.list l.rest l.words l.word-index × (length l.words ≡ length l.initial.words)

@@ -7,10 +7,10 @@ pub returns-then-bits-eq9223372036854775807 : goal.returns-then-bits-eq922337203
 returns-then-bits-eq9223372036854775807 c =
     let a = c.args in
     let ss = a.b.segments.now in
-    rw c.if-bits-eq9223372036854775807.true (c.add_all_in.ensures ss (λ p n l u pos. writable_part ss a.location 504 p n (sym c.in_writable.ensures ∙ c.if-in_writable.true) l u))
+    rw c.if-bits-eq9223372036854775807.true (c.add_all_in.ensures ss (λ p n l u pos. writable_part ss a.location 504 p n (sym c.in_writable.ensures ∙ c.if-not-in_writable.false) l u))
 
-pub returns-then-in_writable : goal.returns-then-in_writable
-returns-then-in_writable c =
+pub returns-else-bits-eq9223372036854775807 : goal.returns-else-bits-eq9223372036854775807
+returns-else-bits-eq9223372036854775807 c =
     let a = c.args in
     let ss = a.b.segments.now in
-    c.add_bits_in.ensures ss (λ p n l u pos. writable_part ss a.location 504 p n (sym c.in_writable.ensures ∙ c.if-in_writable.true) l u)
+    c.add_bits_in.ensures ss (λ p n l u pos. writable_part ss a.location 504 p n (sym c.in_writable.ensures ∙ c.if-not-in_writable.false) l u)

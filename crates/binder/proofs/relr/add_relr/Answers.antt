@@ -4,7 +4,7 @@ use Rattle.std.proofs.Common.{◌≡◌, ℕ, ◌+◌, min, true, false, List, s
 use Rattle.std.proofs.lemmas.Result.{err_from_is_err_and}
 use Rattle.words.specs.declared.refusal.Refusal.{Refusal}
 use Rattle.words.specs.declared.refusal.Refusal.TheVariants.{NotWritable}
-use Rattle.words.specs.Refusal.{number_of}
+use Rattle.words.specs.Refusal.{refusal_number}
 use Rattle.object.specs.TableBytes.{in_writable}
 use Rattle.object.specs.declared.program_header.Segment.{Segment}
 use Rattle.object.specs.declared.relocate.Relr.{Relr}
@@ -26,7 +26,7 @@ module _ (base : ℕ) (ss : List Segment) (location : ℕ) (e : Relr) where
   address_added p a is w l g next = rw (is, w, l, g) refl
 
   bitmap_refused :
-      (bits : ℕ) (a : List ℕ) (r : Refusal) {a' : List ℕ} → e ≡ Bitmap bits → summed (number_of r) a' ≡ add_bits base ss 63 location bits a
+      (bits : ℕ) (a : List ℕ) (r : Refusal) {a' : List ℕ} → e ≡ Bitmap bits → summed (refusal_number r) a' ≡ add_bits base ss 63 location bits a
       → Moves (Err r) a' (add_relr base ss location e a)
   unfolding add_relr
   bitmap_refused bits a r is g next = rw (is, ← g, ne_eqb _ _ (number_some r)) refl

@@ -9,7 +9,7 @@ unfolding require
 returns-then-not-tables_ok c =
     let a = c.args in
     record {
-      refusal = sym (read_left a.host a.image.now a.loads.items a.d _ c.in_ok-object.ensures false (sym c.if-not-tables_ok.true ∙ c.tables_ok.ensures));
+      refusal = sym (read_left a.host a.image.now a.loads.now.items a.d _ c.in_ok-object.ensures false (sym c.if-not-tables_ok.true ∙ c.tables_ok.ensures));
       object = tt;
     }
 
@@ -18,6 +18,6 @@ unfolding require
 returns c =
     let a = c.args in
     record {
-      refusal = sym (read_left a.host a.image.now a.loads.items a.d _ c.in_ok-object.ensures true (sym c.if-not-tables_ok.false ∙ c.tables_ok.ensures));
+      refusal = sym (read_left a.host a.image.now a.loads.now.items a.d _ c.in_ok-object.ensures true (sym c.if-not-tables_ok.false ∙ c.tables_ok.ensures));
       object = c.in_ok-object.ensures.object;
     }

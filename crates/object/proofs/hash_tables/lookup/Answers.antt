@@ -26,9 +26,6 @@ loop-init c =
     let e = rw c.bucket_of.ensures.0 at c.bucket_word-b.ensures in
     (omega arith, omega arith, simp unary_clauses (find_start a.image.now a.v.symbols a.v.strings a.v.table a.name.now a.gnu a.elf c.bucket_word-b.result c.fuel_of-end.result c.fuel_of-end.ensures.0 (sym c.may_hold.ensures ∙ c.if-not-may_hold.false) e c.if-b-eq0.false))
 
-pub accepts-requires : goal.accepts-requires
-accepts-requires c = (omega arith, c.chain_word-w.ensures)
-
 pub returns-then-accepts : goal.returns-then-accepts
 returns-then-accepts c =
     let a = c.args in

@@ -1,4 +1,3 @@
-use native.Mathlib.Numerals.{unary_clauses}
 use Prim.Native.Nat.{ℕ, ◌+◌, ◌-◌}
 use Rattle.object.proofs.CountLaws.{last_stop, last_on, last_out}
 use Rattle.object.specs.HashTable.{walk}
@@ -6,11 +5,6 @@ use Rattle.object.specs.SymbolCount.{last_reached}
 use mathlib.Core.Path.{sym, ap, ◌∙◌}
 use native.Mathlib.Omega.{arith}
 use Rattle.object.proofs.hash_tables.walk_last.Goals as goal
-
-pub loop-init : goal.loop-init
-loop-init c =
-    let a = c.args in
-    (omega arith, omega arith, omega arith, simp unary_clauses (ap (λ (f : ℕ). last_reached (walk a.image.now a.t f a.word) a.word) (sym c.fuel_of-end.ensures.0)))
 
 pub returns-then-is_last : goal.returns-then-is_last
 returns-then-is_last c =

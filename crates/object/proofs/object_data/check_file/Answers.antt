@@ -1,12 +1,10 @@
 use mathlib.Core.Path.{◌≡◌, sym, ap, ◌∙◌}
 use mathlib.Core.List.{List}
 use mathlib.Core.Bool.{true, false}
-use Prim.Native.Nat.{◌≤◌, ◌<◌}
 use lib.ListN.{length}
-use Rattle.std.specs.Prelude.{Some, None}
-use Rattle.std.proofs.lemmas.Result.{err_from_is_err_and}
+use Rattle.std.specs.Prelude.{Ok, Err}
+use Rattle.object.specs.Steps.FirstOf.{FirstOf}
 use Rattle.words.specs.Choice.{every}
-use Rattle.words.specs.Refusal.{number_of, refused_by}
 use Rattle.object.specs.declared.program_header.Segment.{Segment}
 use Rattle.object.specs.ProgramHeader.{loads_of}
 use Rattle.object.specs.Segments.{segments_ok, span_of}
@@ -16,28 +14,23 @@ use Rattle.object.proofs.SegmentLaws.{every_address}
 use Rattle.object.proofs.PlaceLaws.{many, ok_every, file_seven, file_align, file_checked}
 use Rattle.object.proofs.object_data.check_file.Goals as goal
 
-pub returns-in_err-loads : goal.returns-in_err-loads
-returns-in_err-loads c =
+pub returns-in_default : goal.returns-in_default
+returns-in_default c =
     let file = c.args.file.now in
-    let r = err_from_is_err_and c.from_residual.result c.from_residual.ensures.1 in
-    let none : c.read_loads.result ≡ None = c.in_err-loads.ensures.ok_part in
-    let more : 16 < length (loads_of file) = rw none at c.read_loads.ensures in
-    let n : number_of r.0 ≡ 7 = ap number_of r.2 ∙ (ap refused_by c.in_err-loads.ensures.value ∙ rw none) in
-    rw r.1 (record { refusal = n ∙ sym (file_seven file c.requires (many file (loads_of file) more)); placed = tt })
+    let more : FirstOf 16 (loads_of file) (Err c.in_default.field-0) = rw c.in_default.is at c.read_loads.ensures in
+    record { refusal = sym (file_seven file c.requires (many file (loads_of file) more.0)); placed = tt }
 
 pub returns-then-not-segments_ok : goal.returns-then-not-segments_ok
 returns-then-not-segments_ok c =
     let file = c.args.file.now in
-    let some : c.read_loads.result ≡ Some c.in_ok-loads.loads = c.in_ok-loads.ensures.ok_part in
-    let held : (length (loads_of file) ≤ 16) × (c.in_ok-loads.loads.items ≡ loads_of file) = rw some at c.read_loads.ensures in
+    let held : FirstOf 16 (loads_of file) (Ok c.in-Ok.loads) = rw c.in-Ok.is at c.read_loads.ensures in
     let e : segments_ok file (loads_of file) ≡ false = rw (← held.1, ← c.deref.ensures.0) (sym c.segments_ok.ensures ∙ c.if-not-segments_ok.true) in
     record { refusal = sym (file_seven file c.requires e); placed = tt }
 
 pub returns-then-not-aligns_ok : goal.returns-then-not-aligns_ok
 returns-then-not-aligns_ok c =
     let file = c.args.file.now in
-    let some : c.read_loads.result ≡ Some c.in_ok-loads.loads = c.in_ok-loads.ensures.ok_part in
-    let held : (length (loads_of file) ≤ 16) × (c.in_ok-loads.loads.items ≡ loads_of file) = rw some at c.read_loads.ensures in
+    let held : FirstOf 16 (loads_of file) (Ok c.in-Ok.loads) = rw c.in-Ok.is at c.read_loads.ensures in
     let e : segments_ok file (loads_of file) ≡ true = rw (← held.1, ← c.deref.ensures.0) (sym c.segments_ok.ensures ∙ c.if-not-segments_ok.false) in
     let k : every align_ok (loads_of file) ≡ false = rw (← held.1, ← c.deref-2.ensures.0) (every_all _ _ ∙ (sym c.aligns_ok.ensures ∙ c.if-not-aligns_ok.true)) in
     record { refusal = sym (file_align file c.requires e k); placed = tt }
@@ -45,16 +38,14 @@ returns-then-not-aligns_ok c =
 pub span_of-requires : goal.span_of-requires
 span_of-requires c =
     let file = c.args.file.now in
-    let some : c.read_loads.result ≡ Some c.in_ok-loads.loads = c.in_ok-loads.ensures.ok_part in
-    let held : (length (loads_of file) ≤ 16) × (c.in_ok-loads.loads.items ≡ loads_of file) = rw some at c.read_loads.ensures in
+    let held : FirstOf 16 (loads_of file) (Ok c.in-Ok.loads) = rw c.in-Ok.is at c.read_loads.ensures in
     let e : segments_ok file (loads_of file) ≡ true = rw (← held.1, ← c.deref.ensures.0) (sym c.segments_ok.ensures ∙ c.if-not-segments_ok.false) in
     rw (c.deref-3.ensures.0, held.1) (every_address (length file) (loads_of file) (ok_every file (loads_of file) e))
 
 pub returns : goal.returns
 returns c =
     let file = c.args.file.now in
-    let some : c.read_loads.result ≡ Some c.in_ok-loads.loads = c.in_ok-loads.ensures.ok_part in
-    let held : (length (loads_of file) ≤ 16) × (c.in_ok-loads.loads.items ≡ loads_of file) = rw some at c.read_loads.ensures in
+    let held : FirstOf 16 (loads_of file) (Ok c.in-Ok.loads) = rw c.in-Ok.is at c.read_loads.ensures in
     let e : segments_ok file (loads_of file) ≡ true = rw (← held.1, ← c.deref.ensures.0) (sym c.segments_ok.ensures ∙ c.if-not-segments_ok.false) in
     let k : every align_ok (loads_of file) ≡ true = rw (← held.1, ← c.deref-2.ensures.0) (every_all _ _ ∙ (sym c.aligns_ok.ensures ∙ c.if-not-aligns_ok.false)) in
     let f = file_checked file c.requires e _ k

@@ -1,6 +1,6 @@
 use mathlib.Core.Path.{sym, ap, ◌∙◌}
 use Rattle.std.proofs.lemmas.Result.{err_from_is_err_and}
-use Rattle.words.specs.Refusal.{number_of}
+use Rattle.words.specs.Refusal.{refusal_number}
 use Rattle.object.proofs.RefusalLaws.{number_some}
 use Rattle.object.proofs.PlaceLaws.{refusal_header}
 use Rattle.object.proofs.object_data.check_headers.Goals as goal
@@ -11,6 +11,6 @@ returns-in_err-check_header c =
     let e = c.in_err-check_header.ensures in
     rw r.1
     (record {
-      refusal = ap number_of r.2 ∙ (e ∙ sym (refusal_header c.args.host c.args.file.now (λ z. number_some c.in_err-check_header.field-0.0 (e ∙ z))));
+      refusal = ap refusal_number r.2 ∙ (e ∙ sym (refusal_header c.args.host c.args.file.now (λ z. number_some c.in_err-check_header.field-0.0 (e ∙ z))));
       placed = tt;
     })

@@ -8,9 +8,6 @@ returns-then-part-checked c =
     let e = placed_eight a.host a.file.now a.part.now a.checked.now c.requires c.if-part-checked.true in
     record { refusal = sym e.0; part = e.1 }
 
-pub place_runs-requires : goal.place_runs-requires
-place_runs-requires c = (c.requires.passed, rw c.deref.ensures.0 c.requires.segments)
-
 pub returns : goal.returns
 returns c =
     let a = c.args in

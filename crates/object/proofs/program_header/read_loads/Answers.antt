@@ -5,7 +5,7 @@ use native.Mathlib.Omega.{arith}
 use borrow.Author.Tests.{eqb-true, eqb-false}
 use lib.ListN.{length}
 use Rattle.object.specs.declared.program_header.Segment.{Segment}
-use Rattle.object.specs.ProgramHeader.{loads_in, loads_of}
+use Rattle.object.specs.ProgramHeader.{loads_in}
 use Rattle.object.proofs.LoadLaws.{loads_one, loads_none, loads_over}
 use Rattle.object.proofs.program_header.read_loads.Goals.{then-type_at-eq1+else-is_full, else-type_at-eq1}
 use Rattle.object.proofs.program_header.read_loads.Goals as goal
@@ -17,8 +17,9 @@ loop-i-init c = (omega (arith, ap (λ (l : List Segment). length l) c.new-found.
 pub returns-then-is_full : goal.returns-then-is_full
 returns-then-is_full c =
     let full = eqb-true _ _ (sym c.is_full.ensures.value ∙ c.if-is_full.true) in
-    loads_over c.args.file.now c.loop-i.i (sym (ap (λ (l : List Segment). length l) c.loop-i.invariant.1) ∙ full) (sym c.type_at.ensures ∙ c.if-type_at-eq1.true)
-    (omega (arith, c.header_count-i-end.ensures))
+    rw c.loop-i.invariant.1
+    (loads_over c.args.file.now c.loop-i.i (sym (ap (λ (l : List Segment). length l) c.loop-i.invariant.1) ∙ full) (sym c.type_at.ensures ∙ c.if-type_at-eq1.true)
+    (omega (arith, c.header_count-i-end.ensures)))
 
 pub loop-i-preserved : goal.loop-i-preserved
 loop-i-preserved c =
@@ -33,8 +34,3 @@ loop-i-preserved c =
       | else-type_at-eq1 w ↦
           rw w.found-is (c.loop-i.invariant.0, c.loop-i.invariant.1 ∙ sym (loads_none file c.loop-i.i (λ e. w.if-type_at-eq1.false (c.type_at.ensures ∙ e))))
     ]
-
-pub returns : goal.returns
-returns c =
-    let e : c.loop-i.found.items ≡ loads_of c.args.file.now = c.loop-i.invariant.1 ∙ ap (loads_in c.args.file.now) (omega (arith, c.header_count-i-end.ensures)) in
-    (omega (arith, c.loop-i.invariant.0, ap (λ (l : List Segment). length l) e), e)

@@ -1,16 +1,7 @@
 -- `object::table_bytes::chained_of` meets its contract. Assumes nothing.
-use native.Mathlib.Omega.{arith}
 use Rattle.object.specs.TableBytes.{is_table}
 use Rattle.object.proofs.FineLaws.{chained_runs}
 use Rattle.object.proofs.table_bytes.chained_of.Goals as goal
-
-pub returns-then-span-chain : goal.returns-then-span-chain
-returns-then-span-chain c =
-    λ d h. absurd (omega arith)
-
-pub returns-then-span-chain-2 : goal.returns-then-span-chain-2
-returns-then-span-chain-2 c =
-    λ d h. absurd (omega arith)
 
 pub returns : goal.returns
 returns c =

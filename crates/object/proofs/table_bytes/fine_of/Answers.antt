@@ -1,15 +1,7 @@
 -- `object::table_bytes::fine_of` meets its contract. Assumes nothing.
 use Rattle.object.specs.TableBytes.{is_table}
-use Rattle.object.proofs.FineLaws.{tables_none, tables_runs}
+use Rattle.object.proofs.FineLaws.{tables_runs}
 use Rattle.object.proofs.table_bytes.fine_of.Goals as goal
-
-pub returns-then-b-symbols : goal.returns-then-b-symbols
-returns-then-b-symbols c =
-    tables_none _ _ _ _ _
-
-pub returns-then-b-strings : goal.returns-then-b-strings
-returns-then-b-strings c =
-    tables_none _ _ _ _ _
 
 pub returns : goal.returns
 returns c =

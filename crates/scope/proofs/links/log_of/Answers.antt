@@ -1,25 +1,17 @@
-use mathlib.Core.Path.{◌≡◌, refl, sym, ◌∙◌}
-use native.Mathlib.Omega.{arith}
-use Rattle.scope.specs.Steps.Links.{log_from, log_of}
-use Rattle.scope.proofs.LinkLaws.{bit, log_here, log_next}
+-- `scope::links::log_of` meets its contract. Assumes nothing.
+use Rattle.std.proofs.Common.{◌∙◌, sym}
+use Rattle.scope.proofs.LinkLaws.{bit, log_is, log_none, log_zero}
 use Rattle.scope.proofs.links.log_of.Goals as goal
 
-pub loop-k-init : goal.loop-k-init
-unfolding log_of
-loop-k-init c = refl
+pub returns-then-n-eq0 : goal.returns-then-n-eq0
+returns-then-n-eq0 c = rw c.if-n-eq0.true log_zero
 
 pub returns-then-n-k : goal.returns-then-n-k
 returns-then-n-k c =
-    let k = c.loop-k.k in
-    log_here k c.args.n c.loop-k-test.true (c.if-n-k.true ∙ bit k 32 c.loop-k-test.true) ∙ c.loop-k.invariant
+    let b = c.ilog2-k.ensures.bound in
+    log_is c.ilog2-k.result c.args.n b (c.if-n-k.true ∙ bit c.ilog2-k.result 32 b)
 
-pub loop-k-preserved : goal.loop-k-preserved
-loop-k-preserved c =
-    let k = c.loop-k.k in
-    sym (log_next k c.args.n c.loop-k-test.true (λ is. c.if-n-k.false (is ∙ sym (bit k 32 c.loop-k-test.true)))) ∙ c.loop-k.invariant
-
-pub returns : goal.returns
-unfolding log_from
-returns c =
-    let e : c.loop-k.k ≡ 32 = omega arith in
-    rw e at c.loop-k.invariant
+pub returns-else-n-k : goal.returns-else-n-k
+returns-else-n-k c =
+    let f = c.ilog2-k.ensures in
+    log_none c.ilog2-k.result c.args.n f.power_le f.next_power_gt (λ is. c.if-n-k.false (is ∙ sym (bit c.ilog2-k.result 32 f.bound)))

@@ -1,7 +1,8 @@
-use Rattle.std.proofs.Common.{List, sym, ap, ◌∙◌, arith, length-set, rules, ◌++◌, map, take}
+use Rattle.std.proofs.Common.{List, length, sym, ap, ◌∙◌, arith, ◌++◌, map}
 use Rattle.sheet.specs.Sheet.{Input}
+use Rattle.sheet.specs.declared.sheet.Object.{Object}
 use Rattle.sheet.specs.Steps.Objects.{input_of}
-use Rattle.sheet.proofs.ObjectLaws.{set_start, libs_more, libs_none, total_two, after_length, kept_more, kept_all, inputs_length}
+use Rattle.sheet.proofs.ObjectLaws.{set_start, libs_more, libs_none, total_two, after_length, kept_more, kept_all}
 use Rattle.sheet.proofs.sheet.cut.Goals as goal
 
 pub split_at-requires : goal.split_at-requires
@@ -14,21 +15,22 @@ pub loop-words-init : goal.loop-words-init
 loop-words-init c =
     let a = c.args in
     let two = total_two a.sheet.now c.requires.0 in
-    let left = after_length a.sheet.now c.requires.0 in (
-      omega arith,
-      omega (arith, left),
-      search rules,
+    let left = after_length a.sheet.now c.requires.0 in
+    let none = ap (λ (os : List Object). length os) c.new-objects.ensures in (
+      omega (arith, none, c.push.ensures.len, c.push-2.ensures.len),
+      omega (arith, left, none, c.push.ensures.len, c.push-2.ensures.len),
       omega (arith, two, c.size.ensures, c.size-2.ensures, c.split_at.ensures.back_len, c.split_at-2.ensures.back_len),
-      set_start a.sheet.now a.bytes.now _ _ _ _ _ _ c.requires.0 c.size.ensures.0 c.size-2.ensures.0 c.split_at.ensures.front
-          c.split_at.ensures.back c.split_at-2.ensures.front c.split_at-2.ensures.back,
+      rw (c.push-2.ensures.items, c.push.ensures.items, c.new-objects.ensures)
+          (set_start a.sheet.now a.bytes.now _ _ _ _ _ _ c.requires.0 c.size.ensures.0 c.size-2.ensures.0 c.split_at.ensures.front
+          c.split_at.ensures.back c.split_at-2.ensures.front c.split_at-2.ensures.back),
     )
 
 pub split_at-requires-in-len2-up : goal.split_at-requires-in-len2-up
-split_at-requires-in-len2-up c = omega (arith, c.size-in-len2-up.ensures, c.loop-words.invariant.3, total_two c.loop-words.words.now c.in-len2-up.len_at_least)
+split_at-requires-in-len2-up c = omega (arith, c.size-in-len2-up.ensures, c.loop-words.invariant.2, total_two c.loop-words.words.now c.in-len2-up.len_at_least)
 
 pub split_at-requires-in-len2-up-2 : goal.split_at-requires-in-len2-up-2
 split_at-requires-in-len2-up-2 c =
-    omega (arith, c.size-in-len2-up.ensures, c.size-in-len2-up-2.ensures, c.split_at-in-len2-up.ensures.back_len, c.loop-words.invariant.3, total_two c.loop-words.words.now c.in-len2-up.len_at_least)
+    omega (arith, c.size-in-len2-up.ensures, c.size-in-len2-up-2.ensures, c.split_at-in-len2-up.ensures.back_len, c.loop-words.invariant.2, total_two c.loop-words.words.now c.in-len2-up.len_at_least)
 
 pub loop-words-preserved : goal.loop-words-preserved
 loop-words-preserved c =
@@ -37,20 +39,14 @@ loop-words-preserved c =
     let left = after_length l.words.now c.in-len2-up.len_at_least in
     let more = libs_more l.words.now l.rest.now _ _ _ _ _ _ c.in-len2-up.len_at_least c.size-in-len2-up.ensures.0 c.size-in-len2-up-2.ensures.0
     c.split_at-in-len2-up.ensures.front c.split_at-in-len2-up.ensures.back c.split_at-in-len2-up-2.ensures.front c.split_at-in-len2-up-2.ensures.back in (
-      omega arith,
-      omega (arith, left, l.invariant.1),
-      simp length-set l.invariant.2,
-      omega (arith, two, l.invariant.3, c.size-in-len2-up.ensures, c.size-in-len2-up-2.ensures, c.split_at-in-len2-up.ensures.back_len, c.split_at-in-len2-up-2.ensures.back_len),
-      kept_more l.objects l.count _ _ (omega (arith, l.invariant.1, l.invariant.2, left))
-          ∙ ap (λ (r : List Input). map input_of (take l.count l.objects) ++ r) (sym more) ∙ l.invariant.4,
+      omega (arith, l.invariant.0, c.push-in-len2-up.ensures.len),
+      omega (arith, left, l.invariant.1, c.push-in-len2-up.ensures.len),
+      omega (arith, two, l.invariant.2, c.size-in-len2-up.ensures, c.size-in-len2-up-2.ensures, c.split_at-in-len2-up.ensures.back_len, c.split_at-in-len2-up-2.ensures.back_len),
+      rw c.push-in-len2-up.ensures.items (kept_more l.objects.items _ _)
+          ∙ ap (λ (r : List Input). map input_of l.objects.items ++ r) (sym more) ∙ l.invariant.3,
     )
 
 pub returns-clause-is : goal.returns-clause-is
 returns-clause-is c =
     let l = c.loop-words in
-    kept_all _ _ _ (libs_none l.words.now l.rest.now c.in_default.len_below) l.invariant.4
-
-pub returns-clause-two : goal.returns-clause-two
-returns-clause-two c =
-    let l = c.loop-words in
-    omega (arith, inputs_length l.objects l.count (omega (arith, l.invariant)), l.invariant)
+    kept_all _ _ _ (libs_none l.words.now l.rest.now c.in_default.len_below) l.invariant.3

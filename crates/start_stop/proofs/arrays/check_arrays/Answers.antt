@@ -1,24 +1,19 @@
 use Rattle.start_stop.proofs.LoopLaws.{check_bad, check_next, check_end}
-use Rattle.start_stop.specs.Steps.Rows.{calls_at}
-use mathlib.Core.Path.{refl, sym, ◌∙◌}
-use mathlib.Core.List.{[]}
+use Rattle.start_stop.specs.Steps.Bound.{calls_by}
+use mathlib.Core.Path.{sym, ◌∙◌}
 use Rattle.start_stop.proofs.arrays.check_arrays.Goals as goal
-
-pub loop-k-init : goal.loop-k-init
-loop-k-init c =
-    refl
 
 pub returns-then-not-arrays_inside : goal.returns-then-not-arrays_inside
 returns-then-not-arrays_inside c =
     let a = c.args in
-    rw c.new.ensures (check_bad a.order.now (calls_at [] a.table.now a.rows.now) c.loop-k.k-index c.loop-k-test.true (sym c.arrays_inside.ensures ∙ c.if-not-arrays_inside.true) c.loop-k.invariant)
+    rw c.new.ensures (check_bad a.set.now.order.now (calls_by a.set.now) c.loop-k.k-index c.loop-k-test.true (sym c.arrays_inside.ensures ∙ c.if-not-arrays_inside.true) c.loop-k.invariant)
 
 pub loop-k-preserved : goal.loop-k-preserved
 loop-k-preserved c =
     let a = c.args in
-    check_next a.order.now (calls_at [] a.table.now a.rows.now) c.loop-k.k-index c.loop-k-test.true (sym c.arrays_inside.ensures ∙ c.if-not-arrays_inside.false) c.loop-k.invariant
+    check_next a.set.now.order.now (calls_by a.set.now) c.loop-k.k-index c.loop-k-test.true (sym c.arrays_inside.ensures ∙ c.if-not-arrays_inside.false) c.loop-k.invariant
 
 pub returns : goal.returns
 returns c =
     let a = c.args in
-    check_end a.order.now (calls_at [] a.table.now a.rows.now) c.loop-k.k-index c.loop-k-test.false c.loop-k.invariant
+    check_end a.set.now.order.now (calls_by a.set.now) c.loop-k.k-index c.loop-k-test.false c.loop-k.invariant

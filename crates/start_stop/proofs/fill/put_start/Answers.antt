@@ -1,24 +1,27 @@
-use Rattle.start_stop.proofs.ListLaws.{put_both, words_length}
-use Rattle.start_stop.specs.StartStop.{Array, start_list}
-use Rattle.words.specs.Memory.{mem}
-use native.Mathlib.Omega.{arith}
-use mathlib.Core.Path.{◌∙◌}
+use Rattle.start_stop.proofs.LoopLaws.{start_first, start_next, start_end}
+use Rattle.start_stop.specs.Steps.Bound.{calls_by}
+use Rattle.std.proofs.Common.{rules, arith, refl, ◌∙◌}
 use Rattle.start_stop.proofs.fill.put_start.Goals as goal
 
-pub put_array-n-requires : goal.put_array-n-requires
-put_array-n-requires c =
-    (omega arith, omega (arith, c.word-count.ensures, c.requires.2))
+pub loop-k-init : goal.loop-k-init
+loop-k-init c =
+    record {
+      same = refl;
+      few = omega (arith, c.push_array.ensures.few);
+      left = start_first c.args.set.now.order.now (calls_by c.args.set.now) (rw (c.bytes.ensures, c.row.ensures) at c.push_array.ensures.pushed);
+    }
 
-pub put_in_order-requires : goal.put_in_order-requires
-put_in_order-requires c =
-    let a : Array = record { at = c.word-at.result; count = c.word-count.result } in
-    (omega (arith, c.put_array-n.ensures.next, words_length (mem c.bytes_of.result.now) a, c.word-count.ensures, c.requires.2), c.requires.0, c.requires.1, c.requires.3)
-
-pub shape_of-list : goal.shape_of-list
-shape_of-list c =
-    c.put_in_order.auto.list ∙ c.put_array-n.auto.list
+pub loop-k-preserved : goal.loop-k-preserved
+loop-k-preserved c =
+    let l = c.loop-k in
+    record {
+      same = c.push_starts.ensures.same_reference ∙ l.invariant.same;
+      few = omega (arith, l.invariant.few, c.push_starts.ensures.few);
+      left = start_next c.args.set.now.order.now (calls_by c.args.set.now) l.k-index c.loop-k-test.true l.invariant.left c.push_starts.ensures.pushed;
+    }
 
 pub returns : goal.returns
-unfolding start_list
 returns c =
-    put_both (rw (c.bytes_of.ensures, c.word-at.ensures, c.word-count.ensures) at c.put_array-n.ensures) c.put_in_order.ensures
+    let p = start_end c.args.set.now.order.now (calls_by c.args.set.now) c.loop-k.k-index c.loop-k-test.false c.loop-k.invariant.left in
+    let s = c.loop-k.invariant.same ∙ c.push_array.ensures.same_reference in
+    search (rules, p, s)

@@ -1,33 +1,42 @@
-use Rattle.start_stop.proofs.LoopLaws.{stop_first, stop_next, stop_end}
-use Rattle.start_stop.proofs.ListLaws.{stops_few}
-use Rattle.start_stop.specs.Steps.Rows.{calls_at}
-use lib.ListN.{length, get_or}
-use native.Mathlib.Omega.{arith}
-use mathlib.Core.Path.{refl, ◌∙◌}
-use Prim.Native.Nat.{◌-◌, ◌<◌}
+use Rattle.start_stop.proofs.LoopLaws.{stop_first, stop_next, stop_end, few_left}
+use Rattle.start_stop.specs.Steps.Bound.{calls_by}
+use Rattle.std.specs.Slice.Iter.{iter_rest}
+use Rattle.std.specs.Iterator.Adapters.{rev_source}
+use Rattle.std.proofs.Common.{rules, arith, refl, ap, length, length-append, ◌≡◌, ◌∙◌, ◌+◌, [], ◌∷◌}
 use Rattle.start_stop.proofs.fill.put_stop.Goals as goal
 
-pub loop-i-init : goal.loop-i-init
-loop-i-init c =
-    let a = c.args in
-    (refl, omega arith, omega arith, stop_first a.order.now (calls_at a.arena.now a.table.now a.rows.now) a.list.now)
+pub loop-k-init : goal.loop-k-init
+loop-k-init c =
+    let rest : iter_rest (rev_source c.into_iter-k-iterator.result) ≡ c.args.set.now.order.now = cc in
+    record {
+      same = refl;
+      few = omega (arith, ap length rest, c.args.set.now.at_most_64);
+      words = rw rest c.requires;
+      left = rw rest (stop_first (calls_by c.args.set.now) c.args.set.now.order.now c.args.list.now);
+    }
 
-pub put_stops-n-requires : goal.put_stops-n-requires
-put_stops-n-requires c =
-    (omega (arith, c.loop-i.invariant.2, c.loop-i.invariant.1, c.loop-i-test.true, c.requires.1), c.requires.0, c.requires.2 (c.loop-i.i - 1) (omega (arith, c.loop-i.invariant.1, c.loop-i-test.true)))
+pub push_stops-requires : goal.push_stops-requires
+push_stops-requires c =
+    let i = c.loop-k.invariant in
+    let few = few_left c.args.set.now.rows.now _ _ c.in-Some.k.now c.in-Some.ensures.steps i.words in
+    (omega (arith, i.few), few.1)
 
-pub loop-i-preserved : goal.loop-i-preserved
-loop-i-preserved c =
-    let a = c.args in
-    let h : c.loop-i.i - 1 < length a.order.now = omega (arith, c.loop-i.invariant.1, c.loop-i-test.true) in
-    let s = stops_few (calls_at a.arena.now a.table.now a.rows.now (get_or a.order.now (c.loop-i.i - 1) 0)) (c.requires.2 (c.loop-i.i - 1) h).finis in
-    (c.put_stops-n.auto.list ∙ c.loop-i.invariant.0, omega (arith, h), omega (arith, c.loop-i.invariant.2, c.put_stops-n.ensures.next, s, c.loop-i-test.true), stop_next a.order.now (calls_at a.arena.now a.table.now a.rows.now) c.loop-i.i (c.loop-i.i - 1) (omega (arith, c.loop-i-test.true)) h c.loop-i.invariant.3 c.put_stops-n.ensures)
-
-pub shape_of-list : goal.shape_of-list
-shape_of-list c =
-    c.loop-i.invariant.0
+pub loop-k-preserved : goal.loop-k-preserved
+loop-k-preserved c =
+    let i = c.loop-k.invariant in
+    let rest = iter_rest (rev_source c.next.new.self) in
+    let k = c.in-Some.k.now in
+    let step = c.in-Some.ensures.steps in
+    let long : length (iter_rest (rev_source c.loop-k.k-iterator)) ≡ length rest + 1 = ap length step ∙ length-append rest (k ∷ []) in
+    record {
+      same = c.push_stops.ensures.same_reference ∙ i.same;
+      few = omega (arith, i.few, c.push_stops.ensures.few, long);
+      words = (few_left c.args.set.now.rows.now _ rest k step i.words).0;
+      left = stop_next (calls_by c.args.set.now) _ rest k step i.left c.push_stops.ensures.pushed;
+    }
 
 pub returns : goal.returns
 returns c =
-    let a = c.args in
-    stop_end a.order.now (calls_at a.arena.now a.table.now a.rows.now) c.loop-i.i (omega (arith, c.loop-i-test.false)) c.loop-i.invariant.3
+    let s = c.loop-k.invariant.same in
+    let p = stop_end (calls_by c.args.set.now) _ c.in-None.ensures.steps.0 c.loop-k.invariant.left in
+    search (rules, p, s)

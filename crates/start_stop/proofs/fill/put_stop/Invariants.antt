@@ -1,12 +1,18 @@
 use Rattle.start_stop.proofs.ListLaws.{Left}
-use Rattle.start_stop.specs.Steps.Rows.{calls_at}
+use Rattle.start_stop.specs.Steps.Bound.{calls_by}
+use Rattle.start_stop.specs.Steps.Rows.{AllFew}
 use Rattle.start_stop.specs.StartStop.{stops_of, in_turn, stop_list}
-use lib.ListN.{length, take}
+use Rattle.std.specs.Slice.Iter.{iter_rest}
+use Rattle.std.specs.Iterator.Adapters.{rev_source}
+use Rattle.std.proofs.Common.{◌≡◌, ◌+◌, ◌*◌, ◌^◌, ◌≤◌, length}
 use mathlib.Core.List.{reverse}
-use mathlib.Core.Path.{◌≡◌}
-use Prim.Native.Nat.{◌+◌, ◌*◌, ◌^◌, ◌≤◌}
 use Rattle.start_stop.proofs.fill.put_stop.Given as goal
 
-abbrev pub invariant-loop-i : goal.invariant-loop-i
-invariant-loop-i l =
-    (length l.list ≡ length l.initial.list) × (l.i ≤ length l.order) × (l.n + l.i * 2 ^ 26 ≤ length l.order * 2 ^ 26) × Left (stop_list (calls_at l.arena l.table l.rows) l.order) 0 l.initial.list (in_turn (λ k. stops_of (calls_at l.arena l.table l.rows k)) (reverse (take l.i l.order))) l.n l.list
+abbrev pub invariant-loop-k : goal.invariant-loop-k
+invariant-loop-k l =
+    record {
+      same : l.addresses.words.ghost_name ≡ l.initial.addresses.words.ghost_name;
+      few : l.addresses.used + length (iter_rest (rev_source l.k-iterator)) * 2 ^ 26 ≤ 2 ^ 32;
+      words : AllFew l.set.rows.now (iter_rest (rev_source l.k-iterator));
+      left : Left (stop_list (calls_by l.set) l.set.order.now) 0 l.fn.list (in_turn (λ k. stops_of (calls_by l.set k)) (reverse (iter_rest (rev_source l.k-iterator)))) l.addresses.used l.addresses.words.now;
+    }

@@ -1,11 +1,7 @@
 -- `words::names::name_off` meets its contract. Assumes nothing.
-use Rattle.std.proofs.Common.{◌+◌, sym, ◌∙◌, length-take-le}
+use Rattle.std.proofs.Common.{◌+◌, ◌∙◌}
 use Rattle.words.proofs.NameLaws.{name_part, name_rest}
 use Rattle.words.proofs.names.name_off.Goals as goal
-
-pub slice_bounds-result-end : goal.slice_bounds-result-end
-slice_bounds-result-end c =
-    sym (length-take-le _ _ (name_part _ (rw c.first_zero.ensures at c.unwrap_or-end.ensures)).0)
 
 pub returns : goal.returns
 returns c =

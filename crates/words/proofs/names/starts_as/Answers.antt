@@ -1,13 +1,10 @@
-use Rattle.std.proofs.Common.{◌≡◌, sym, refl, ◌∙◌, arith, length, eq-eqb}
+use Rattle.std.proofs.Common.{◌≡◌, sym, ◌∙◌, arith, length, eq-eqb}
 use Rattle.words.proofs.NameLaws.{name_none, name_short, same_lengths, from_more, from_other, from_end, from_rest}
 use Rattle.words.proofs.names.starts_as.Goals as goal
 use Rattle.words.proofs.names.starts_as.Goals.{then-rest-i-via-then-rest-i, then-rest-i-via-else-rest-i+then-b-eq0}
 
 pub returns-then-rest-name : goal.returns-then-rest-name
 returns-then-rest-name c = sym (same_lengths _ _ (λ e. omega (arith, e, name_short c.args.rest.now)))
-
-pub loop-i-init : goal.loop-i-init
-loop-i-init c = refl
 
 pub returns-then-rest-i : goal.returns-then-rest-i
 returns-then-rest-i c =

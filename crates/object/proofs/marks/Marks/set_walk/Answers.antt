@@ -1,12 +1,9 @@
 -- `object::marks::Marks::set_walk` meets its contract. Assumes nothing.
 use Rattle.object.proofs.MarkLaws.{marked_more, passes_next}
 use Rattle.object.specs.Steps.Marks.{Passes}
-use mathlib.Core.Path.{refl, sym, ◌∙◌}
+use mathlib.Core.Path.{sym, ◌∙◌}
 use native.Mathlib.Omega.{arith}
 use Rattle.object.proofs.marks.Marks.set_walk.Goals as goal
-
-pub loop-init : goal.loop-init
-loop-init c = (omega (arith, c.fuel_of-end.ensures), omega (arith, c.fuel_of-end.ensures), refl, refl, λ p h mk. (h, mk))
 
 pub returns-then-set : goal.returns-then-set
 returns-then-set c =
@@ -21,9 +18,6 @@ returns-then-set c =
           marked_more m.low m.step (Passes a.image.now a.t p) l.s l.self.words c.set.new.self.words r.1 (rw (l.invariant.2, l.invariant.3) at e.2) r.0,
     )
 
-pub chain_word-w-requires : goal.chain_word-w-requires
-chain_word-w-requires c = omega (arith, c.loop.invariant.1)
-
 pub returns-then-is_last : goal.returns-then-is_last
 returns-then-is_last c =
     let a = c.args in
@@ -36,9 +30,6 @@ returns-then-is_last c =
           let r = l.invariant.4 p h mk in
           marked_more m.low m.step (Passes a.image.now a.t p) l.s l.self.words c.set.new.self.words r.1 (rw (l.invariant.2, l.invariant.3) at e.2) r.0,
     )
-
-pub next_symbol-s-requires : goal.next_symbol-s-requires
-next_symbol-s-requires c = omega (arith, c.loop.invariant.1)
 
 pub loop-preserved : goal.loop-preserved
 loop-preserved c =
@@ -56,6 +47,3 @@ loop-preserved c =
             marked_more m.low m.step (Passes a.image.now a.t p) l.s l.self.words c.set.new.self.words r.1 (rw (l.invariant.2, l.invariant.3) at e.2) r.0,
           ),
     )
-
-pub returns : goal.returns
-returns c = let l = c.loop in (l.invariant.2, l.invariant.3, λ p h mk. (l.invariant.4 p h mk).1)

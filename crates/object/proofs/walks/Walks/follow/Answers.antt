@@ -1,5 +1,5 @@
 -- `object::check::Walks::follow` meets its contract. Assumes nothing.
-use Rattle.object.proofs.MarkLaws.{marked_use, passes_last, walk_start, walk_fails, walk_cut, walk_turn}
+use Rattle.object.proofs.MarkLaws.{marked_use, passes_last, walk_fails, walk_cut, walk_turn}
 use Rattle.object.specs.Steps.Marks.{Passes}
 use Rattle.object.specs.Steps.Checked.{step_by}
 use Prim.Native.Nat.{◌+◌, ◌-◌}
@@ -9,19 +9,12 @@ use native.Mathlib.Omega.{arith}
 use Rattle.object.proofs.walks.Walks.follow.Goals.{else-not-passes_at_once-via-then-not-passes_at_once+else-not-passes, else-not-passes_at_once-via-else-not-passes_at_once}
 use Rattle.object.proofs.walks.Walks.follow.Goals as goal
 
-pub loop-init : goal.loop-init
-loop-init c =
-    let w = c.args.self.now in
-    let f = c.fuel_of-end.ensures in
-    let e : c.fuel_of-end.result - 0 ≡ c.fuel_of-end.result = omega arith in
-    (omega (arith, f), omega (arith, f), rw e (walk_start w.zeros.image.now w.view.table (step_by w) c.args.word c.fuel_of-end.result f.0))
-
 pub returns-then-holds : goal.returns-then-holds
 returns-then-holds c =
     let w = c.args.self.now in
     let m = c.args.seen.now in
     let l = c.loop in
-    l.invariant.2.on (marked_use m.low m.step (Passes w.zeros.image.now w.view.table (step_by w)) l.s m.words c.requires.1.marked (c.holds.ensures c.if-holds.true))
+    l.invariant.2.on (marked_use m.low m.step (Passes w.zeros.image.now w.view.table (step_by w)) l.s m.words c.requires.marked (c.holds.ensures c.if-holds.true))
 
 pub returns-then-not-passes : goal.returns-then-not-passes
 returns-then-not-passes c =

@@ -6,8 +6,8 @@ use mathlib.Core.Path.{sym, ◌∙◌}
 use native.Mathlib.Omega.{arith}
 use Rattle.object.proofs.walks.Walks.walk_ok.Goals as goal
 
-pub returns-then-s-self : goal.returns-then-s-self
-returns-then-s-self c =
+pub returns-then-word-self : goal.returns-then-word-self
+returns-then-word-self c =
     let w = c.args.self.now in
     let e = w.shortcuts.start in
     (sym (word_low w.zeros.image.now w.view.table (step_by w) c.args.word c.requires.0 (omega arith)), c.requires.1)

@@ -2,12 +2,11 @@
 use Rattle.object.proofs.MarkLaws.{marked_use, marked_from}
 use Rattle.object.proofs.Ranges.{below_more, below_no}
 use Rattle.object.proofs.WalkLaws.{bucket_empty, bucket_word_lem, word_ended}
-use Rattle.object.specs.HashTable.{bucket_count}
 use Rattle.object.specs.Steps.Marks.{Passes}
 use Rattle.object.specs.Steps.Checked.{step_by}
 use Rattle.object.specs.TableBytes.{is_table}
 use Rattle.words.specs.Choice.{below}
-use mathlib.Core.Path.{◌≡◌, refl, sym, ◌∙◌}
+use mathlib.Core.Path.{refl, sym, ◌∙◌}
 use native.Mathlib.Omega.{arith}
 use Rattle.object.proofs.walks.Walks.walks_ok.Goals.{then-word-eq0-via-then-word-eq0, then-word-eq0-via-else-word-eq0+then-holds}
 use Rattle.object.proofs.walks.Walks.walks_ok.Goals as goal
@@ -51,9 +50,3 @@ loop-i-preserved c =
     let v = w.view in
     let e = bucket_word_lem (is_table w.zeros.bounds.span w.zeros.bounds.segments.now) w.zeros.image.now v.symbols v.strings v.table c.loop-i.i c.bucket_word-word.result c.bucket_word-word.ensures c.if-word-eq0.false in
     (below_more _ _ c.loop-i.invariant.0 (e ∙ sym c.walk_ok.ensures.0 ∙ c.if-not-walk_ok.false), c.walk_ok.ensures.1)
-
-pub returns : goal.returns
-returns c =
-    let l = c.loop-i in
-    let e : l.i ≡ bucket_count c.args.self.now.view.table = omega (arith, c.bucket_count-i-end.ensures) in
-    sym (rw e at l.invariant.0)
