@@ -57,7 +57,7 @@ def expected(m, src, f, a, b, c):
         return gnu(name(m, a))
     if f == 11:
         return elf(name(m, a))
-    if f == 12:
+    if f in (0, 12):
         return int(name(m, a) == name(m, b))
     if f == 13:
         return a - a % 4096
@@ -110,6 +110,10 @@ def cases(places, rng):
     for _ in range(60):
         yield rng.choice((20, 21)), rng.randrange(520), 0, rng.randrange(M64)
         yield 23, rng.randrange(520), rng.randrange(600), rng.randrange(80)
+    # 0 is 12 again, and leaves the image, as the hash after it shows
+    yield 0, places[1], places[1], 8
+    yield 0, places[1], places[2], 8
+    yield 22, 0, 0, 0
 
 
 rng = random.Random(1)

@@ -4,7 +4,7 @@ ghost use Rattle.binder.specs.Bind.{names_of};
 ghost use Rattle.binder.specs.SetOrder.{number_of};
 ghost use Rattle.binder.specs.Steps.Needed.{NeedsPut, NeedsFilled, Arranged};
 
-use arrayvec::ArrayVec;
+use crate::order::Order;
 use sheet::sheet::Set;
 
 // The number of the library with that name, if one has it. No `find`: with a closure that borrows the set, `is` did not prove.
@@ -57,7 +57,7 @@ fn fill_needs(needs: &mut [u8], set: &Set, arena: &[u8], table: &[u64])
 }
 
 // The order of the objects of the set, which are loaded. The table comes as words: a `Links` would ask more of a caller.
-pub fn order_of(set: &Set, arena: &[u8], table: &[u64]) -> ArrayVec<u32, 64>
+pub fn order_of(set: &Set, arena: &[u8], table: &[u64]) -> Order
     requires { 2 ≤ length set.now }
     ensures { Arranged set.now arena.now table.now result.items }
 {

@@ -20,10 +20,17 @@ fn ends_in_zero(list: &[u8]) -> bool
     list.last().is_none_or(|b| *b == 0)
 }
 
+// By place: `filter` and `count` took up to 11 instructions a byte, of a list that is looked through before each call is answered or refused.
 fn zero_bytes(list: &[u8]) -> usize
     ensures { result ≡ count_by (λ b. b == 0) list.now }
 {
-    list.iter().filter(|b| **b == 0).count()
+    let mut n = 0;
+    for i in 0..list.len() {
+        if list[i] == 0 {
+            n += 1;
+        }
+    }
+    n
 }
 
 // Not 23: each name of the list has its zero byte, and each word its name.

@@ -1,6 +1,6 @@
 // Relocation: port of strategies/relocate.rs. The objects one after another: RELR, RELA, PLT; refusals 14 to 18, 22 and 25, entry
 // by entry.
-ghost use Rattle.std.specs.Prelude.{◌≡◌, ◌+◌, ◌-◌, ◌*◌, ◌^◌, ◌<◌, ◌≤◌, true, length, take, Ok, IfOk, IfSome};
+ghost use Rattle.std.specs.Prelude.{◌≡◌, ◌+◌, ◌-◌, ◌*◌, ◌^◌, ◌<◌, ◌≤◌, true, length, take, None, Ok, IfOk, IfSome};
 ghost use Rattle.words.specs.Names.{name_at};
 ghost use Rattle.words.specs.Refusal.{refused_by};
 ghost use Rattle.object.specs.Entries.{rela_at};
@@ -346,19 +346,19 @@ pub struct SymbolEntry {
     pub addend: u64,
 }
 
-// The entry that stands at `k` of the arena, if it is such a one.
+// The entry that stands at `k` of the arena, if it is such a one. The links come as words: a loop reads where those are once.
 fn symbol_entry(
     arena: &[u8],
-    links: &Links,
+    table: &[u64],
     t: Turn,
     y: Symbols,
     k: usize,
     w: Writable,
 ) -> Option<SymbolEntry>
     requires { (k + 24 ≤ length arena.now) × (t.offset + y.symbols + 24 * y.fits ≤ length arena.now) × (8 ≤ w.high) }
-    ensures { EntryRead links.now arena.now t y k w.low w.high result }
+    ensures { EntryRead table.now arena.now t y k w.low w.high result }
 {
-    let Action::Symbolic(field) = crate::types::action_at(links, u32::load(arena, k + 8)) else {
+    let Action::Symbolic(field) = crate::types::action_in(table, u32::load(arena, k + 8)) else {
         return None;
     };
     if field.width() != 8 {
@@ -385,6 +385,15 @@ fn symbol_entry(
     })
 }
 
+// The address that a search finds. Never inlined: the loop that rests on kept addresses makes no room for what a search finds.
+#[inline(never)]
+fn searched(arena: &[u8], x: &Site, strings: usize, name: u32) -> Option<u64>
+    ensures { result ≡ address_found None (sought_for x.now.links.now x.now.turn arena.now (name_at (image_in arena.now x.now.turn) (strings + name))) }
+{
+    let found = search(arena, x, strings, name)?;
+    Some(found.address)
+}
+
 // The kept address, where it is that of the symbol with this index, or what a search finds.
 fn address_of(
     arena: &[u8],
@@ -401,8 +410,7 @@ fn address_of(
     if known.is_some() {
         return known;
     }
-    let found = search(arena, x, strings, name)?;
-    Some(found.address)
+    searched(arena, x, strings, name)
 }
 
 // As `run_relatives`, for entries that are Symbolic with fields of eight bytes whose symbols need no further test and are found. The first entry
@@ -423,10 +431,11 @@ fn symbolics(
     if !in_reach(arena.len(), t, at, n, w.high) || !symbols_in(t, y) {
         return s;
     }
+    let table = x.links.words();
     let mut kept = s.kept;
     for i in s.next..n {
         let k = t.offset + at + 24 * (i as usize);
-        let Some(e) = symbol_entry(arena, x.links, t, y, k, w) else {
+        let Some(e) = symbol_entry(arena, table, t, y, k, w) else {
             return Reached { next: i, kept };
         };
         let Some(found) = address_of(arena, x, y.strings, e.name, e.index, kept) else {

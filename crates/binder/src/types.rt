@@ -87,10 +87,16 @@ fn word_of(table: &[u64], rtype: u32) -> u64
 
 // What the type of an entry asks for.
 #[tactic(auto, unfolding(crate::specs::Steps::Relocating::row_at))]
+pub(crate) fn action_in(table: &[u64], rtype: u32) -> Action
+    ensures { row_by result ≡ row_at table.now rtype }
+{
+    object::relocate::action_of(word_of(table, rtype), rtype)
+}
+
 pub(crate) fn action_at(links: &Links, rtype: u32) -> Action
     ensures { row_by result ≡ row_at links.now rtype }
 {
-    object::relocate::action_of(word_of(links.words(), rtype), rtype)
+    action_in(links.words(), rtype)
 }
 
 // Whether type 8 is applied.

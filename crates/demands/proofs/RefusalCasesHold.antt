@@ -99,7 +99,7 @@ record_cases =
       no_symbols = λ f strings h. rw (strings, h);
       pltrel_17 = λ f strings symbols syment relaent h. rw (strings, symbols, syment, relaent, h);
       pltrel_7 = λ f strings symbols syment relaent h. rw (strings, symbols, syment, relaent, h);
-      index_at_count = λ image r h. rw h;
+      index_at_count = λ image r h. (rw h, rw h);
     }
 
 pub set_cases : SetCases

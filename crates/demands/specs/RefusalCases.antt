@@ -6,6 +6,7 @@ use Rattle.words.specs.Page.{page_size}
 use Rattle.model.specs.Symbols.{Definition, answer}
 use Rattle.model.specs.Objects.{Objs}
 use Rattle.sheet.specs.Sheet.{Input}
+use Rattle.words.specs.Refusal.{refused_by}
 use Rattle.words.specs.declared.refusal.Refusal.TheVariants as refusals
 use Rattle.object.specs.Header.{file_type, machine, header_count, table_end, is_shared_object, is_x86, header_refusal}
 use Rattle.object.specs.ProgramHeader.{dynamic_of}
@@ -85,7 +86,9 @@ pub record RecordCases : Type 0 where
       (f : Fields) → is_some (f DT.STRTAB) ≡ true → is_some (f DT.SYMTAB) ≡ true → f DT.SYMENT ≡ Some 24 → f DT.RELAENT ≡ Some 24
       → f DT.PLTREL ≡ Some 7 → fields_refusal true f ≡ 0
   -- "Symbol index at or above a known count": the count itself
-  pub index_at_count : (image : List ℕ) (r : Record) → r.known ≡ Some 14 → checked_symbol image r 14 ≡ Err refusals.SymbolIndex
+  pub index_at_count :
+      (image : List ℕ) (r : Record) → r.known ≡ Some 14
+      → (checked_symbol image r 14 ≡ Err refusals.SymbolIndex) × (refused_by (checked_symbol image r 14) ≡ 14)
 
 -- 13, 18 and 19 of a set
 pub record SetCases : Type 0 where

@@ -13,7 +13,7 @@ use Rattle.words.specs.Choice.{pick}
 use Rattle.words.specs.Memory.{mem}
 use Rattle.words.specs.Words.{le_at}
 use Rattle.std.specs.Prelude.{Option, None, Result}
-use Rattle.arrayvec.specs.ArrayVec.{ArrayVec}
+use Rattle.words.specs.CopyVec.{CopyVec}
 use Rattle.object.specs.DynamicArray.{Item, item_at, item_room, items_in, end_in, ends_inside, last_value, first_of, all_of}
 use Rattle.object.specs.DynamicTags as DT
 use Rattle.object.specs.DynamicFields.{field_of, fields_of, needed_offsets}
@@ -77,17 +77,17 @@ module _ (slots : List (Option ℕ)) (room : length slots ≡ 38) (tag : ℕ) (h
 -- ---- the needs
 
 -- what was read and what is left make the whole
-pub record Left (whole : List ℕ) (n : Result (ArrayVec ℕ) (ArrayVec ℕ)) (left : List ℕ) : Type 0 where
+pub record Left (whole : List ℕ) (n : Result (CopyVec ℕ) (CopyVec ℕ)) (left : List ℕ) : Type 0 where
   pub seen : List ℕ
   pub read : FirstOf 64 seen n
   pub all : seen ++ left ≡ whole
 
-left_all : (whole : List ℕ) (n : Result (ArrayVec ℕ) (ArrayVec ℕ)) → Left whole n [] → FirstOf 64 whole n
+left_all : (whole : List ℕ) (n : Result (CopyVec ℕ) (CopyVec ℕ)) → Left whole n [] → FirstOf 64 whole n
 left_all whole n h = rw (← h.all, append-nil h.seen) h.read
 
 -- an entry that is a need, and one that is not
 pub left_need :
-    (whole : List ℕ) (n r : Result (ArrayVec ℕ) (ArrayVec ℕ)) (x : Item) (xs : List Item) → Left whole n (all_of 1 (x ∷ xs)) → x.tag ≡ 1
+    (whole : List ℕ) (n r : Result (CopyVec ℕ) (CopyVec ℕ)) (x : Item) (xs : List Item) → Left whole n (all_of 1 (x ∷ xs)) → x.tag ≡ 1
     → ((seen : List ℕ) → FirstOf 64 seen n → FirstOf 64 (seen ++ x.value ∷ []) r)
     → Left whole r (all_of 1 xs)
 unfolding all_of
@@ -96,7 +96,7 @@ left_need whole n r x xs h t more =
     record { seen = h.seen ++ x.value ∷ []; read = more h.seen h.read; all = append_assoc h.seen (x.value ∷ []) (all_of 1 xs) ∙ e }
 
 pub left_other :
-    (whole : List ℕ) (n : Result (ArrayVec ℕ) (ArrayVec ℕ)) (x : Item) (xs : List Item) → Left whole n (all_of 1 (x ∷ xs)) → (x.tag ≡ 1 → ⊥)
+    (whole : List ℕ) (n : Result (CopyVec ℕ) (CopyVec ℕ)) (x : Item) (xs : List Item) → Left whole n (all_of 1 (x ∷ xs)) → (x.tag ≡ 1 → ⊥)
     → Left whole n (all_of 1 xs)
 unfolding all_of
 left_other whole n x xs h ne = record { seen = h.seen; read = h.read; all = rw (ne_eqb x.tag 1 ne) at h.all }
@@ -114,14 +114,14 @@ items_more image at left l ne =
     )
 
 -- the slots and the needs so far, with what the `left` entries from `i` on will give, make the whole
-pub record Walk (image : List ℕ) (at : ℕ) (slots : List (Option ℕ)) (needs : Result (ArrayVec ℕ) (ArrayVec ℕ)) (i left : ℕ) : Type 0 where
+pub record Walk (image : List ℕ) (at : ℕ) (slots : List (Option ℕ)) (needs : Result (CopyVec ℕ) (CopyVec ℕ)) (i left : ℕ) : Type 0 where
   pub room : length slots ≡ 38
   pub fields : (tag : ℕ) → 0 < slot_of tag → field_from tag (field_in slots tag) (items_in left image i) ≡ fields_of image at tag
   pub needed : Left (needed_offsets image at) needs (all_of DT.NEEDED (items_in left image i))
   pub ended : end_in left image i ≡ ends_inside image at
 
 module _ (image : List ℕ) (at : ℕ) where
-  pub walk_start : (slots : List (Option ℕ)) (needs : Result (ArrayVec ℕ) (ArrayVec ℕ)) → slots ≡ replicate 38 None → FirstOf 64 [] needs → Walk image at slots needs at (item_room image at)
+  pub walk_start : (slots : List (Option ℕ)) (needs : Result (CopyVec ℕ) (CopyVec ℕ)) → slots ≡ replicate 38 None → FirstOf 64 [] needs → Walk image at slots needs at (item_room image at)
   unfolding field_from field_of
   walk_start slots needs e n =
       record {
@@ -131,7 +131,7 @@ module _ (image : List ℕ) (at : ℕ) where
         ended = refl;
       }
 
-  module _ (slots : List (Option ℕ)) (needs : Result (ArrayVec ℕ) (ArrayVec ℕ)) (i left : ℕ) (w : Walk image at slots needs i left) where
+  module _ (slots : List (Option ℕ)) (needs : Result (CopyVec ℕ) (CopyVec ℕ)) (i left : ℕ) (w : Walk image at slots needs i left) where
     -- an entry of tag 0, or no more room
     ends :
         (b : Bool) → items_in left image i ≡ [] → end_in left image i ≡ b
@@ -164,7 +164,7 @@ module _ (image : List ℕ) (at : ℕ) where
       m = items_more image i left l (λ z. ne (t ∙ z))
 
       turn :
-          (slots' : List (Option ℕ)) (needs' : Result (ArrayVec ℕ) (ArrayVec ℕ)) → slots' ≡ put_of slots tag v
+          (slots' : List (Option ℕ)) (needs' : Result (CopyVec ℕ) (CopyVec ℕ)) → slots' ≡ put_of slots tag v
           → Left (needed_offsets image at) needs' (all_of DT.NEEDED (items_in (left - 1) image (i + 16)))
           → Walk image at slots' needs' (i + 16) (left - 1)
       turn slots' needs' es n =
@@ -178,7 +178,7 @@ module _ (image : List ℕ) (at : ℕ) where
           }
 
       pub walk_need :
-          (slots' : List (Option ℕ)) (needs' : Result (ArrayVec ℕ) (ArrayVec ℕ)) → slots' ≡ put_of slots tag v → tag ≡ DT.NEEDED
+          (slots' : List (Option ℕ)) (needs' : Result (CopyVec ℕ) (CopyVec ℕ)) → slots' ≡ put_of slots tag v → tag ≡ DT.NEEDED
           → ((seen : List ℕ) → FirstOf 64 seen needs → FirstOf 64 (seen ++ v ∷ []) needs')
           → Walk image at slots' needs' (i + 16) (left - 1)
       walk_need slots' needs' es d more =

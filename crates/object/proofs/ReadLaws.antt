@@ -10,7 +10,7 @@ use Rattle.std.specs.Prelude.{Option, None, Some, Ok, Err}
 use Rattle.object.specs.Refusal.{require}
 use Rattle.object.specs.declared.program_header.Segment.{Segment}
 use Rattle.object.specs.declared.dynamic_fields.ObjectData.{ObjectData}
-use Rattle.arrayvec.specs.ArrayVec.{ArrayVec}
+use Rattle.words.specs.CopyVec.{CopyVec}
 use Rattle.object.specs.declared.dynamic_array.DynamicArray.{DynamicArray}
 use Rattle.object.specs.DynamicArray.{ends_inside}
 use Rattle.object.specs.DynamicTags as DT
@@ -67,7 +67,7 @@ module _ (host : Bool) (image : List ℕ) (segments : List Segment) where
       read_refused ne = rw (← number) (after_met n _ ne)
 
       module _ (z : n ≡ 0) where
-        pub read_many : (many : ArrayVec ℕ) → a.needs ≡ Err many → read_refusal host image segments (Some at) ≡ 11
+        pub read_many : (many : CopyVec ℕ) → a.needs ≡ Err many → read_refusal host image segments (Some at) ≡ 11
         unfolding read_refusal require
         read_many many l =
             let more : FirstOf 64 (needed_offsets image at) (Err many) = rw l at r.needs in
@@ -75,7 +75,7 @@ module _ (host : Bool) (image : List ℕ) (segments : List Segment) where
 
         -- the record, and refusal 12
         pub read_record :
-            (needs : ArrayVec ℕ) → a.needs ≡ Ok needs → (o : Record)
+            (needs : CopyVec ℕ) → a.needs ≡ Ok needs → (o : Record)
             → o ≡ record_in image segments (field_in a.slots) needs.items
             → (read_refusal host image segments (Some at) ≡ require (tables_ok host image (record_at image segments (Some at))) 12 0)
             × (o ≡ record_at image segments (Some at))

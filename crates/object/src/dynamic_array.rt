@@ -4,7 +4,7 @@ ghost use Rattle.object.specs.DynamicFields.{needed_offsets};
 ghost use Rattle.object.specs.Steps.FirstOf.{FirstOf};
 ghost use Rattle.object.specs.Steps.Slots.{slot_of, kept_of, put_of, field_in, ArrayAt};
 
-use arrayvec::ArrayVec;
+use words::copy_vec::CopyVec;
 
 // The tags that are read.
 pub(crate) const DT_NEEDED: u64 = 1;
@@ -55,10 +55,10 @@ pub(crate) const DT_GNU_HASH: u64 = 0x6ffffef5;
 pub type Slots = [Option<usize>; 38];
 
 // The needs' offsets that a record keeps.
-pub type Needs = ArrayVec<usize, 64>;
+pub type Needs = CopyVec<usize, 64>;
 
 // The array, read in one pass. `needs` are all needs, or as an error the first 64 of more; `ended` says whether the array ends inside the span.
-#[derive(Clone, Drop)]
+#[derive(Clone, Copy)]
 pub struct DynamicArray {
     pub slots: Slots,
     pub needs: Result<Needs, Needs>,
@@ -108,7 +108,7 @@ fn put_need(needs: &mut Result<Needs, Needs>, offset: usize)
 {
     if let Ok(list) = needs {
         if list.is_full() {
-            *needs = Err(std::mem::take(list));
+            *needs = Err(*list);
         } else {
             list.push(offset);
         }
@@ -120,7 +120,7 @@ pub fn read_array(image: &[u8], at: usize) -> DynamicArray
     ensures { ArrayAt image.now at result }
 {
     let mut slots = [None; 38];
-    let mut needs = Ok(ArrayVec::new());
+    let mut needs = Ok(CopyVec::new());
     for k in 0..image.len().saturating_sub(at) / 16 {
         let i = at + 16 * k;
         let tag = words::bytes::word_at::<u64>(image, i);

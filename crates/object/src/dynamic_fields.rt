@@ -19,7 +19,7 @@ use words::refusal::Refusal;
 
 // The record of an object: its load segments, of which the host has none, and its needs' offsets; the span and the alignment; the string and
 // symbol tables, the chosen hash table, the symbol count, and the relocation tables with their counts. Pointers are offsets in the span.
-#[derive(Clone, Default, Drop)]
+#[derive(Clone, Copy, Default)]
 pub struct ObjectData {
     pub segments: Loads,
     pub needed: Needs,
@@ -127,9 +127,8 @@ fn object_in(image: &[u8], loads: &Loads, slots: &Slots, needed: Needs) -> Objec
     let relas = entry_count(rela, relasz, 24);
     let plts = entry_count(jmprel, pltrelsz, 24);
     let relrs = entry_count(relr, relrsz, 8);
-    let segments = loads.clone().unwrap();
     ObjectData {
-        segments,
+        segments: *loads,
         needed,
         span: image.len(),
         align,

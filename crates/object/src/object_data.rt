@@ -8,11 +8,11 @@ ghost use Rattle.object.specs.Loaded.{LoadedBy};
 
 use crate::dynamic_fields::ObjectData;
 use crate::program_header::{Loads, Segment};
-use arrayvec::ArrayVec;
+use words::copy_vec::CopyVec;
 use words::refusal::Refusal;
 
 // An object that passed the header checks: its span, its alignment and its load segments, of which the host has none.
-#[derive(Clone, Drop)]
+#[derive(Clone, Copy)]
 pub struct Placed {
     pub span: usize,
     pub align: usize,
@@ -31,7 +31,7 @@ fn check_host(file: &[u8]) -> Result<Placed, Refusal>
     Ok(Placed {
         span: file.len(),
         align: 4096,
-        loads: ArrayVec::new(),
+        loads: CopyVec::new(),
     })
 }
 

@@ -5,7 +5,7 @@ ghost use Rattle.object.specs.ProgramHeader.{type_at, segment_at, loads_of, dyna
 ghost use Rattle.object.specs.Steps.FirstOf.{FirstOf};
 
 use crate::header::{header_count, table_start};
-use arrayvec::ArrayVec;
+use words::copy_vec::CopyVec;
 
 // A PT_LOAD header.
 #[derive(Clone, Copy, Default)]
@@ -19,7 +19,7 @@ pub struct Segment {
 }
 
 // The PT_LOAD headers that a record keeps.
-pub type Loads = ArrayVec<Segment, 16>;
+pub type Loads = CopyVec<Segment, 16>;
 
 // p_type of header `i`.
 fn type_at(file: &[u8], start: usize, i: usize) -> u32
@@ -50,7 +50,7 @@ pub fn read_loads(file: &[u8]) -> Result<Loads, Loads>
     ensures { FirstOf 16 (loads_of file.now) result }
 {
     let start = table_start(file);
-    let mut found = ArrayVec::new();
+    let mut found = CopyVec::new();
     for i in 0..header_count(file) {
         if type_at(file, start, i) == 1 {
             if found.is_full() {

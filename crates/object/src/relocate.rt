@@ -66,7 +66,9 @@ pub fn applied_of(rtype: u32) -> Action
         1 => Action::Symbolic(Field::Direct64),
         2 => Action::Symbolic(Field::Pc32),
         5 => Action::Copy,
-        6 | 7 => Action::Symbolic(Field::Address),
+        // not `6 | 7`, which is tested apart from the others, for each entry
+        6 => Action::Symbolic(Field::Address),
+        7 => Action::Symbolic(Field::Address),
         8 => Action::Relative,
         10 => Action::Symbolic(Field::Direct32),
         11 => Action::Symbolic(Field::Direct32S),

@@ -56,13 +56,13 @@ bit k width h =
 -- ---- the words of a link
 
 -- the turns of the search for a logarithm
-log_here : (k n : ℕ) → k < 32 → n ≡ 2 ^ k → k ≡ log_from (32 - k) k n
+pub log_here : (k n : ℕ) → k < 32 → n ≡ 2 ^ k → k ≡ log_from (32 - k) k n
 unfolding log_from
 log_here k n h is =
     let s : 32 - k ≡ suc (31 - k) = omega arith in
     rw (s, eq-eqb _ _ is)
 
-log_next : (k n : ℕ) → k < 32 → (n ≡ 2 ^ k → ⊥) → log_from (32 - k) k n ≡ log_from (32 - (k + 1)) (k + 1) n
+pub log_next : (k n : ℕ) → k < 32 → (n ≡ 2 ^ k → ⊥) → log_from (32 - k) k n ≡ log_from (32 - (k + 1)) (k + 1) n
 unfolding log_from
 log_next k n h ne =
     let s : 32 - k ≡ suc (32 - (k + 1)) = omega arith in

@@ -1,6 +1,6 @@
 // A flat table of what lookups need of a set: 16 words an object, by its number, for 64 objects; then the set's count and the arena's address.
 // Words past the table's end read as 0.
-ghost use Rattle.std.specs.Prelude.{◌≡◌, ℕ, ◌+◌, ◌*◌, ◌/◌, ◌≤◌, ◌%◌, ◌<◌, ◌^◌, true, length, get_or};
+ghost use Rattle.std.specs.Prelude.{◌≡◌, ℕ, ◌+◌, ◌*◌, ◌/◌, ◌≤◌, ◌%◌, ◌<◌, ◌^◌, true, length, get_or, Some, IfSome};
 ghost use Rattle.words.specs.Hash.{elf_hash};
 ghost use Rattle.scope.specs.Steps.ScopeCode.{Lacks};
 ghost use Rattle.scope.specs.Steps.Links.{word_at, hash_words, hash_of, narrow, log_of, testable, filter_words, filter_of, link_words, link_at, count_in, address_in, FilteredBelow, Filtered, spliced, with_link};
@@ -320,17 +320,22 @@ impl<'a> Links<'a> {
         link_at(self.words, k)
     }
 
-    // The System V hash of a name, where it was made before or object `k` has a System V table; else 0, since no other table asks for it.
-    // `made` is 0 for none, and no `Option`, which each caller would unwrap for a number: a hash that is 0 is made again, and is the same.
-    pub(crate) fn elf_for(&self, k: usize, name: &[u8], made: u32) -> u32
-        requires { (made ≡ 0 → ⊥) → made ≡ elf_hash name.now }
+    // The System V hash of a name, where it was made before or object `k` has a System V table; else 0, since no other table asks for it. It is
+    // made once for a search, also where it is 0: a name may be as long as its file.
+    pub(crate) fn elf_for(&self, k: usize, name: &[u8], made: &mut Option<u32>) -> u32
+        requires { IfSome made.old (λ e. e ≡ elf_hash name.now) }
         ensures asked { word_at self.now k 4 ≡ 1 → result ≡ elf_hash name.now }
-        ensures made { (result ≡ 0 → ⊥) → result ≡ elf_hash name.now }
+        ensures made { IfSome made.new (λ e. e ≡ elf_hash name.now) }
     {
-        if made == 0 && word(self.words, k, 4) == 1 {
-            return words::hash::elf_hash(name);
+        if let Some(elf) = *made {
+            return elf;
         }
-        made
+        if word(self.words, k, 4) != 1 {
+            return 0;
+        }
+        let elf = words::hash::elf_hash(name);
+        *made = Some(elf);
+        elf
     }
 
     // Whether the bloom filter of object `k` rules out every name with this GNU hash; the arena's last whole word is at `last`.

@@ -62,12 +62,12 @@ impl<'a> Links<'a> {
     fn scan(&self, arena: &[u8], start: usize, name: &[u8], gnu: u32) -> Option<Hit>
         ensures { result ≡ scan_links (address_in self.now) arena.now start (links_from self.now start (count_in self.now - start)) name.now gnu (elf_hash name.now) }
     {
-        let mut elf = 0;
+        let mut made = None;
         for k in start..self.count() {
             if self.ruled_out(arena, k, gnu) {
                 continue;
             }
-            elf = self.elf_for(k, name, elf);
+            let elf = self.elf_for(k, name, &mut made);
             let found = self.link_answer(arena, k, name, gnu, elf);
             if found.is_some() {
                 return found;
@@ -81,7 +81,7 @@ impl<'a> Links<'a> {
     fn host_answer(&self, arena: &[u8], name: &[u8], gnu: u32) -> Option<Hit>
         ensures { result ≡ link_answer (address_in self.now) arena.now 0 (link_at self.now 0) name.now gnu (elf_hash name.now) }
     {
-        let elf = self.elf_for(0, name, 0);
+        let elf = self.elf_for(0, name, &mut None);
         self.link_answer(arena, 0, name, gnu, elf)
     }
 
@@ -102,7 +102,7 @@ impl<'a> Links<'a> {
     pub fn resolve(&self, arena: &[u8], requester: usize, name: &[u8], gnu: u32) -> Option<Hit>
         ensures { result ≡ resolve_links arena.now self.now requester name.now gnu (elf_hash name.now) }
     {
-        let elf = self.elf_for(requester, name, 0);
+        let elf = self.elf_for(requester, name, &mut None);
         match self.own_answer(arena, requester, name, gnu, elf) {
             Some(own) => Some(own),
             None => self.scan_or_host(arena, 1, name, gnu),

@@ -127,7 +127,7 @@ module _ (xs ys : List ℕ) (i : ℕ) where
   from_more l l' e ne = rw (name_more xs i l (λ z. ne (sym e ∙ z)), add-one i, drop-cons ys i 0 l', eq-eqb _ _ e)
 
   -- the name in the image ended
-  from_zero : i < length xs → i < length ys → get_or xs i 0 ≡ 0 → same_bytes (name_at xs i) (drop i ys) ≡ false
+  pub from_zero : i < length xs → i < length ys → get_or xs i 0 ≡ 0 → same_bytes (name_at xs i) (drop i ys) ≡ false
   unfolding same_bytes
   from_zero l l' z = rw (name_stop xs i l z, drop-cons ys i 0 l')
 

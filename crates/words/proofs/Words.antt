@@ -1,5 +1,6 @@
 -- The laws of le_at and byte_of, each over the width. Assumes nothing.
-use Rattle.std.proofs.Common.{◌≡◌, ℕ, zero, suc, ◌+◌, ◌*◌, ◌/◌, ◌%◌, ◌^◌, ◌<◌, ◌≤◌, min, List, length, get_or, take, drop, sym, refl, ap, ◌∙◌, div-one, add-zero, zero-add, mod-eq_of_lt, mul_comm, add_comm, arith, lit<}
+use Rattle.std.proofs.Common.{◌≡◌, ℕ, zero, suc, ◌+◌, ◌*◌, ◌/◌, ◌%◌, ◌^◌, ◌<◌, ◌≤◌, min, List, length, get_or, take, drop, replicate, sym, refl, ap, ◌∙◌, div-one, add-zero, zero-add, mod-eq_of_lt, mul_comm, add_comm, arith, lit<}
+use Rattle.std.proofs.lemmas.List.{get_or-replicate}
 use native.Mathlib.Nat.{pow-succ', mod-one, one-le-pow}
 use native.Mathlib.Decide.{dec_lt}
 use lib.Arith.{mod-mul, digits_lt}
@@ -56,6 +57,12 @@ pub le_at_past : (n : ℕ) (xs : List ℕ) (at : ℕ) → length xs ≤ at → l
 unfolding le_at
 le_at_past zero xs at past = refl
 le_at_past (suc n) xs at past = simp (le_at_past n xs at past, mem_past xs (at + n) (omega arith)) (omega arith)
+
+-- and it is that of zeros
+pub le_at_zeros : (n room : ℕ) (xs : List ℕ) (at : ℕ) → n ≤ room → length xs ≤ at → le_at n (mem (replicate room 0)) 0 ≡ le_at n (mem xs) at
+unfolding mem
+le_at_zeros n room xs at fits past =
+    le_at_same n (mem (replicate room 0)) (mem xs) 0 at (λ k h. get_or-replicate room (0 + k) 0 0 (omega arith) ∙ sym (mem_past xs (at + k) (omega arith)))
 
 -- a number in a part of a slice, which may start in its middle, is the whole's
 pub le_at_part :

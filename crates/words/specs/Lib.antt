@@ -5,3 +5,4 @@ pub mod Names
 pub mod Hash
 pub mod Page
 pub mod Refusal
+pub mod CopyVec

@@ -37,7 +37,10 @@ fn word_past<T: Word>(s: &[u8], at: usize) -> T
     ensures { T.value result ≡ le_at T.WIDTH (mem s.now) at }
 {
     let mut bytes = [0; 8];
-    copy(&mut bytes, 0, s, at, T::WIDTH);
+    // a damaged table may lead past the end at each of its steps: nothing is copied then
+    if at < s.len() {
+        copy(&mut bytes, 0, s, at, T::WIDTH);
+    }
     T::load(&bytes, 0)
 }
 

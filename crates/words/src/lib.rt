@@ -1,7 +1,8 @@
-// Little-endian words in byte slices, copies, names, the two hashes of a name, pages, and the numbers of the refusals.
+// Little-endian words in byte slices, copies, names, the two hashes of a name, pages, the numbers of the refusals, and a list in fixed memory.
 #![tactic(auto)]
 
 pub mod bytes;
+pub mod copy_vec;
 pub mod hash;
 pub mod names;
 pub mod page_size;

@@ -42,7 +42,7 @@ fn answer(image: &mut [u8], src: &[u8], case: Case) -> u64 {
         9 => name_off(image, a, b).len() as u64,
         10 => gnu_hash(name_at(image, a)) as u64,
         11 => elf_hash(name_at(image, a)) as u64,
-        12 => u64::from(same(name_at(image, a), name_at(image, b))),
+        0 | 12 => u64::from(same(name_at(image, a), name_at(image, b))),
         13 => get_page_start(a) as u64,
         14 => get_page_offset(a) as u64,
         15 => get_page_end(a) as u64,

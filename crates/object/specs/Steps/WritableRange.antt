@@ -4,6 +4,6 @@ use Rattle.std.specs.Prelude.{true, List, ◌≡◌, ℕ, ◌+◌, ◌≤◌, �
 use Rattle.object.specs.TableBytes.{in_writable}
 use Rattle.object.specs.declared.program_header.Segment.{Segment}
 
--- whatever lies between `low` and `high` lies in one writable segment; nothing does where `high` is 0
+-- whatever lies between `low` and `high` lies in one writable segment
 abbrev pub WritableRange : List Segment → ℕ → ℕ → Type 0
 WritableRange segments low high = (at n : ℕ) → low ≤ at → at + n ≤ high → 0 < n → in_writable segments at n ≡ true

@@ -19,7 +19,7 @@ loop-i-preserved c =
     let e = c.in-Some.e in
     let s = c.store_in in
     let here : EntryHere x.links.now l.arena x.turn a.y (x.turn.offset + a.at + 24 * l.i) a.w.low a.w.high e.field e.place e.index e.name e.addend =
-    subst (EntryRead x.links.now l.arena x.turn a.y (x.turn.offset + a.at + 24 * l.i) a.w.low a.w.high) c.in-Some.is c.symbol_entry.ensures in (
+    subst (EntryRead x.links.now l.arena x.turn a.y (x.turn.offset + a.at + 24 * l.i) a.w.low a.w.high) c.in-Some.is (rw c.words-table.ensures.is at c.symbol_entry.ensures) in (
       s.auto.s ∙ l.invariant.0,
       symbolic_turn x.links.now x.turn a.y a.at a.n a.w.low a.w.high (record { next = l.i; kept = l.kept }) l.arena {found = c.in-Some-address_of.found} {b = s.new.s} c.loop-i-test.true g.entries
           (c.symbols_in.ensures c.if-not-symbols_in.false) refl here (sym c.in-Some-address_of.is ∙ c.address_of.ensures) (rw (← c.value-v.ensures) s.ensures) a.s a.arena.now l.invariant.1,

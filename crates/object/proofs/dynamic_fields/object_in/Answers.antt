@@ -1,19 +1,10 @@
-use Rattle.std.proofs.Common.{◌≡◌, List, ◌∙◌}
-use Rattle.std.specs.List.{AllZip}
-use Rattle.std.proofs.lemmas.List.{map-id}
-use Rattle.std.proofs.lemmas.Slice.Zip.{AllZip-map}
-use Rattle.object.specs.declared.program_header.Segment.{Segment}
 use Rattle.object.specs.Record.{record_in}
 use Rattle.object.proofs.dynamic_fields.object_in.Goals as goal
 
 pub returns-clause-held : goal.returns-clause-held
 unfolding record_in
 returns-clause-held c =
-    let kept : List Segment = c.args.loads.now.items in
-    let zip : AllZip (λ (s t : Segment). t ≡ s) kept c.unwrap-segments.result.items = rw c.unwrap-segments.ensures at c.clone.ensures.cases in
-    let same : c.unwrap-segments.result.items ≡ kept = AllZip-map (λ (s : Segment). s) kept _ zip ∙ map-id kept in
     rw (
-      same,
       ← c.deref.ensures.0,
       ← c.align_of-align.ensures,
       ← c.field_in.ensures,
