@@ -3,6 +3,7 @@
 use Rattle.std.proofs.Common.{◌≡◌, ℕ, ◌+◌, ◌*◌, ◌%◌, ◌^◌, ◌<◌, ◌≤◌, Bool, true, false, List, sym, refl, ap, ◌∙◌, arith, eqb-true, Ok, Option, None, Some}
 use Rattle.std.specs.Prelude.{◌==◌, IfSome}
 use Rattle.std.proofs.lemmas.Option.{none-some, same_Some}
+use borrow.Author.Tests.{eqb-false}
 use Rattle.words.specs.Choice.{pick}
 use Rattle.words.specs.Memory.{mem, patch}
 use Rattle.words.specs.Words.{le_at, byte_of}
@@ -36,8 +37,16 @@ use Rattle.binder.proofs.RunLaws.{entries_left, entry_goes}
 use Rattle.binder.proofs.RelativeLaws.{number_in}
 use Rattle.binder.proofs.KeptLaws.{kept_then, kept_symbols, entry_kept}
 
-kept_eq : (k : Kept) (i a : ℕ) → k.symbol ≡ i → a ≡ k.address → kept_as i a ≡ Some k
+pub kept_eq : (k : Kept) (i a : ℕ) → k.symbol ≡ i → a ≡ k.address → kept_as i a ≡ Some k
 kept_eq k i a e f = rw (← e, f) refl
+
+-- the kept address is that of the kept symbol
+pub kept_found : (kept : Option Kept) (k : Kept) (i : ℕ) (x : Option Hit) → kept ≡ Some k → i ≡ k.symbol → Some k.address ≡ address_found (kept_for kept i) x
+kept_found kept k i x is h = rw is (known (k.symbol == i) refl)
+  where
+    known : (c : Bool) → (k.symbol == i) ≡ c → Some k.address ≡ address_found (pick c (Some k.address) None) x
+    known true e = refl
+    known false e = absurd (eqb-false k.symbol i e (sym h))
 
 -- a field of eight bytes holds every number
 wide_fits : (f : Field) (v : ℕ) → (field_by f).width ≡ 8 → (field_by f).fits v ≡ true
@@ -160,6 +169,15 @@ module _
           kept_then t r a₀ a b so_far.1
               (entry_kept t r table i e (keeps s.kept p) a report (row_by (Symbolic field)) passed (keeps (kept_as index found) p) b report run),
         )
+
+-- two runs of entries that are Symbolic, one after the other
+pub symbols_passed :
+    (table : List ℕ) (t : Turn) (y : Symbols) (at n low high : ℕ) (a b c : List ℕ) (s s' s'' : Reached)
+    → SymbolsPassed table t y at n low high s a s' b → SymbolsPassed table t y at n low high s' b s'' c → SymbolsPassed table t y at n low high s a s'' c
+symbols_passed table t y at n low high a b c s s' s'' one two r first p report wr of =
+    let x = one r first p report wr of in
+    let z = two r first p report wr (kept_symbols t r y a b x.1 of) in
+    (z.0 ∙ x.0, kept_then t r a b c x.1 z.1)
 
 -- a run of entries that are Relative, then one of entries that are Symbolic
 pub many_passed :

@@ -413,6 +413,47 @@ fn address_of(
     searched(arena, x, strings, name)
 }
 
+// Of the entries from that of `s` on, as many as follow one another that are as `symbolics` takes them and have the kept symbol. Never inlined:
+// nothing is searched for, and the loop has the registers to itself.
+#[inline(never)]
+fn kept_entries(
+    arena: &mut [u8],
+    table: &[u64],
+    t: Turn,
+    y: Symbols,
+    at: usize,
+    s: Reached,
+    n: u32,
+    w: Writable,
+) -> Reached
+    requires { (s.next ≤ n) × InReach (length arena.old) t at n w.high × (y.symbols + 24 * y.fits ≤ t.span) }
+    ensures { (s.next ≤ result.next) × (result.next ≤ n) × SymbolsPassed table.now t y at n w.low w.high s arena.old result arena.new }
+{
+    let Some(kept) = s.kept else {
+        return s;
+    };
+    for i in s.next..n {
+        let k = t.offset + at + 24 * (i as usize);
+        let e = match symbol_entry(arena, table, t, y, k, w) {
+            Some(e) if e.index == kept.symbol => e,
+            _ => {
+                return Reached {
+                    next: i,
+                    kept: s.kept,
+                };
+            }
+        };
+        let v = e
+            .field
+            .value(kept.address, e.addend, t.base, e.place as u64);
+        words::bytes::store_in::<u64>(arena, t.offset + e.place, v);
+    }
+    Reached {
+        next: n,
+        kept: s.kept,
+    }
+}
+
 // As `run_relatives`, for entries that are Symbolic with fields of eight bytes whose symbols need no further test and are found. The first entry
 // that is not of this kind, and the answer that is kept then.
 fn symbolics(
@@ -432,23 +473,31 @@ fn symbolics(
         return s;
     }
     let table = x.links.words();
-    let mut kept = s.kept;
-    for i in s.next..n {
-        let k = t.offset + at + 24 * (i as usize);
+    let mut r = s;
+    // no `for`: several entries may pass in a turn
+    while r.next < n {
+        let k = t.offset + at + 24 * (r.next as usize);
         let Some(e) = symbol_entry(arena, table, t, y, k, w) else {
-            return Reached { next: i, kept };
+            return r;
         };
-        let Some(found) = address_of(arena, x, y.strings, e.name, e.index, kept) else {
-            return Reached { next: i, kept };
+        let Some(found) = address_of(arena, x, y.strings, e.name, e.index, r.kept) else {
+            return r;
         };
         let v = e.field.value(found, e.addend, t.base, e.place as u64);
         words::bytes::store_in::<u64>(arena, t.offset + e.place, v);
-        kept = Some(Kept {
-            symbol: e.index,
-            address: found,
-        });
+        r = Reached {
+            next: r.next + 1,
+            kept: Some(Kept {
+                symbol: e.index,
+                address: found,
+            }),
+        };
+        // linkers put the entries of a symbol beside one another
+        if r.next < n && u32::load(arena, k + 36) == e.index {
+            r = kept_entries(arena, table, t, y, at, r, n, w);
+        }
     }
-    Reached { next: n, kept }
+    r
 }
 
 // Entries of both kinds that follow one another from that of `s` on, where `w` is writable.

@@ -321,7 +321,7 @@ impl<'a> Links<'a> {
     }
 
     // The System V hash of a name, where it was made before or object `k` has a System V table; else 0, since no other table asks for it. It is
-    // made once for a search, also where it is 0: a name may be as long as its file.
+    // made once in a scan of objects, also where it is 0: a name may be as long as its file.
     pub(crate) fn elf_for(&self, k: usize, name: &[u8], made: &mut Option<u32>) -> u32
         requires { IfSome made.old (λ e. e ≡ elf_hash name.now) }
         ensures asked { word_at self.now k 4 ≡ 1 → result ≡ elf_hash name.now }

@@ -5,7 +5,7 @@ use mathlib.Core.Path.{◌≡◌, refl, sym, ap, ◌∙◌}
 use mathlib.Core.List.{List, [], ◌∷◌, ◌++◌, map, append_assoc, append-nil}
 use native.Mathlib.Omega.{arith}
 use lib.ListN.{length, take, drop, get_or}
-use Rattle.std.proofs.lemmas.List.{map-append, drop-take, drop-map, take-map, get_or-map}
+use Rattle.std.proofs.lemmas.List.{map-append, drop-take, drop-map, take-map, get_or-map, drop-drop, length-drop, take_all}
 use Rattle.std.specs.Prelude.{◌||◌, Option, Result, Ok, Err, Some, None}
 use Rattle.words.specs.declared.refusal.Refusal.{Refusal}
 use Rattle.words.specs.declared.refusal.Refusal.TheVariants as refusals
@@ -41,6 +41,10 @@ unfolding libs_of cut
 libs_more [] bs file after name rest f n l ef en a b c d = absurd (omega arith)
 libs_more (x ∷ []) bs file after name rest f n l ef en a b c d = absurd (omega arith)
 libs_more (x ∷ (y ∷ ws)) bs file after name rest f n l ef en a b c d = rw (c, d, a, b, ef, en, after_two_is x y ws)
+
+-- what is left after the first two parts
+pub rest_after : (bs : List ℕ) (f n : ℕ) {rest : List ℕ} → rest ≡ take (length bs) (drop (f + n) bs) → rest ≡ drop n (drop f bs)
+rest_after bs f n e = e ∙ (take_all (length bs) (drop (f + n) bs) (omega (arith, length-drop (f + n) bs)) ∙ sym (drop-drop n f bs))
 
 pub libs_none : (ws bs : List ℕ) → length ws < 2 → libs_of (cut ws bs) ≡ []
 unfolding libs_of cut

@@ -112,10 +112,13 @@ fn cut<'a>(sheet: &[u32], bytes: &'a [u8]) -> Set<'a>
     // a part starts where the one before it ends; a `for` over `chunks_exact(2)` was not tried: the invariant speaks of the words that are left
     let mut words = &sheet[2..];
     while let [f, n, others @ ..] = words {
-        let (file, after) = rest.split_at(size(*f));
-        let (name, after) = after.split_at(size(*n));
-        objects.push(Object { file, name });
-        rest = after;
+        let f = size(*f);
+        let n = size(*n);
+        objects.push(Object {
+            file: part_of(rest, 0, f),
+            name: part_of(rest, f, n),
+        });
+        rest = part_of(rest, f + n, rest.len());
         words = others;
     }
     Set { objects }
