@@ -256,6 +256,16 @@ fn in_reach(len: usize, t: Turn, at: usize, n: u32, high: usize) -> bool
         && n as usize <= (t.span - at) / 24
 }
 
+// The type of entry `i` of the table at `at`, if that is in the arena.
+fn type_at(arena: &[u8], t: Turn, at: usize, i: u32) -> u32 {
+    let table = words::bytes::place(arena.len(), t.offset, at);
+    words::bytes::word_off::<u32>(arena, table, 24 * (i as usize) + 8)
+}
+
+fn is_symbolic(table: &[u64], rtype: u32) -> bool {
+    matches!(crate::types::action_in(table, rtype), Action::Symbolic(_))
+}
+
 // As many entries of type 8 as follow one another from entry `start` on, below `n`, with places in `w`: base + addend. The first entry that
 // is not of this kind. The table and the places lie in the part. Never inlined: the loop has the registers to itself.
 #[inline(never)]
@@ -293,6 +303,9 @@ fn run_relatives(
     requires { start ≤ n }
     ensures { (start ≤ result) × (result ≤ n) × EntriesPassed links.now t at n w.low w.high start arena.old result arena.new }
 {
+    if type_at(arena, t, at, start) != 8 {
+        return start;
+    }
     if !in_reach(arena.len(), t, at, n, w.high) || !crate::types::applies_relative(links) {
         return start;
     }
@@ -434,14 +447,17 @@ fn kept_entries(
     };
     for i in s.next..n {
         let k = t.offset + at + 24 * (i as usize);
-        let e = match symbol_entry(arena, table, t, y, k, w) {
-            Some(e) if e.index == kept.symbol => e,
-            _ => {
-                return Reached {
-                    next: i,
-                    kept: s.kept,
-                };
-            }
+        if u32::load(arena, k + 12) != kept.symbol {
+            return Reached {
+                next: i,
+                kept: s.kept,
+            };
+        }
+        let Some(e) = symbol_entry(arena, table, t, y, k, w) else {
+            return Reached {
+                next: i,
+                kept: s.kept,
+            };
         };
         let v = e
             .field
@@ -452,6 +468,17 @@ fn kept_entries(
         next: n,
         kept: s.kept,
     }
+}
+
+// Whether it is likely that the four entries after that at `k` have this symbol: linkers put the entries of a symbol beside one another. For
+// fewer, `kept_entries` costs more than it saves. The last is looked at first: a shorter run fails there.
+fn begins_run(arena: &[u8], table: &[u64], k: usize, index: u32) -> bool
+    requires { k + 24 * 5 ≤ length arena.now }
+{
+    u32::load(arena, k + 24 * 4 + 12) == index
+        && u32::load(arena, k + 24 * 3 + 12) == index
+        && u32::load(arena, k + 24 + 12) == index
+        && is_symbolic(table, u32::load(arena, k + 24 + 8))
 }
 
 // As `run_relatives`, for entries that are Symbolic with fields of eight bytes whose symbols need no further test and are found. The first entry
@@ -473,31 +500,31 @@ fn symbolics(
         return s;
     }
     let table = x.links.words();
-    let mut r = s;
+    let mut next = s.next;
+    let mut kept = s.kept;
     // no `for`: several entries may pass in a turn
-    while r.next < n {
-        let k = t.offset + at + 24 * (r.next as usize);
+    while next < n {
+        let k = t.offset + at + 24 * (next as usize);
         let Some(e) = symbol_entry(arena, table, t, y, k, w) else {
-            return r;
+            return Reached { next, kept };
         };
-        let Some(found) = address_of(arena, x, y.strings, e.name, e.index, r.kept) else {
-            return r;
+        let Some(found) = address_of(arena, x, y.strings, e.name, e.index, kept) else {
+            return Reached { next, kept };
         };
         let v = e.field.value(found, e.addend, t.base, e.place as u64);
         words::bytes::store_in::<u64>(arena, t.offset + e.place, v);
-        r = Reached {
-            next: r.next + 1,
-            kept: Some(Kept {
-                symbol: e.index,
-                address: found,
-            }),
-        };
-        // linkers put the entries of a symbol beside one another
-        if r.next < n && u32::load(arena, k + 36) == e.index {
-            r = kept_entries(arena, table, t, y, at, r, n, w);
+        next += 1;
+        kept = Some(Kept {
+            symbol: e.index,
+            address: found,
+        });
+        if 3 < n - next && begins_run(arena, table, k, e.index) {
+            let r = kept_entries(arena, table, t, y, at, Reached { next, kept }, n, w);
+            next = r.next;
+            kept = r.kept;
         }
     }
-    r
+    Reached { next, kept }
 }
 
 // Entries of both kinds that follow one another from that of `s` on, where `w` is writable.
@@ -517,7 +544,12 @@ fn run_many(
         return s;
     };
     let next = run_relatives(arena, x.links, x.turn, at, s.next, n, w);
-    symbolics(arena, x, y, at, Reached { next, kept: s.kept }, n, w)
+    let s = Reached { next, kept: s.kept };
+    // an entry of another kind costs no call
+    if !is_symbolic(x.links.words(), type_at(arena, x.turn, at, next)) {
+        return s;
+    }
+    symbolics(arena, x, y, at, s, n, w)
 }
 
 // Whether the loops above may do entries of a type.

@@ -11,8 +11,8 @@ loop-i-init c = λ r _ _ _ _ _. (refl, kept_none _ r _)
 pub returns-in_default-symbol_entry : goal.returns-in_default-symbol_entry
 returns-in_default-symbol_entry c = (omega arith, omega (arith, c.loop-i-test.true), c.loop-i.invariant)
 
-pub returns-in_default-symbol_entry-2 : goal.returns-in_default-symbol_entry-2
-returns-in_default-symbol_entry-2 c = (omega arith, omega (arith, c.loop-i-test.true), c.loop-i.invariant)
+pub returns-then-load-kept : goal.returns-then-load-kept
+returns-then-load-kept c = (omega arith, omega (arith, c.loop-i-test.true), c.loop-i.invariant)
 
 pub loop-i-preserved : goal.loop-i-preserved
 loop-i-preserved c =
@@ -22,9 +22,9 @@ loop-i-preserved c =
     let k = c.in-Some.kept in
     let e = c.in-Some-symbol_entry.e in
     let s = c.store_in in
-    let same : e.index ≡ k.symbol = c.if-e-kept.true in
     let here : EntryHere a.table.now l.arena t a.y (t.offset + a.at + 24 * l.i) a.w.low a.w.high e.field e.place e.index e.name e.addend =
     subst (EntryRead a.table.now l.arena t a.y (t.offset + a.at + 24 * l.i) a.w.low a.w.high) c.in-Some-symbol_entry.is c.symbol_entry.ensures in
+    let same : e.index ≡ k.symbol = here.index_is ∙ (sym c.load.ensures ∙ c.if-load-kept.false) in
     let kept : kept_as e.index k.address ≡ a.s.kept = kept_eq k e.index k.address (sym same) refl ∙ sym c.in-Some.is in
     rw kept at
     (symbolic_turn a.table.now t a.y a.at a.n a.w.low a.w.high (record { next = l.i; kept = a.s.kept }) l.arena {found = k.address} {b = s.new.s} c.loop-i-test.true c.requires.1.entries
